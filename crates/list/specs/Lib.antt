@@ -1,0 +1,9 @@
+-- The definitions of `list`.
+-- how often a row occurs, row order, the first number that passes a test
+pub mod Words
+-- a list: rows, kinds, counts, rules, namespace
+pub mod Listing
+-- what a well-formed list keeps to
+pub mod WellFormed
+-- contents, and what a list asks of one
+pub mod Content

@@ -1,0 +1,1 @@
+// A list of rows as lent tables.
