@@ -1,5 +1,7 @@
 -- The definitions of `xml`.
 -- house XML: trees, their bytes, what a good tree keeps to, the longest viable beginning
 pub mod House
--- a mirror: the automaton that reads it a byte at a time
+-- what a tree holds, with places
+pub mod Message
+-- a mirror: the automaton that reads house XML a byte at a time
 pub mod Auto
