@@ -1,0 +1,3 @@
+-- The definitions of `answer`.
+-- document 01's table of codes, rows and places
+pub mod Table
