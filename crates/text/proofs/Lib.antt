@@ -3,6 +3,8 @@
 pub mod Classes
 -- how far a class reaches
 pub mod Spans
+-- lists and parts of lists, compared
+pub mod Parts
 -- the first character of a text, for any signs
 pub mod Chars
 -- a character of UTF-8 is decoded right

@@ -11,6 +11,8 @@ pub mod Numbers
 pub mod Pieces
 -- bytes of text that need no thought
 pub mod Plain
+-- a word at the front of a text
+pub mod Words
 -- one character at the front of a text
 pub mod Chars
 -- a mirror: how a character is decoded
