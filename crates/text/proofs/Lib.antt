@@ -11,3 +11,5 @@ pub mod Chars
 pub mod Decoding
 -- the longest beginning that is UTF-8
 pub mod Longest
+-- the next character is read right, entities resolved
+pub mod Resolving
