@@ -13,3 +13,5 @@ pub mod Decoding
 pub mod Longest
 -- the next character is read right, entities resolved
 pub mod Resolving
+-- the characters that a text spells, one after the other, and loops over them
+pub mod Spelling

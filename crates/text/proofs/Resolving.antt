@@ -154,7 +154,7 @@ plain-found x t p q =
           good = (xml-char-is (b .sign) (ap isXmlChar (sym k) ∙ e), first-not (b .sign) (b .rest) (b .is) less (omega arith) q, first-not (b .sign) (b .rest) (b .is) ampersand (omega arith) p);
           rest = b .rest;
           is = b .is;
-          found = b .found
+          found = b .found;
         }
       where
         first-not : (c : ℕ) (u : List ℕ) → x ∷ t ≡ encode c ++ u → (y : ℕ) → y < 0x80 → x ≢ y → c ≢ y

@@ -2,18 +2,12 @@
 
 use crate::part::begins;
 use crate::utf8::Char;
+use crate::utf8::char_of;
 use crate::utf8::decode;
-
 ghost use mathlib.Core.Path.{_≡_};
 ghost use lib.ListN.{drop};
-ghost use Rattle.text.specs.Chars.{charOf, NextChar};
+ghost use Rattle.text.specs.Chars.{NextChar};
 ghost use Rattle.text.specs.Resolving.{isXmlChar, entityAt};
-
-fn char_of(len: usize, code: u32) -> Char
-    ensures { λ r. ⌜ r ≡ charOf len code ⌝ }
-{
-    Char { len, code }
-}
 
 fn is_xml_char(c: u32) -> bool
     ensures { λ r. ⌜ r ≡ isXmlChar c ⌝ }
