@@ -15,3 +15,7 @@ pub mod Longest
 pub mod Resolving
 -- the characters that a text spells, one after the other, and loops over them
 pub mod Spelling
+-- a list written into another
+pub mod Pasting
+-- numbers as big-endian bytes, and back
+pub mod Numbers

@@ -21,3 +21,5 @@ pub mod Decoding
 pub mod Resolving
 -- texts whose characters pass a test
 pub mod Passing
+-- a list written into another
+pub mod Pasting
