@@ -4,17 +4,20 @@ use mathlib.Core.Bool.{Bool, true, false, cond, _&&_, and-false}
 use mathlib.Core.List.{List, [], _∷_, _++_}
 use mathlib.Core.Logic.{_⊎_, inl, inr, ⊎-elim}
 use Prim.Native.Nat.{ℕ, zero, suc, _+_, _*_, _-_, _/_, _%_, _≤_, _<_, zero-le, suc-le-suc}
+use native.Mathlib.Nat.{add-zero}
 use native.Mathlib.Omega.{arith}
 use native.Mathlib.Decide.{decLt}
 use lib.Dec.{ltb, leb}
 use lib.ListN.{length, drop, getD, drop-of-length-le, List·getD-eq-default}
 use lib.Seq.{drop-cons, drop-append-seam}
 use borrow.Author.Tests.{lt-ltb, le-ltb, le-leb, ltb-true, ltb-false, leb-true}
+use Rattle.text.specs.Lists.{span}
 use Rattle.text.specs.Utf8.{Scalar, encode}
 use Rattle.text.specs.Chars.{charOf, Begun, Decoded}
 use Rattle.text.specs.Decoding.{isAscii, isTail, isScalar, kept, two, three, four, byFirst, decoded}
 use Rattle.text.specs.declared.utf8.Char.{Char}
 use Rattle.text.proofs.Classes.{Named, from, _or_, within, is-in, and-is}
+use Rattle.text.proofs.Spans.{span-jump}
 use Rattle.text.proofs.Chars as chars
 
 -- ---- the classes
@@ -34,6 +37,36 @@ is-ascii x h = sym (lt-ltb x 0x80 h)
 pub no-ascii : (x : ℕ) → 0x80 ≤ x → false ≡ isAscii x
 unfolding isAscii
 no-ascii x h = sym (le-ltb x 0x80 h)
+
+-- eight bytes without a top bit are ASCII
+top-none : (x t : ℕ) → t ≡ x / 128 → t ≡ 0 → isAscii x ≡ true
+top-none x t e z = sym (is-ascii x (omega arith))
+
+pub record Tops (s : List ℕ) (i a b c d e f g h : ℕ) : Type 0 where
+  pub t0 : a ≡ getD s i 0 / 128
+  pub t1 : b ≡ getD s (i + 1) 0 / 128
+  pub t2 : c ≡ getD s (i + 2) 0 / 128
+  pub t3 : d ≡ getD s (i + 3) 0 / 128
+  pub t4 : e ≡ getD s (i + 4) 0 / 128
+  pub t5 : f ≡ getD s (i + 5) 0 / 128
+  pub t6 : g ≡ getD s (i + 6) 0 / 128
+  pub t7 : h ≡ getD s (i + 7) 0 / 128
+
+pub ascii-eight : (s : List ℕ) (i a b c d e f g h : ℕ) → i + 8 ≤ length s → Tops s i a b c d e f g h
+    → a + b + c + d + (e + f + g + h) ≡ 0
+    → i + 8 + span isAscii (drop (i + 8) s) ≡ i + span isAscii (drop i s)
+ascii-eight s i a b c d e f g h room w z = span-jump isAscii 8 s i room each
+  where
+    each : (k : ℕ) → k < 8 → isAscii (getD s (i + k) 0) ≡ true
+    each zero j = rw add-zero (top-none (getD s i 0) a (w .t0) (omega arith))
+    each (suc zero) j = top-none (getD s (i + 1) 0) b (w .t1) (omega arith)
+    each (suc (suc zero)) j = top-none (getD s (i + 2) 0) c (w .t2) (omega arith)
+    each (suc (suc (suc zero))) j = top-none (getD s (i + 3) 0) d (w .t3) (omega arith)
+    each (suc (suc (suc (suc zero)))) j = top-none (getD s (i + 4) 0) e (w .t4) (omega arith)
+    each (suc (suc (suc (suc (suc zero))))) j = top-none (getD s (i + 5) 0) f (w .t5) (omega arith)
+    each (suc (suc (suc (suc (suc (suc zero)))))) j = top-none (getD s (i + 6) 0) g (w .t6) (omega arith)
+    each (suc (suc (suc (suc (suc (suc (suc zero))))))) j = top-none (getD s (i + 7) 0) h (w .t7) (omega arith)
+    each (suc (suc (suc (suc (suc (suc (suc (suc k)))))))) j = absurd (omega arith)
 
 -- a scalar value lies below the surrogates or above them
 pub sides : (c : ℕ) → Scalar c → (c < 0xD800) ⊎ (0xE000 ≤ c)

@@ -203,6 +203,10 @@ module _ (s : List ℕ) (i : ℕ) (h : i < length s) (r : Char) where
     next-plain f =
         next-of (drop i s) r (f ∙ rw (drop-cons s i 0, ne-eqb (getD s i 0) ampersand p, ne-eqb (getD s i 0) less q))
 
+    pub next-low : getD s i 0 < 0x80 → r ≡ plainAt (charOf 1 (getD s i 0)) → NextChar (drop i s) r
+    next-low b f =
+        next-plain (f ∙ ap plainAt (sym (ap decoded (drop-cons s i 0 h) ∙ decoding.decoded-ascii (getD s i 0) (drop (suc i) s) b)))
+
     module _ (c : Char) (d : Decoded (drop i s) c) where
       pub next-char : isXmlChar (c .code) ≡ true → r ≡ c → NextChar (drop i s) r
       unfolding plainAt
