@@ -51,7 +51,8 @@ module _ (p : ℕ → Bool) where
   span-next [] h = absurd (omega arith)
   span-next (x ∷ s) h = go (p x) refl (span-next s) h
     where
-      go : (b : Bool) → p x ≡ b → (span p s < length s → p (getD s (span p s) 0) ≡ false) → cond b (suc (span p s)) zero < suc (length s) → p (getD (x ∷ s) (cond b (suc (span p s)) zero) 0) ≡ false
+      go : (b : Bool) → p x ≡ b → (span p s < length s → p (getD s (span p s) 0) ≡ false)
+          → cond b (suc (span p s)) zero < suc (length s) → p (getD (x ∷ s) (cond b (suc (span p s)) zero) 0) ≡ false
       go true e f k = f (omega arith)
       go false e f k = e
 
