@@ -1,5 +1,10 @@
 // The columns of a table of rows, and the numbers that stand for counts and kinds (specs/Table).
 
+ghost use mathlib.Core.Path.{_≡_};
+ghost use mathlib.Core.List.{[], _∷_, map};
+ghost use Rattle.list.specs.Listing.{ref, iban, ccy, bool, num, amt, date, dtm, txt, enum, group, choice, leaf, one, optional, some, any, alternative};
+ghost use Rattle.list.specs.Table.{countOf, kindOf};
+
 // A row's own: its parent, its count, its kind, the k of TXTk, where its name and an ENUM's words start and end in the pool, and the
 // first row of the rule whose second row it is.
 pub const PARENT: usize = 0;
@@ -78,3 +83,58 @@ pub const AMT: usize = 9;
 pub const DATE: usize = 10;
 
 pub const DTM: usize = 11;
+
+// Nobody calls these: their promises say that the numbers above are those of the definitions.
+fn columns() -> [usize; 16]
+    ensures { λ r. ⌜ r ≡ 0 ∷ 1 ∷ 2 ∷ 3 ∷ 4 ∷ 5 ∷ 6 ∷ 7 ∷ 8 ∷ 9 ∷ 10 ∷ 11 ∷ 12 ∷ 13 ∷ 14 ∷ 15 ∷ [] ⌝ }
+{
+    [
+        PARENT,
+        COUNT,
+        KIND,
+        MOST,
+        NAME,
+        NAME_END,
+        WORDS,
+        WORDS_END,
+        MATE,
+        CHILD,
+        SIBLING,
+        DUE_CHILD,
+        DUE_SIBLING,
+        PAIR,
+        LEVEL,
+        WORD_COUNT,
+    ]
+}
+
+fn own() -> [usize; 3]
+    ensures { λ r. ⌜ r ≡ 0 ∷ 1 ∷ 2 ∷ [] ⌝ }
+{
+    [SIZE, SPACE, SPACE_END]
+}
+
+fn counts() -> [usize; 5]
+    ensures { λ r. ⌜ map countOf r ≡ one ∷ optional ∷ some ∷ any ∷ alternative ∷ [] ⌝ }
+{
+    [ONE, OPTIONAL, SOME, ANY, ALTERNATIVE]
+}
+
+fn kinds() -> [usize; 12]
+    ensures { λ r. ⌜ map (λ c. kindOf c 1 []) r ≡ group ∷ choice ∷ leaf ref ∷ leaf (txt 1) ∷ leaf iban ∷ leaf ccy ∷ leaf (enum []) ∷ leaf bool ∷ leaf num ∷ leaf amt ∷ leaf date ∷ leaf dtm ∷ [] ⌝ }
+{
+    [
+        GROUP,
+        CHOICE,
+        REF,
+        TXT,
+        IBAN,
+        CCY,
+        ENUM,
+        BOOL,
+        NUM,
+        AMT,
+        DATE,
+        DTM,
+    ]
+}
