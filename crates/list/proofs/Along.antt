@@ -114,7 +114,8 @@ module _ (t pool : List ℕ) (s : Sound t pool) where
                 elim (decLt x (cell t r 10)) [
                   | yes m ↦ w .lowest x (f .its) (omega arith) m
                   | no m ↦
-                      finds-none k (cell t r 10) (inr (w .its)) (omega (arith, w .above)) (sym (along-on t pool n k r some d) ∙ e) x f (omega arith) (omega arith)
+                      finds-none k (cell t r 10) (inr (w .its)) (omega (arith, w .above)) (sym (along-on t pool n k r some d) ∙ e) x f
+                      (omega arith) (omega arith)
                 ]
           ]
         ])
@@ -134,7 +135,9 @@ module _ (t pool : List ℕ) (s : Sound t pool) where
                     | no m ↦ finds-none 255 (cell t p 9) (inr (w .its)) (omega (arith, s .well .bytes)) e x f (omega arith) (omega arith)
                   ]
             ]))
-        go (suc x) e = e ∙ sym (child-is l p n (s .well) (suc x) (finds 255 (cell t p 9) (suc x) (begin 0 (cell t p 9) (sym (s .derived p h .child))) e (omega arith)))
+        go (suc x) e =
+            let b = begin 0 (cell t p 9) (sym (s .derived p h .child)) in
+            e ∙ sym (child-is l p n (s .well) (suc x) (finds 255 (cell t p 9) (suc x) b e (omega arith)))
 
     -- a child by its name, whichever came last
     pub child-along : (last : ℕ) → p ≤ size l → (last ≡ 0) ⊎ Child l p last → childAlong t pool p last n ≡ child l p n

@@ -1,7 +1,7 @@
 -- What code asks of a number for a count or a kind is what the definitions ask of the count or kind. Assumes nothing.
 use mathlib.Core.Path.{_≡_, refl, sym, _∙_, ap}
 use mathlib.Core.Bool.{Bool, true, false, _||_, not, Bool·beq, false≢true}
-use mathlib.Core.List.{List, [], _∷_}
+use mathlib.Core.List.{List}
 use Prim.Native.Nat.{ℕ, _≤_}
 use native.Mathlib.Omega.{arith}
 use native.Mathlib.Decide.{decLt}
@@ -10,8 +10,8 @@ use lib.ListN.{List·getD-eq-default}
 use borrow.Author.Tests.{le-ltb, ne-eqb}
 use Rattle.text.specs.Bytes.{inRange}
 use Rattle.text.proofs.Classes.{every, passes, in-range-is, not-so}
-use Rattle.list.specs.Listing.{ref, iban, ccy, bool, num, amt, date, dtm, txt, enum, group, choice, leaf, one, optional, some, any, alternative, isGroup, isChoice, single, required}
-use Rattle.list.specs.Table.{countOf, kindOf}
+use Rattle.list.specs.Listing.{group, alternative, isGroup, isChoice, single, required}
+use Rattle.list.specs.Table.{counts, kinds, countOf, kindOf}
 
 beq-is : (a b : Bool) → Bool·beq a b ≡ true → a ≡ b
 beq-is true true e = refl
@@ -27,7 +27,7 @@ agree f g n e h c = elim (decLt c n) [
 ]
 
 past-count : (c : ℕ) → 4 ≤ c → countOf c ≡ alternative
-past-count c h = List·getD-eq-default (one ∷ optional ∷ some ∷ any ∷ []) alternative h
+past-count c h = List·getD-eq-default counts alternative h
 
 pub single-is : (c : ℕ) → single (countOf c) ≡ ltb c 2
 single-is c =
@@ -41,10 +41,7 @@ required-is c =
 
 module _ (k : ℕ) (ws : List (List ℕ)) where
   past-kind : (c : ℕ) → 12 ≤ c → kindOf c k ws ≡ group
-  past-kind c h =
-      List·getD-eq-default
-      (group ∷ choice ∷ leaf ref ∷ leaf (txt k) ∷ leaf iban ∷ leaf ccy ∷ leaf (enum ws) ∷ leaf bool ∷ leaf num ∷ leaf amt ∷ leaf date ∷ leaf dtm ∷ [])
-      group h
+  past-kind c h = List·getD-eq-default (kinds k ws) group h
 
   pub choice-is : (c : ℕ) → isChoice (kindOf c k ws) ≡ eqb c 1
   choice-is c =

@@ -108,6 +108,8 @@ module _ (l : Listing) (p q : ℕ) where
         to = omega (arith, d .its .last);
         lowest = λ s a b.
             byCases (eqb (rowAt l s .parent) p)
-            (λ y. rw y (d .lowest s (record { first = omega arith; last = omega (arith, d .its .last); parent = eqb-true (rowAt l s .parent) p y }) a b))
+            (λ y.
+            let c : Child l p s = record { first = omega arith; last = omega (arith, d .its .last); parent = eqb-true (rowAt l s .parent) p y } in
+            rw y (d .lowest s c a b))
             (λ n. rw n refl);
       })

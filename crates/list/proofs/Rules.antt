@@ -8,7 +8,7 @@ use native.Mathlib.Decide.{ℕ-discrete, decLt}
 use lib.Dec.{eqb}
 use borrow.Author.Tests.{eqb-true, eq-eqb, ne-eqb}
 use Rattle.text.specs.Lists.{Each}
-use Rattle.list.specs.Listing.{Rule, both, Listing, size}
+use Rattle.list.specs.Listing.{Rule, both, Listing, rowAt, size}
 use Rattle.list.specs.WellFormed.{BothOk, RuleOk}
 use Rattle.list.specs.Table.{cell, rulesFrom, listOf}
 use Rattle.list.specs.Sound.{secondOf, Sound}
@@ -105,7 +105,9 @@ module _ (t pool : List ℕ) (s : Sound t pool) where
 
   -- two rules with one first row have one second row: both are its neighbour
   one-second : (g h a b c : ℕ) → BothOk l g a b → BothOk l h a c → b < c → ⊥
-  one-second g h a b c u v k = v .next b (record { first = u .right .first; last = u .right .last; parent = u .right .parent ∙ sym (u .left .parent) ∙ v .left .parent }) (u .order) k
+  one-second g h a b c u v k =
+      let of : rowAt l b .parent ≡ h = u .right .parent ∙ sym (u .left .parent) ∙ v .left .parent in
+      v .next b (record { first = u .right .first; last = u .right .last; parent = of }) (u .order) k
 
   pub rule-pair : (g a b : ℕ) → Among g a b (l .rules) → cell t a 13 ≡ b
   rule-pair g a b m =

@@ -7,7 +7,7 @@ use Prim.Native.Nat.{ℕ, zero, suc, _≤_, _<_}
 use native.Mathlib.Omega.{arith}
 use native.Mathlib.Decide.{ℕ-discrete}
 use lib.Dec.{eqb, ltb, leb}
-use lib.ListN.{length}
+use lib.ListN.{length, getD}
 use borrow.Author.Tests.{eqb-true, eq-eqb, ne-eqb, ltb-true, leb-true, lt-leb, not-true, not-false}
 use Rattle.text.specs.Bytes.{inRange, isCapital, isNameStart, isNamePart}
 use Rattle.text.specs.Lists.{Each, All, Begins, same}
@@ -18,7 +18,7 @@ use Rattle.list.specs.WellFormed.{Fresh, Different, LeafOk, KindOk, Both
 use Rattle.list.specs.Table.{listOf}
 use Rattle.list.specs.Sound.{nextChild, Derived, Sound}
 use Rattle.list.specs.Test.{allOf, each, every, begins, among, wordsOk, leafOk, kindOk, isSequence, isAlternative, isOne, isOptional, countFits, isChild, rowTests, ruleTests, rulesOk, listTests, derivedTests, well, derived, sound}
-use Rattle.list.proofs.Tests.{clash, all-of}
+use Rattle.list.proofs.Tests.{clash, passed}
 use Rattle.list.proofs.Words.{same-of, firstFrom-none}
 use Rattle.list.proofs.Next.{next-child}
 
@@ -125,15 +125,15 @@ module _ (l : Listing) where
   both-is : (g a b : ℕ) → allOf (ruleTests l g a b) ≡ true → BothOk l g a b
   unfolding ruleTests
   both-is g a b e =
-      let w = all-of (ruleTests l g a b) e in
+      let w = passed (ruleTests l g a b) e in
       record {
-        left = is-child g a (w .0);
-        right = is-child g b (w .1 .0);
-        order = ltb-true a b (w .1 .1 .0);
-        sequence = sequence-is (rowAt l g .kind) (w .1 .1 .1 .0);
-        counts = (optional-is (rowAt l a .count) (w .1 .1 .1 .1 .0), optional-is (rowAt l b .count) (w .1 .1 .1 .1 .1 .0));
+        left = is-child g a (w 0);
+        right = is-child g b (w 1);
+        order = ltb-true a b (w 2);
+        sequence = sequence-is (rowAt l g .kind) (w 3);
+        counts = (optional-is (rowAt l a .count) (w 4), optional-is (rowAt l b .count) (w 5));
         next = λ s c h k.
-            let z = each-row (λ s. not (eqb (rowAt l s .parent) g) || (leb s a || leb b s)) (w .1 .1 .1 .1 .1 .1 .0) s (c .first) (c .last) in
+            let z = each-row (λ s. not (eqb (rowAt l s .parent) g) || (leb s a || leb b s)) (w 6) s (c .first) (c .last) in
             true≢false (sym z ∙ rw (eq-eqb (rowAt l s .parent) g (c .parent), lt-leb s a h, lt-leb b s k) refl);
       }
 
@@ -142,49 +142,55 @@ module _ (l : Listing) where
   rules-are (both g a b ∷ qs) e = let w = and-is (allOf (ruleTests l g a b)) (rulesOk l qs) e in (both-is g a b (w .0), rules-are qs (w .1))
 
   module _ (e : well l ≡ true) where
-    whole : Each (λ b. b ≡ true) (listTests l)
+    -- the tests by their places
+    whole : (k : ℕ) → getD (listTests l) k true ≡ true
     unfolding well
-    whole = all-of (listTests l) e
+    whole = passed (listTests l) e
 
-    row : (p r : ℕ) → Child l p r → Each (λ b. b ≡ true) (rowTests l p r)
+    row : (p r : ℕ) → Child l p r → (k : ℕ) → getD (rowTests l p r) k true ≡ true
     row p r c =
-        subst (λ q. Each (λ b. b ≡ true) (rowTests l q r)) (c .parent)
-        (all-of (rowTests l (rowAt l r .parent) r) (each-row (λ r. allOf (rowTests l (rowAt l r .parent) r)) (whole .1 .1 .1 .1 .1 .0) r (c .first) (c .last)))
+        passed (rowTests l p r)
+        (subst (λ q. allOf (rowTests l q r) ≡ true) (c .parent)
+        (each-row (λ r. allOf (rowTests l (rowAt l r .parent) r)) (whole 5) r (c .first) (c .last)))
 
     deep : (r : ℕ) → r ≤ size l → up l 16 r ≡ 0
     unfolding rowAt rowTests
     deep zero h = refl
-    deep (suc r) h = eqb-true (up l 16 (suc r)) 0 (row (rowAt l (suc r) .parent) (suc r) (record { first = omega arith; last = h; parent = refl }) .0)
+    deep (suc r) h =
+        eqb-true (up l 16 (suc r)) 0 (row (rowAt l (suc r) .parent) (suc r) (record { first = omega arith; last = h; parent = refl }) 0)
 
     well-formed : WellFormed l
     unfolding rowTests
     well-formed = record {
-      bytes = leb-true (size l) 255 (whole .0);
+      bytes = leb-true (size l) 255 (whole 0);
       levels = deep;
       root = (
-        ltb-true 0 (size l) (whole .1 .0),
-        sequence-is (rowAt l 1 .kind) (whole .1 .1 .0),
-        eqb-true (rowAt l 1 .parent) 0 (whole .1 .1 .1 .0),
-        one-is (rowAt l 1 .count) (whole .1 .1 .1 .1 .0),
+        ltb-true 0 (size l) (whole 1),
+        sequence-is (rowAt l 1 .kind) (whole 2),
+        eqb-true (rowAt l 1 .parent) 0 (whole 3),
+        one-is (rowAt l 1 .count) (whole 4),
       );
-      oneRoot = λ r c. eqb-true r 1 (row 0 r c .1 .0);
-      before = λ p r c. ltb-true p r (row p r c .1 .1 .0);
-      parents = λ p r c h. parent-is (rowAt l p .kind) (rowAt l r .count) (row p r c .1 .1 .1 .0);
+      oneRoot = λ r c. eqb-true r 1 (row 0 r c 1);
+      before = λ p r c. ltb-true p r (row p r c 2);
+      parents = λ p r c h. parent-is (rowAt l p .kind) (rowAt l r .count) (row p r c 3);
       filled = λ p r c g.
           let q = nextChild l r 0 in
-          let h = ⊎-elim (λ n. clash (isGroup (rowAt l r .kind)) g (not-true (isGroup (rowAt l r .kind)) n)) (ltb-true 0 q) (or-is (not (isGroup (rowAt l r .kind))) (ltb 0 q) (row p r c .1 .1 .1 .1 .0)) in
+          let k = isGroup (rowAt l r .kind) in
+          let h = ⊎-elim (λ n. clash k g (not-true k n)) (ltb-true 0 q) (or-is (not k) (ltb 0 q) (row p r c 4)) in
           (q, next-child l r 0 q refl h .its);
-      names = λ p r c. begins-is isNameStart isNamePart (rowAt l r .name) (row p r c .1 .1 .1 .1 .1 .0);
+      names = λ p r c. begins-is isNameStart isNamePart (rowAt l r .name) (row p r c 5);
       apart = λ p r q c d n. elim (ℕ-discrete r q) [
         | yes y ↦ y
         | no y ↦
-            let z = each-row (λ q. eqb r q || not (eqb (rowAt l q .parent) p && same (rowAt l r .name) (rowAt l q .name))) (row p r c .1 .1 .1 .1 .1 .1 .0) q (d .first) (d .last) in
-            absurd (true≢false (sym z ∙ rw (ne-eqb r q y, eq-eqb (rowAt l q .parent) p (d .parent), same-of (rowAt l r .name) (rowAt l q .name) n) refl))
+            let f : ℕ → Bool = λ q. eqb r q || not (eqb (rowAt l q .parent) p && same (rowAt l r .name) (rowAt l q .name)) in
+            let z = each-row f (row p r c 6) q (d .first) (d .last) in
+            absurd (true≢false (sym z
+            ∙ rw (ne-eqb r q y, eq-eqb (rowAt l q .parent) p (d .parent), same-of (rowAt l r .name) (rowAt l q .name) n) refl))
       ];
-      counted = λ p r c g. counted-is (rowAt l p .kind) (rowAt l r .count) (row p r c .1 .1 .1 .0) g;
-      uncounted = λ p r c g. uncounted-is (rowAt l p .kind) (rowAt l r .count) (row p r c .1 .1 .1 .0) g;
-      kinds = λ p r c. kind-is (rowAt l r .kind) (row p r c .1 .1 .1 .1 .1 .1 .1 .0);
-      rules = rules-are (l .rules) (whole .1 .1 .1 .1 .1 .1 .0);
+      counted = λ p r c g. counted-is (rowAt l p .kind) (rowAt l r .count) (row p r c 3) g;
+      uncounted = λ p r c g. uncounted-is (rowAt l p .kind) (rowAt l r .count) (row p r c 3) g;
+      kinds = λ p r c. kind-is (rowAt l r .kind) (row p r c 7);
+      rules = rules-are (l .rules) (whole 6);
     }
 
 -- ---- the columns that follow
@@ -193,16 +199,16 @@ module _ (l : Listing) (t : List ℕ) where
   column-is : (r : ℕ) → allOf (derivedTests l t r) ≡ true → Derived t l r
   unfolding derivedTests
   column-is r e =
-      let w = all-of (derivedTests l t r) e in
+      let w = passed (derivedTests l t r) e in
       record {
-        child = eqb-true _ _ (w .0);
-        sibling = eqb-true _ _ (w .1 .0);
-        dueChild = eqb-true _ _ (w .1 .1 .0);
-        dueSibling = eqb-true _ _ (w .1 .1 .1 .0);
-        mate = eqb-true _ _ (w .1 .1 .1 .1 .0);
-        pair = eqb-true _ _ (w .1 .1 .1 .1 .1 .0);
-        level = eqb-true _ _ (w .1 .1 .1 .1 .1 .1 .0);
-        words = eqb-true _ _ (w .1 .1 .1 .1 .1 .1 .1 .0);
+        child = eqb-true _ _ (w 0);
+        sibling = eqb-true _ _ (w 1);
+        dueChild = eqb-true _ _ (w 2);
+        dueSibling = eqb-true _ _ (w 3);
+        mate = eqb-true _ _ (w 4);
+        pair = eqb-true _ _ (w 5);
+        level = eqb-true _ _ (w 6);
+        words = eqb-true _ _ (w 7);
       }
 
   columns-are : derived l t ≡ true → (r : ℕ) → r ≤ size l → Derived t l r

@@ -2,7 +2,8 @@
 use mathlib.Core.Path.{_≡_, refl, sym, _∙_}
 use mathlib.Core.Bool.{Bool, true, false, true≢false}
 use mathlib.Core.List.{List, [], _∷_}
-use Rattle.text.specs.Lists.{Each}
+use Prim.Native.Nat.{ℕ, zero, suc}
+use lib.ListN.{getD}
 use Rattle.text.proofs.Classes.{and-is}
 use Rattle.list.specs.Test.{allOf}
 
@@ -15,7 +16,8 @@ byCases false f g = g refl
 pub clash : {P : Type 0} (b : Bool) → b ≡ true → b ≡ false → P
 clash b e f = absurd (true≢false (sym e ∙ f))
 
--- a list of tests that all pass
-pub all-of : (bs : List Bool) → allOf bs ≡ true → Each (λ b. b ≡ true) bs
-all-of [] e = tt
-all-of (b ∷ bs) e = let w = and-is b (allOf bs) e in (w .0, all-of bs (w .1))
+-- each of a list of tests that all pass, by its place
+pub passed : (bs : List Bool) → allOf bs ≡ true → (k : ℕ) → getD bs k true ≡ true
+passed [] e k = refl
+passed (b ∷ bs) e zero = and-is b (allOf bs) e .0
+passed (b ∷ bs) e (suc k) = passed bs (and-is b (allOf bs) e .1) k

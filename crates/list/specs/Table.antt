@@ -40,15 +40,21 @@ placeFrom i (v ∷ vs) w = cond (same v w) i (placeFrom (suc i) vs w)
 abbrev pub placeIn : List (List ℕ) → List ℕ → ℕ
 placeIn ws w = placeFrom 1 ws w
 
--- counts and kinds by their numbers; any other number says no count, or G
+-- counts and kinds in the order of their numbers
+abbrev pub counts : List Count
+counts = one ∷ optional ∷ some ∷ any ∷ []
+
+abbrev pub kinds : ℕ → List (List ℕ) → List Kind
+kinds k ws =
+    group ∷ choice ∷ leaf ref ∷ leaf (txt k) ∷ leaf iban ∷ leaf ccy ∷
+    leaf (enum ws) ∷ leaf bool ∷ leaf num ∷ leaf amt ∷ leaf date ∷ leaf dtm ∷ []
+
+-- any other number says no count, or G
 abbrev pub countOf : ℕ → Count
-countOf c = getD (one ∷ optional ∷ some ∷ any ∷ []) c alternative
+countOf c = getD counts c alternative
 
 abbrev pub kindOf : ℕ → ℕ → List (List ℕ) → Kind
-kindOf c k ws =
-    getD
-    (group ∷ choice ∷ leaf ref ∷ leaf (txt k) ∷ leaf iban ∷ leaf ccy ∷ leaf (enum ws) ∷ leaf bool ∷ leaf num ∷ leaf amt ∷ leaf date ∷ leaf dtm ∷ [])
-    c group
+kindOf c k ws = getD (kinds k ws) c group
 
 -- the parts of the pool that row r names
 abbrev pub nameIn : List ℕ → List ℕ → ℕ → List ℕ
@@ -73,7 +79,8 @@ rowsFrom t pool i (suc k) = rowOf t pool i ∷ rowsFrom t pool (suc i) k
 -- the rules whose second row is among the k rows from i on
 unfoldable pub rulesFrom : List ℕ → ℕ → ℕ → List Rule
 rulesFrom t i zero = []
-rulesFrom t i (suc k) = cond (eqb (cell t i 8) 0) (rulesFrom t (suc i) k) (both (cell t i 0) (cell t i 8) i ∷ rulesFrom t (suc i) k)
+rulesFrom t i (suc k) =
+    cond (eqb (cell t i 8) 0) (rulesFrom t (suc i) k) (both (cell t i 0) (cell t i 8) i ∷ rulesFrom t (suc i) k)
 
 -- the list that the two tables say
 unfoldable pub listOf : List ℕ → List ℕ → Listing

@@ -15,7 +15,7 @@ abbrev pub allOf : List Bool → Bool
 allOf [] = true
 allOf (b ∷ bs) = b && allOf bs
 
--- the test passes at every number from i to the list's last row
+-- the test passes at every row
 abbrev pub each : Listing → (ℕ → Bool) → Bool
 each l f = eqb (firstFrom (λ r. not (f r)) 1 (size l)) 0
 

@@ -1,9 +1,9 @@
 // The columns of a table of rows, and the numbers that stand for counts and kinds (specs/Table).
 
 ghost use mathlib.Core.Path.{_≡_};
-ghost use mathlib.Core.List.{[], _∷_, map};
-ghost use Rattle.list.specs.Listing.{ref, iban, ccy, bool, num, amt, date, dtm, txt, enum, group, choice, leaf, one, optional, some, any, alternative};
-ghost use Rattle.list.specs.Table.{countOf, kindOf};
+ghost use mathlib.Core.List.{[], _∷_, _++_, map};
+ghost use Rattle.list.specs.Listing.{alternative};
+ghost use Rattle.list.specs.Table.{counts, kinds, countOf, kindOf};
 
 // A row's own: its parent, its count, its kind, the k of TXTk, where its name and an ENUM's words start and end in the pool, and the
 // first row of the rule whose second row it is.
@@ -115,13 +115,13 @@ fn own() -> [usize; 3]
 }
 
 fn counts() -> [usize; 5]
-    ensures { λ r. ⌜ map countOf r ≡ one ∷ optional ∷ some ∷ any ∷ alternative ∷ [] ⌝ }
+    ensures { λ r. ⌜ map countOf r ≡ counts ++ (alternative ∷ []) ⌝ }
 {
     [ONE, OPTIONAL, SOME, ANY, ALTERNATIVE]
 }
 
 fn kinds() -> [usize; 12]
-    ensures { λ r. ⌜ map (λ c. kindOf c 1 []) r ≡ group ∷ choice ∷ leaf ref ∷ leaf (txt 1) ∷ leaf iban ∷ leaf ccy ∷ leaf (enum []) ∷ leaf bool ∷ leaf num ∷ leaf amt ∷ leaf date ∷ leaf dtm ∷ [] ⌝ }
+    ensures { λ r. ⌜ map (λ c. kindOf c 1 []) r ≡ kinds 1 [] ⌝ }
 {
     [
         GROUP,
