@@ -9,8 +9,8 @@ use Rattle.list.specs.Listing.{ref, iban, ccy, bool, num, amt, date, dtm
 abbrev row : String → ℕ → Count → Kind → Row
 row n p c k = record { name = ascii n; parent = p; count = c; kind = k }
 
-unfoldable houseRows : List Row
-houseRows =
+unfoldable listed : List Row
+listed =
     row "Document" 0 one group ∷
     row "BkToCstmrStmt" 1 one group ∷
     row "GrpHdr" 2 one group ∷
@@ -72,5 +72,5 @@ houseRows =
 
 -- "Rule on row 43 (..): rows 47 and 48 are both present or both absent"
 unfoldable pub house : Listing
-unfolding houseRows
-house = record { rows = houseRows; rules = both 43 47 48 ∷ []; space = ascii "urn:iso:std:iso:20022:tech:xsd:camt.053.001.08" }
+unfolding listed
+house = record { rows = listed; rules = both 43 47 48 ∷ []; space = ascii "urn:iso:std:iso:20022:tech:xsd:camt.053.001.08" }
