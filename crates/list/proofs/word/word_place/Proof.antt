@@ -1,0 +1,75 @@
+-- `word::word_place` meets its contract. Assumes nothing.
+use Prim.Native.Nat.{_+_, _-_}
+use native.Mathlib.Omega.{arith}
+use lib.Seq.{slice}
+use borrow.Author.Needs.{needs}
+use Rattle.list.specs.Table.{placeIn, wordsIn}
+use Rattle.list.proofs.Split.{Seeks, seek-start, seek-found, seek-none, seek-again}
+use Rattle.list.proofs.word.word_place.Statement.{statement}
+use Rattle.list.proofs.word.word_place.Tie as tie
+
+abbrev Inv-loop : tie.InvT-loop
+Inv-loop rows pool r s a b end i₀ place₀ i place = Seeks pool (slice a b s) end i place (placeIn (wordsIn rows pool r) (slice a b s))
+
+abbrev μ-loop : tie.MeasureT-loop
+μ-loop rows pool r s a b end i₀ place₀ i place = end + 1 - i
+
+cell-requires : tie.Need-cell-requires Inv-loop μ-loop
+cell-requires c κs = search needs
+
+least-requires : tie.Need-least-requires Inv-loop μ-loop
+least-requires c κs = search needs
+
+cell-requires-2 : tie.Need-cell-requires-2 Inv-loop μ-loop
+cell-requires-2 c κs = search needs
+
+loop-holds : tie.Need-loop-holds Inv-loop μ-loop
+loop-holds c =
+    seek-start (c .before .before .before .before .before .before .args .pool .now) _ _ _ _ _ _ (c .before .least .ensures) (c .cell2 .ensures) (c .before .before .cell .ensures)
+
+word-end-requires : tie.Need-word-end-requires Inv-loop μ-loop
+word-end-requires c κs = c .loop .inv .to
+
+same-part-requires : tie.Need-same-part-requires Inv-loop μ-loop
+same-part-requires c κs = search needs
+
+returns : tie.Need-returns Inv-loop μ-loop
+returns c =
+    seek-found (c .before .before .before .loop .inv) (c .before .before .word-end .ensures) (c .before .same-part .ensures) (c .if1 .taken)
+
+returns-2 : tie.Need-returns-2 Inv-loop μ-loop
+returns-2 c =
+    seek-none (c .before .before .before .before .loop .inv) (c .before .before .before .word-end .ensures) (c .before .before .same-part .ensures) (c .before .if1 .left) (c .if2 .taken)
+
+add-i : tie.Need-add-i Inv-loop μ-loop
+add-i c = omega (arith, c .before .before .before .before .loop .inv .to)
+
+add-place : tie.Need-add-place Inv-loop μ-loop
+add-place c =
+    omega (arith, c .before .before .before .before .loop .inv .to, c .before .before .before .before .loop .inv .low, c .before .before .before .word-end .ensures)
+
+loop-less : tie.Need-loop-less Inv-loop μ-loop
+loop-less c = omega (arith, c .before .before .before .word-end .ensures)
+
+loop-again : tie.Need-loop-again Inv-loop μ-loop
+loop-again c =
+    seek-again (c .before .before .before .before .loop .inv) (c .before .before .before .word-end .ensures) (c .before .before .same-part .ensures) (c .before .if1 .left) (c .if2 .left)
+
+pub word-place-spec : {M : Type 1} → statement M
+word-place-spec =
+    tie.close
+    (tie.spec
+    Inv-loop
+    μ-loop
+    cell-requires
+    least-requires
+    cell-requires-2
+    loop-holds
+    word-end-requires
+    same-part-requires
+    returns
+    returns-2
+    add-i
+    add-place
+    loop-less
+    loop-again)
