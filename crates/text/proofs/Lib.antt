@@ -3,3 +3,9 @@
 pub mod Classes
 -- how far a class reaches
 pub mod Spans
+-- the first character of a text, for any signs
+pub mod Chars
+-- a character of UTF-8 is decoded right
+pub mod Decoding
+-- the longest beginning that is UTF-8
+pub mod Longest

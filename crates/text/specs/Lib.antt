@@ -11,3 +11,7 @@ pub mod Numbers
 pub mod Pieces
 -- bytes of text that need no thought
 pub mod Plain
+-- one character at the front of a text
+pub mod Chars
+-- a mirror: how a character is decoded
+pub mod Decoding
