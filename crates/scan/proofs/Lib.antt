@@ -1,0 +1,25 @@
+-- The laws of `scan`.
+-- what comes of a text from a place and a state on
+pub mod Fate
+-- constructs one after the other
+pub mod Goes
+-- given bytes
+pub mod Words
+-- the table of classes
+pub mod Classes
+-- characters and entities
+pub mod Pieces
+-- text between tags
+pub mod Text
+-- attributes
+pub mod Attributes
+-- names as places in the text
+pub mod Names
+-- start tags behind their name
+pub mod Tags
+-- elements within elements
+pub mod Nesting
+-- what stands before the first element
+pub mod Before
+-- the scanner's answer, and that no other fits
+pub mod Answers

@@ -1,0 +1,9 @@
+-- The definitions of `scan`.
+-- what the answer says
+pub mod Right
+-- a mirror: the table of classes
+pub mod Classes
+-- a mirror: what the scanner's functions say of the automaton
+pub mod Goes
+-- a mirror: names as places, and what the functions over tags say
+pub mod Tags

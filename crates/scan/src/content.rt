@@ -1,0 +1,80 @@
+// Text between tags: "XML 1.0 characters without `<` and `]]>`".
+use crate::Went;
+use crate::piece::piece;
+use crate::run::run_end;
+ghost use mathlib.Core.Path.{_≡_};
+ghost use Prim.Native.Nat.{_+_, _≤_, _<_};
+ghost use lib.ListN.{length, getD, drop};
+ghost use mathlib.Core.Logic.{_≢_};
+ghost use Rattle.text.specs.Lists.{span};
+ghost use Rattle.scan.specs.Classes.{Classed};
+ghost use Rattle.scan.specs.Goes.{isBracket, GoesText, GoesOther};
+
+// Where a row of `]` ends.
+fn brackets_end(s: &[u8], at: usize) -> usize
+    ensures { λ r. ⌜ r ≡ at + span isBracket (drop at (now (s .entry))) ⌝ }
+{
+    let mut i = at;
+    while i < s.len() {
+        if s[i] != b']' {
+            return i;
+        }
+        i += 1;
+    }
+    i
+}
+
+// Over a row of `]`, which stops at a `>` that follows two or more.
+fn brackets(s: &[u8], at: usize) -> Went
+    requires { ⌜ (at < length (now s)) × (getD (now s) at 0 ≡ 93) ⌝ }
+    ensures { λ r. ⌜ GoesOther (now (s .entry)) at r ⌝ }
+{
+    let end = brackets_end(s, at);
+    if s.len() <= end {
+        return Went::Stopped(end);
+    }
+    if 1 < end - at {
+        if s[end] == b'>' {
+            return Went::Stopped(end);
+        }
+    }
+    Went::On(end)
+}
+
+// Over text and the `<` that ends it.
+pub fn text_end(s: &[u8], at: usize, classes: &[u8; 256]) -> Went
+    requires { ⌜ (at ≤ length (now s)) × Classed (now classes) ⌝ }
+    ensures { λ r. ⌜ GoesText (now (s .entry)) at r ⌝ }
+{
+    let mut i = at;
+    loop {
+        let j = run_end(s, i, classes, 0);
+        if s.len() <= j {
+            return Went::Stopped(j);
+        }
+        let x = s[j];
+        if x == b'<' {
+            return Went::On(j + 1);
+        }
+        let over = other(s, j);
+        match over {
+            Went::Stopped(n) => return Went::Stopped(n),
+            Went::On(k) => i = k,
+        }
+    }
+}
+
+// Over a `>`, a row of `]` or a piece, in text.
+fn other(s: &[u8], at: usize) -> Went
+    requires { ⌜ (at < length (now s)) × (getD (now s) at 0 ≢ 60) ⌝ }
+    ensures { λ r. ⌜ GoesOther (now (s .entry)) at r ⌝ }
+{
+    let x = s[at];
+    if x == b'>' {
+        return Went::On(at + 1);
+    }
+    if x == b']' {
+        return brackets(s, at);
+    }
+    piece(s, at)
+}

@@ -1,0 +1,50 @@
+// Where a text stops being house XML. One pass over the bytes, no heap; a function for each construct, which goes over it by
+// spans and answers the place behind it, or the place at which no house XML text goes on.
+use elements::elements;
+use prolog::prolog;
+use run::CLASSES;
+use text::span::blanks_end;
+ghost use Rattle.scan.specs.Right.{Right};
+
+mod attribute; // attribute.rt: an attribute's value, and the names seen before
+mod content; // content.rt: text between tags
+mod elements; // elements.rt: elements within elements
+mod piece; // piece.rt: a character or an entity
+mod prolog; // prolog.rt: what stands before the first element
+mod run; // run.rt: runs of bytes of one class
+mod tag; // tag.rt: what stands between `<` and `>`
+mod word; // word.rt: given bytes
+
+// What a function that goes over a construct answers.
+enum Went {
+    // The construct ends before this place.
+    On(usize),
+    // No house XML text goes on at this place.
+    Stopped(usize),
+}
+
+pub enum Scanned {
+    // The text is house XML.
+    Whole,
+    // It is none, and so many leading bytes are the most that still begin some house XML text.
+    Stops(usize),
+}
+
+pub fn scan(s: &[u8]) -> Scanned
+    ensures { λ r. ⌜ Right (now (s .entry)) r ⌝ }
+{
+    let classes = CLASSES;
+    match prolog(s) {
+        Went::Stopped(n) => Scanned::Stops(n),
+        Went::On(root) => match elements(s, root, &classes) {
+            Went::Stopped(n) => Scanned::Stops(n),
+            Went::On(behind) => {
+                let end = blanks_end(s, behind);
+                if end < s.len() {
+                    return Scanned::Stops(end);
+                }
+                Scanned::Whole
+            }
+        },
+    }
+}

@@ -1,0 +1,165 @@
+// A piece of text or of a value: an XML 1.0 character in UTF-8 (Unicode, table 3-7, without U+FFFE and U+FFFF), or an entity.
+use crate::Went;
+use crate::word::word;
+use text::class::is_blank;
+ghost use Prim.Native.Nat.{_≤_, _<_};
+ghost use lib.ListN.{length, getD};
+ghost use Rattle.scan.specs.Goes.{GoesOne, GoesTwo, GoesThree, GoesPart, GoesPiece};
+ghost use Rattle.xml.specs.Auto.{ampersand, ampersandA, ef};
+
+// Over one byte from low to high.
+fn one(s: &[u8], at: usize, low: u8, high: u8) -> Went
+    ensures { λ r. ⌜ GoesOne (now (s .entry)) at low high r ⌝ }
+{
+    if s.len() <= at {
+        return Went::Stopped(at);
+    }
+    let x = s[at];
+    if x < low {
+        return Went::Stopped(at);
+    }
+    if high < x {
+        return Went::Stopped(at);
+    }
+    Went::On(at + 1)
+}
+
+// Over one byte from low to high, and a continuation byte.
+fn two(s: &[u8], at: usize, low: u8, high: u8) -> Went
+    ensures { λ r. ⌜ GoesTwo (now (s .entry)) at low high r ⌝ }
+{
+    match one(s, at, low, high) {
+        Went::Stopped(n) => Went::Stopped(n),
+        Went::On(i) => one(s, i, 128, 191),
+    }
+}
+
+// Over one byte from low to high, and two continuation bytes.
+fn three(s: &[u8], at: usize, low: u8, high: u8) -> Went
+    ensures { λ r. ⌜ GoesThree (now (s .entry)) at low high r ⌝ }
+{
+    match one(s, at, low, high) {
+        Went::Stopped(n) => Went::Stopped(n),
+        Went::On(i) => two(s, i, 128, 191),
+    }
+}
+
+// Behind EF: EF BF may be followed by BD at most, since U+FFFE and U+FFFF are no XML 1.0 characters.
+fn behind_ef(s: &[u8], at: usize) -> Went
+    requires { ⌜ at ≤ length (now s) ⌝ }
+    ensures { λ r. ⌜ GoesPart (now (s .entry)) at ef r ⌝ }
+{
+    if s.len() <= at {
+        return Went::Stopped(at);
+    }
+    if s[at] == 191 {
+        return one(s, at + 1, 128, 189);
+    }
+    two(s, at, 128, 190)
+}
+
+// A character that begins with a byte x of 128 or more.
+fn long(s: &[u8], at: usize) -> Went
+    requires { ⌜ (at < length (now s)) × (127 < getD (now s) at 0) ⌝ }
+    ensures { λ r. ⌜ GoesPiece (now (s .entry)) at r ⌝ }
+{
+    let x = s[at];
+    let i = at + 1;
+    if x < 194 {
+        return Went::Stopped(at);
+    }
+    if x < 224 {
+        return one(s, i, 128, 191);
+    }
+    if x < 225 {
+        return two(s, i, 160, 191);
+    }
+    if x < 237 {
+        return two(s, i, 128, 191);
+    }
+    if x < 238 {
+        return two(s, i, 128, 159);
+    }
+    if x < 239 {
+        return two(s, i, 128, 191);
+    }
+    if x < 240 {
+        return behind_ef(s, i);
+    }
+    if x < 241 {
+        return three(s, i, 144, 191);
+    }
+    if x < 244 {
+        return three(s, i, 128, 191);
+    }
+    if x < 245 {
+        return three(s, i, 128, 143);
+    }
+    Went::Stopped(at)
+}
+
+// Behind `&a`: `mp;` or `pos;`.
+fn behind_a(s: &[u8], at: usize) -> Went
+    requires { ⌜ at ≤ length (now s) ⌝ }
+    ensures { λ r. ⌜ GoesPart (now (s .entry)) at ampersandA r ⌝ }
+{
+    if s.len() <= at {
+        return Went::Stopped(at);
+    }
+    let x = s[at];
+    if x == b'm' {
+        return word(s, at + 1, b"p;");
+    }
+    if x == b'p' {
+        return word(s, at + 1, b"os;");
+    }
+    Went::Stopped(at)
+}
+
+// Behind `&`: the rest of one of the five entities.
+fn entity(s: &[u8], at: usize) -> Went
+    requires { ⌜ at ≤ length (now s) ⌝ }
+    ensures { λ r. ⌜ GoesPart (now (s .entry)) at ampersand r ⌝ }
+{
+    if s.len() <= at {
+        return Went::Stopped(at);
+    }
+    let x = s[at];
+    if x == b'a' {
+        return behind_a(s, at + 1);
+    }
+    if x == b'l' {
+        return word(s, at + 1, b"t;");
+    }
+    if x == b'g' {
+        return word(s, at + 1, b"t;");
+    }
+    if x == b'q' {
+        return word(s, at + 1, b"uot;");
+    }
+    Went::Stopped(at)
+}
+
+// Over the piece at the place.
+pub fn piece(s: &[u8], at: usize) -> Went
+    requires { ⌜ at < length (now s) ⌝ }
+    ensures { λ r. ⌜ GoesPiece (now (s .entry)) at r ⌝ }
+{
+    let x = s[at];
+    if 127 < x {
+        return long(s, at);
+    }
+    if x == b'&' {
+        return entity(s, at + 1);
+    }
+    if x == b'<' {
+        return Went::Stopped(at);
+    }
+    if 31 < x {
+        return Went::On(at + 1);
+    }
+    if is_blank(x) {
+        return Went::On(at + 1);
+    }
+    Went::Stopped(at)
+}
