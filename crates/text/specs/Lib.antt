@@ -9,3 +9,5 @@ pub mod Utf8
 pub mod Numbers
 -- XML characters and entities
 pub mod Pieces
+-- bytes of text that need no thought
+pub mod Plain
