@@ -1,0 +1,7 @@
+-- The laws of `tags`.
+-- bytes passed at once
+pub mod Passing
+-- a text or a value holds no byte that ends it
+pub mod Avoid
+-- attributes, one and all: on any bytes, and of a tree
+pub mod Attributes
