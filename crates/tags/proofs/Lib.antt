@@ -5,3 +5,5 @@ pub mod Passing
 pub mod Avoid
 -- attributes, one and all: on any bytes, and of a tree
 pub mod Attributes
+-- a text, and a tag
+pub mod Tokens

@@ -6,7 +6,7 @@ use Prim.Native.Nat.{ℕ, zero, suc, _+_, _≤_, _<_}
 use native.Mathlib.Omega.{arith}
 use lib.Dec.{eqb}
 use lib.ListN.{length, drop, length-drop}
-use lib.Seq.{drop-append-seam, drop-drop}
+use lib.Seq.{drop-append-seam, drop-append-add, drop-drop}
 use borrow.Author.Tests.{eqb-true, ne-eqb}
 use Rattle.text.specs.Bytes.{isBlank, isNamePart, isNameStart}
 use Rattle.text.specs.Lists.{All, span}
@@ -36,12 +36,29 @@ pub stops : (p : ℕ → Bool) (x : ℕ) (l : List ℕ) → p x ≡ false → sp
 unfolding span
 stops p x l e = rw e
 
+pub span-append : (p : ℕ → Bool) (a w : List ℕ) → All p a → span p (a ++ w) ≡ length a + span p w
+unfolding span
+span-append p [] w h = omega arith
+span-append p (x ∷ a) w h = rw (h .0) (omega (arith, span-append p a w (h .1)))
+
 -- ---- passing
 
 module _ {A : Type 0} (p : ℕ → Bool) (f : ℕ → List ℕ → A) where
   pub pass-over : (o : ℕ) (a w : List ℕ) → All p a → span p w ≡ 0 → pass p f o (a ++ w) ≡ f (o + length a) w
   unfolding pass
   pass-over o a w h e = rw (span-of p a w h e, drop-append-seam a w)
+
+  -- some of them, and the rest later
+  pub pass-skip : (o : ℕ) (a w : List ℕ) → All p a → pass p f o (a ++ w) ≡ pass p f (o + length a) w
+  unfolding pass
+  pass-skip o a w h =
+      let e : o + (length a + span p w) ≡ o + length a + span p w = omega arith in
+      rw (span-append p a w h, drop-append-add a w (span p w), e)
+
+  -- none of them
+  pub pass-none : (o : ℕ) (w : List ℕ) → span p w ≡ 0 → pass p f o w ≡ f o w
+  unfolding pass
+  pass-none o w e = let z : o + 0 ≡ o = omega arith in rw (e, z)
 
   -- a place of any list, passed by a span that was told
   pub pass-at : (s : List ℕ) (at r : ℕ) → r ≡ at + span p (drop at s) → pass p f at (drop at s) ≡ f r (drop r s)
