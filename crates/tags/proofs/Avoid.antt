@@ -16,11 +16,11 @@ use Rattle.tags.specs.Passing.{but}
 use Rattle.tags.proofs.Passing.{all-append, but-other}
 
 -- a test of each, computed
-abbrev passed : (ℕ → Bool) → List ℕ → Bool
+abbrev pub passed : (ℕ → Bool) → List ℕ → Bool
 passed p [] = true
 passed p (x ∷ l) = p x && passed p l
 
-all-passed : (p : ℕ → Bool) (l : List ℕ) → passed p l ≡ true → All p l
+pub all-passed : (p : ℕ → Bool) (l : List ℕ) → passed p l ≡ true → All p l
 all-passed p [] e = tt
 all-passed p (x ∷ l) e = let w = and-is (p x) (passed p l) e in (w .0, all-passed p l (w .1))
 

@@ -7,3 +7,7 @@ pub mod Avoid
 pub mod Attributes
 -- a text, and a tag
 pub mod Tokens
+-- parts of a text by their places
+pub mod Slices
+-- where the root begins
+pub mod Start
