@@ -176,7 +176,7 @@ unfolding valueAt
 value-is a b o q v w g =
     rw (span-of (but (mark q)) (spells v) (mark q ∷ w) (value-avoids q v g) (stops (but (mark q)) (mark q) w (ap not (eq-eqb (mark q) (mark q) refl))), drop-append-seam (spells v) (mark q ∷ w))
 
-attr-shape : (g n b c v u : List ℕ) (q : ℕ) → (g ++ (n ++ (b ++ (61 ∷ (c ++ (q ∷ (v ++ (q ∷ [])))))))) ++ u ≡ g ++ (n ++ ((b ++ (61 ∷ c)) ++ (q ∷ (v ++ (q ∷ u)))))
+pub attr-shape : (g n b c v u : List ℕ) (q : ℕ) → (g ++ (n ++ (b ++ (61 ∷ (c ++ (q ∷ (v ++ (q ∷ [])))))))) ++ u ≡ g ++ (n ++ ((b ++ (61 ∷ c)) ++ (q ∷ (v ++ (q ∷ u)))))
 attr-shape g n b c v u q = simp append-assoc
 
 pub attribute-is : (o : ℕ) (a : Attr) (w : List ℕ) → GoodAttr a → attributeAt o (attr a ++ w) ≡ attributeOf o a

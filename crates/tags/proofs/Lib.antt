@@ -11,3 +11,7 @@ pub mod Tokens
 pub mod Slices
 -- where the root begins
 pub mod Start
+-- texts, elements and end tags at a place of a text: what the cursor answers, and what stands behind
+pub mod Elements
+-- of a good tree's text the cursor tells its message
+pub mod Story

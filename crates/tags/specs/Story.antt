@@ -60,13 +60,13 @@ pub record Tagged (s : List ℕ) (t : Token) (n : List ℕ) (ats : Attrs) : Type
 
 -- called again and again from o on until the bytes end, the cursor tells these events
 pub data Tells (s : List ℕ) : ℕ → List Event → Type 0 where
-  opens : {o : ℕ} {ps : List Piece} {n : List ℕ} {ats : Attrs} {more : List Event}
-    → tokenIn s o .kind ≡ Open → Text s o (tokenIn s o .less) ps → Tagged s (tokenIn s o) n ats → Tells s (tokenIn s o .end) more
-    → Tells s o (chars o ps (enter (tokenIn s o .less) n ats ∷ more))
-  empty : {o : ℕ} {ps : List Piece} {n : List ℕ} {ats : Attrs} {more : List Event}
-    → tokenIn s o .kind ≡ Empty → Text s o (tokenIn s o .less) ps → Tagged s (tokenIn s o) n ats → Tells s (tokenIn s o .end) more
-    → Tells s o (chars o ps (enter (tokenIn s o .less) n ats ∷ leave ∷ more))
-  closes : {o : ℕ} {ps : List Piece} {more : List Event}
-    → tokenIn s o .kind ≡ Close → Text s o (tokenIn s o .less) ps → Tells s (tokenIn s o .end) more
-    → Tells s o (chars o ps (leave ∷ more))
+  enters : {o : ℕ} {ps : List Piece} {n : List ℕ} {ats : Attrs} {more : List Event}
+      → tokenIn s o .kind ≡ Open → Text s o (tokenIn s o .less) ps → Tagged s (tokenIn s o) n ats → Tells s (tokenIn s o .end) more
+      → Tells s o (chars o ps (enter (tokenIn s o .less) n ats ∷ more))
+  passes : {o : ℕ} {ps : List Piece} {n : List ℕ} {ats : Attrs} {more : List Event}
+      → tokenIn s o .kind ≡ Empty → Text s o (tokenIn s o .less) ps → Tagged s (tokenIn s o) n ats → Tells s (tokenIn s o .end) more
+      → Tells s o (chars o ps (enter (tokenIn s o .less) n ats ∷ leave ∷ more))
+  leaves : {o : ℕ} {ps : List Piece} {more : List Event}
+      → tokenIn s o .kind ≡ Close → Text s o (tokenIn s o .less) ps → Tells s (tokenIn s o .end) more
+      → Tells s o (chars o ps (leave ∷ more))
   ends : {o : ℕ} → tokenIn s o .kind ≡ End → Tells s o []
