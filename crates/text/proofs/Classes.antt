@@ -115,6 +115,9 @@ module _ {f : ℕ → Bool} {p : Class} (d : Named f p) where
   pub yes : (a n : ℕ) → every (test p) a n ≡ true → {x : ℕ} → a ≤ x → x < a + n → true ≡ f x
   yes a n e {x} h k = sym (d .is x ∙ passes (test p) a n e x h k)
 
+  pub yes-in : {x : ℕ} → Within p x → true ≡ f x
+  yes-in {x} h = sym (d .is x ∙ within p x h)
+
   pub no : {x : ℕ} → Outside p x → false ≡ f x
   no {x} h = sym (d .is x ∙ outside p x h)
 

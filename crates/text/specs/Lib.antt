@@ -11,3 +11,13 @@ pub mod Numbers
 pub mod Pieces
 -- bytes of text that need no thought
 pub mod Plain
+-- a word at the front of a text
+pub mod Words
+-- one character at the front of a text
+pub mod Chars
+-- a mirror: how a character is decoded
+pub mod Decoding
+-- a mirror: how the next character is read, entities resolved
+pub mod Resolving
+-- texts whose characters pass a test
+pub mod Passing
