@@ -1,8 +1,8 @@
 -- Only one message is told of a text. Assumes nothing.
-use mathlib.Core.Path.{_≡_, refl, sym, _∙_, ap, ap₂, subst}
+use mathlib.Core.Path.{_≡_, refl, sym, _∙_, ap, ap₂}
 use mathlib.Core.Bool.{false}
-use mathlib.Core.List.{List, [], _∷_, _++_}
-use Prim.Native.Nat.{ℕ, zero, suc, _+_}
+use mathlib.Core.List.{List, [], _∷_}
+use Prim.Native.Nat.{ℕ, _+_}
 use native.Mathlib.Omega.{arith}
 use lib.Dec.{eqb}
 use lib.ListN.{length, drop, length-append}
@@ -19,7 +19,7 @@ use Rattle.xml.specs.Message.{Attrs}
 use Rattle.tags.specs.declared.token.Kind.{Kind}
 use Rattle.tags.specs.declared.token.Kind.the-variants.{Open, Empty, Close, End}
 use Rattle.tags.specs.declared.token.Token.{Token}
-use Rattle.tags.specs.Story.{Event, char, enter, leave, chars, Text, tokenIn, attributeIn, Finds, Tagged, Tells, enters, passes, leaves, ends}
+use Rattle.tags.specs.Story.{Event, char, enter, leave, chars, Text, attributeIn, Finds, Tagged, Tells, enters, passes, leaves, ends}
 
 -- ---- kinds
 
@@ -35,7 +35,8 @@ other k x y n e f = absurd (eqb-false (rank x) (rank y) n (ap rank (sym e ∙ f)
 
 -- ---- texts
 
-chars-one : (ps qs : List Piece) (o : ℕ) (more : List Event) → Each GoodPiece ps → Each GoodPiece qs → spells ps ≡ spells qs → chars o ps more ≡ chars o qs more
+chars-one : (ps qs : List Piece) (o : ℕ) (more : List Event) → Each GoodPiece ps → Each GoodPiece qs → spells ps ≡ spells qs
+    → chars o ps more ≡ chars o qs more
 chars-one [] [] o more g h e = refl
 chars-one [] (q ∷ qs) o more g h e = absurd (omega (arith, ap length e, length-append (spell q) (spells qs), piece-some q))
 chars-one (p ∷ ps) [] o more g h e = absurd (omega (arith, ap length e, length-append (spell p) (spells ps), piece-some p))
@@ -60,7 +61,8 @@ module _ (s : List ℕ) where
       ap₂ _∷_ (ap₂ (λ (x y : List ℕ). (x, y)) (sym (f .0) ∙ g .0) (one-text _ (a .1) (b .1) (f .1) (g .1)))
       (finds-one (attributeIn s o .end) ats bts (omega arith) (f .2) (g .2))
 
-  tag-one : (o : ℕ) (t : Token) (m n : List ℕ) (ats bts : Attrs) (k l : List Event) → Tagged s t m ats → Tagged s t n bts → k ≡ l → enter o m ats ∷ k ≡ enter o n bts ∷ l
+  tag-one : (o : ℕ) (t : Token) (m n : List ℕ) (ats bts : Attrs) (k l : List Event) → Tagged s t m ats → Tagged s t n bts → k ≡ l
+      → enter o m ats ∷ k ≡ enter o n bts ∷ l
   tag-one o t m n ats bts k l f g e =
       let a = sym (f .name) ∙ g .name in
       let b = finds-one (t .stop) ats bts (sym (f .count) ∙ g .count) (f .attributes) (g .attributes) in
@@ -71,8 +73,10 @@ module _ (s : List ℕ) where
   pub tells-one : {o : ℕ} {es fs : List Event} → Tells s o es → Tells s o fs → es ≡ fs
   unfolding rank
   tells-one (enters {o} {ps} k t g m) (enters {ps = qs} l u h n) = text-one o _ ps qs _ _ t u (tag-one _ _ _ _ _ _ _ _ g h (tells-one m n))
-  tells-one (passes {o} {ps} k t g m) (passes {ps = qs} l u h n) = text-one o _ ps qs _ _ t u (tag-one _ _ _ _ _ _ _ _ g h (ap (λ (w : List Event). leave ∷ w) (tells-one m n)))
-  tells-one (leaves {o} {ps} k t m) (leaves {ps = qs} l u n) = text-one o _ ps qs _ _ t u (ap (λ (w : List Event). leave ∷ w) (tells-one m n))
+  tells-one (passes {o} {ps} k t g m) (passes {ps = qs} l u h n) =
+      text-one o _ ps qs _ _ t u (tag-one _ _ _ _ _ _ _ _ g h (ap (λ (w : List Event). leave ∷ w) (tells-one m n)))
+  tells-one (leaves {o} {ps} k t m) (leaves {ps = qs} l u n) =
+      text-one o _ ps qs _ _ t u (ap (λ (w : List Event). leave ∷ w) (tells-one m n))
   tells-one (ends k) (ends l) = refl
   tells-one (enters k t g m) (passes l u h n) = other _ Open Empty refl k l
   tells-one (enters k t g m) (leaves l u n) = other _ Open Close refl k l
