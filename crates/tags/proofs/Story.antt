@@ -20,7 +20,7 @@ use Rattle.tags.proofs.Passing.{all-weaken, but-by}
 use Rattle.tags.proofs.Slices.{drop-is}
 use Rattle.tags.proofs.Tokens.{token-end}
 use Rattle.tags.proofs.Start.{start-is}
-use Rattle.tags.proofs.Elements.{tagged, text-at, empty-at, open-at, close-at, piece-shape, empty-shape, full-shape, full-length, empty-length}
+use Rattle.tags.proofs.Elements.{text-at, empty-at, open-at, close-at, piece-shape, empty-shape, full-shape, full-length, empty-length}
 
 -- ---- a text with one piece more
 
@@ -73,7 +73,7 @@ module _ (s : List ℕ) where
     empty-told t w more g e k =
         let x = text-at s a o ps _ h e at in
         let y = empty-at s o t w g (x .behind) in
-        passes-by a ps more _ (x .token ∙ y .token) refl (record { good = h; is = x .part }) (tagged s Empty o t _ (47 ∷ 62 ∷ w) g (x .behind)) k
+        passes-by a ps more _ (x .token ∙ y .token) refl (record { good = h; is = x .part }) (y .tagged) k
 
     open-told : (t : Tag) (w : List ℕ) (more : List Event) → GoodTag t → drop a s ≡ spells ps ++ (60 ∷ (tag t ++ (62 ∷ w)))
         → Tells s (o + (length (tag t) + 2)) more
@@ -81,7 +81,7 @@ module _ (s : List ℕ) where
     open-told t w more g e k =
         let x = text-at s a o ps _ h e at in
         let y = open-at s o t w g (x .behind) in
-        enters-by a ps more _ (x .token ∙ y .token) refl (record { good = h; is = x .part }) (tagged s Open o t _ (62 ∷ w) g (x .behind)) k
+        enters-by a ps more _ (x .token ∙ y .token) refl (record { good = h; is = x .part }) (y .tagged) k
 
     close-told : (n g w : List ℕ) (more : List Event) → IsName n → Blanks g → drop a s ≡ spells ps ++ endOn n g w
         → Tells s (o + (length n + length g + 3)) more
