@@ -7,3 +7,13 @@ pub mod Listing
 pub mod WellFormed
 -- contents, and what a list asks of one
 pub mod Content
+-- a list as two tables of numbers
+pub mod Table
+-- tables that say a well-formed list, and what follows from it
+pub mod Sound
+-- soundness as one computed test
+pub mod Test
+-- the house list
+pub mod House
+-- its tables
+pub mod HouseTable

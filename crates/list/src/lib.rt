@@ -1,1 +1,2 @@
 // A list of rows as lent tables.
+pub mod house;

@@ -1,0 +1,11 @@
+use mathlib.Core.Path.{refl}
+use Rattle.list.specs.HouseTable.{housePool}
+use Rattle.list.proofs.house.pool.Statement.{statement}
+use Rattle.list.proofs.house.pool.Tie as tie
+
+returns : tie.Need-returns
+unfolding housePool
+returns c = refl
+
+pub pool-spec : {M : Type 1} → statement M
+pool-spec = tie.close (tie.spec returns)

@@ -1,0 +1,11 @@
+use mathlib.Core.Path.{refl}
+use Rattle.list.specs.HouseTable.{houseRows}
+use Rattle.list.proofs.house.rows.Statement.{statement}
+use Rattle.list.proofs.house.rows.Tie as tie
+
+returns : tie.Need-returns
+unfolding houseRows
+returns c = refl
+
+pub rows-spec : {M : Type 1} → statement M
+rows-spec = tie.close (tie.spec returns)

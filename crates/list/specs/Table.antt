@@ -1,0 +1,75 @@
+-- A list as two tables: what they say, whatever they hold. Assumes nothing.
+-- The first has sixteen cells a row. Row 0's are the list's own: how many rows it has, and where its namespace starts and ends in the second
+-- table, the pool; row 0 stands above the root. A row's cells are
+--   0 parent   1 count (0 is 1..1, 1 is 0..1, 2 is 1..n, 3 is 0..n, 4 is none)
+--   2 kind (0 G, 1 C, 2 REF, 3 TXT, 4 IBAN, 5 CCY, 6 ENUM, 7 BOOL, 8 NUM, 9 AMT, 10 DATE, 11 DTM)   3 the k of TXTk
+--   4, 5 where its name starts and ends in the pool   6, 7 where an ENUM's words do, separated by single spaces
+--   8 the first row of the rule whose second row it is
+-- and what follows from these, so that no one need search for it (Sound):
+--   9 its first child   10 its next sibling   11 its first required child   12 its next required sibling
+--   13 the second row of the rule whose first row it is   14 its level   15 nothing
+-- with 0 for none.
+use mathlib.Core.Bool.{Bool, true, false, cond}
+use mathlib.Core.List.{List, [], _∷_}
+use Prim.Native.Nat.{ℕ, zero, suc, _+_, _*_}
+use lib.Dec.{eqb, leb}
+use lib.ListN.{getD}
+use lib.Seq.{slice}
+use Rattle.list.specs.Listing.{ref, iban, ccy, bool, num, amt, date, dtm, txt, enum, Kind, group, choice, leaf, Count, one, optional, some, any, alternative, Row, Rule, both, Listing}
+
+-- column j of row r; 0 in a row above 255, in a column above 15, and past the table's end
+unfoldable pub cell : List ℕ → ℕ → ℕ → ℕ
+cell t r j = cond (leb j 15) (cond (leb r 255) (getD t (16 * r + j) 0) 0) 0
+
+-- the first word grows by a byte at its front
+abbrev pub longer : ℕ → List (List ℕ) → List (List ℕ)
+longer x [] = []
+longer x (w ∷ ws) = (x ∷ w) ∷ ws
+
+-- the words of a text, separated by single spaces
+unfoldable pub words : List ℕ → List (List ℕ)
+words [] = [] ∷ []
+words (x ∷ xs) = cond (eqb x 32) ([] ∷ words xs) (longer x (words xs))
+
+-- counts and kinds by their numbers; any other number says 0..n, or G
+abbrev pub countOf : ℕ → Count
+countOf c = getD (one ∷ optional ∷ some ∷ any ∷ alternative ∷ []) c any
+
+abbrev pub kindOf : ℕ → ℕ → List (List ℕ) → Kind
+kindOf c k ws =
+    getD
+    (group ∷ choice ∷ leaf ref ∷ leaf (txt k) ∷ leaf iban ∷ leaf ccy ∷ leaf (enum ws) ∷ leaf bool ∷ leaf num ∷ leaf amt ∷ leaf date ∷ leaf dtm ∷ [])
+    c group
+
+-- the parts of the pool that row r names
+abbrev pub nameIn : List ℕ → List ℕ → ℕ → List ℕ
+nameIn t pool r = slice (cell t r 4) (cell t r 5) pool
+
+abbrev pub wordsIn : List ℕ → List ℕ → ℕ → List (List ℕ)
+wordsIn t pool r = words (slice (cell t r 6) (cell t r 7) pool)
+
+unfoldable pub rowOf : List ℕ → List ℕ → ℕ → Row
+rowOf t pool r = record {
+  name = nameIn t pool r;
+  parent = cell t r 0;
+  count = countOf (cell t r 1);
+  kind = kindOf (cell t r 2) (cell t r 3) (wordsIn t pool r);
+}
+
+-- k rows from i on
+unfoldable pub rowsFrom : List ℕ → List ℕ → ℕ → ℕ → List Row
+rowsFrom t pool i zero = []
+rowsFrom t pool i (suc k) = rowOf t pool i ∷ rowsFrom t pool (suc i) k
+
+-- the rules whose second row is among the k rows from i on
+unfoldable pub rulesFrom : List ℕ → ℕ → ℕ → List Rule
+rulesFrom t i zero = []
+rulesFrom t i (suc k) = cond (eqb (cell t i 8) 0) (rulesFrom t (suc i) k) (both (cell t i 0) (cell t i 8) i ∷ rulesFrom t (suc i) k)
+
+-- the list that the two tables say
+unfoldable pub listOf : List ℕ → List ℕ → Listing
+listOf t pool = record {
+  rows = rowsFrom t pool 1 (cell t 0 0);
+  rules = rulesFrom t 1 (cell t 0 0);
+  space = slice (cell t 0 1) (cell t 0 2) pool;
+}
