@@ -31,9 +31,9 @@ unfoldable pub words : List ℕ → List (List ℕ)
 words [] = [] ∷ []
 words (x ∷ xs) = cond (eqb x 32) ([] ∷ words xs) (longer x (words xs))
 
--- counts and kinds by their numbers; any other number says 0..n, or G
+-- counts and kinds by their numbers; any other number says no count, or G
 abbrev pub countOf : ℕ → Count
-countOf c = getD (one ∷ optional ∷ some ∷ any ∷ alternative ∷ []) c any
+countOf c = getD (one ∷ optional ∷ some ∷ any ∷ []) c alternative
 
 abbrev pub kindOf : ℕ → ℕ → List (List ℕ) → Kind
 kindOf c k ws =
