@@ -3,6 +3,10 @@
 pub mod Tests
 -- the first number that passes, how often a row occurs, row order
 pub mod Words
+-- a cell, by where it stands
+pub mod Cells
+-- the cells of a row are the row's
+pub mod Rows
 -- the next child, and the next required one
 pub mod Next
 -- what passes the computed test is sound

@@ -13,6 +13,8 @@ pub mod Table
 pub mod Sound
 -- soundness as one computed test
 pub mod Test
+-- how the lookups go
+pub mod Lookup
 -- the house list
 pub mod House
 -- its tables
