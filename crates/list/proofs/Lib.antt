@@ -9,6 +9,10 @@ pub mod Cells
 pub mod Rows
 -- the next child, and the next required one
 pub mod Next
+-- a child by its name
+pub mod Child
+-- in sound tables the lookups answer as the definitions
+pub mod Along
 -- what passes the computed test is sound
 pub mod Sound
 -- the house list is what its constants say

@@ -1,6 +1,6 @@
 -- A mirror: how the lookups go over the two tables. Assumes nothing.
-use mathlib.Core.Bool.{Bool, true, false, cond, _&&_}
-use mathlib.Core.List.{List, [], _∷_}
+use mathlib.Core.Bool.{cond}
+use mathlib.Core.List.{List}
 use Prim.Native.Nat.{ℕ, zero, suc}
 use lib.Dec.{eqb, ltb}
 use Rattle.text.specs.Lists.{same}
@@ -15,10 +15,6 @@ unfoldable pub along : List ℕ → List ℕ → List ℕ → ℕ → ℕ → �
 along t pool n zero r = 0
 along t pool n (suc k) r = cond (eqb r 0) 0 (cond (same (nameIn t pool r) n) r (along t pool n k (cell t r 10)))
 
--- among the child that came last, if it is one of p's, and the siblings behind it
-unfoldable pub behind : List ℕ → List ℕ → List ℕ → ℕ → ℕ → ℕ
-behind t pool n p last = cond (ltb 0 last && eqb (cell t last 0) p) (along t pool n 255 last) 0
-
--- and where it is none of these, among all children
+-- p's child called n: first among the child that came last (0: none) and the siblings behind it, where the next one mostly is; then among all
 unfoldable pub childAlong : List ℕ → List ℕ → ℕ → ℕ → List ℕ → ℕ
-childAlong t pool p last n = cond (ltb 0 (behind t pool n p last)) (behind t pool n p last) (along t pool n 255 (cell t p 9))
+childAlong t pool p last n = cond (ltb 0 (along t pool n 255 last)) (along t pool n 255 last) (along t pool n 255 (cell t p 9))
