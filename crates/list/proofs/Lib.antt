@@ -13,6 +13,12 @@ pub mod Next
 pub mod Child
 -- in sound tables the lookups answer as the definitions
 pub mod Along
+-- the level of a row
+pub mod Levels
+-- a rule's two rows name each other
+pub mod Rules
+-- the place of a word
+pub mod Places
 -- what passes the computed test is sound
 pub mod Sound
 -- the house list is what its constants say

@@ -204,6 +204,7 @@ module _ (l : Listing) (t : List ℕ) where
         mate = eqb-true _ _ (w .1 .1 .1 .1 .0);
         pair = eqb-true _ _ (w .1 .1 .1 .1 .1 .0);
         level = eqb-true _ _ (w .1 .1 .1 .1 .1 .1 .0);
+        words = eqb-true _ _ (w .1 .1 .1 .1 .1 .1 .1 .0);
       }
 
   columns-are : derived l t ≡ true → (r : ℕ) → r ≤ size l → Derived t l r

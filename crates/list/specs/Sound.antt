@@ -4,8 +4,9 @@ use mathlib.Core.Bool.{Bool, true, false, cond}
 use mathlib.Core.List.{List, [], _∷_}
 use Prim.Native.Nat.{ℕ, zero, suc, _-_, _≤_}
 use lib.Dec.{eqb}
+use lib.ListN.{length}
 use Rattle.list.specs.Words.{firstFrom}
-use Rattle.list.specs.Listing.{Rule, both, Listing, size, rowAt, nextDue}
+use Rattle.list.specs.Listing.{ref, iban, ccy, bool, num, amt, date, dtm, txt, enum, Kind, group, choice, leaf, Rule, both, Listing, size, rowAt, nextDue}
 use Rattle.list.specs.WellFormed.{WellFormed}
 use Rattle.list.specs.Table.{cell, listOf}
 
@@ -31,6 +32,21 @@ levelIn l (suc k) r = cond (eqb r 0) 0 (suc (levelIn l k (rowAt l r .parent)))
 abbrev pub level : Listing → ℕ → ℕ
 level l r = levelIn l 16 r
 
+-- how many words a kind lists
+abbrev pub wordCount : Kind → ℕ
+wordCount group = 0
+wordCount choice = 0
+wordCount (leaf ref) = 0
+wordCount (leaf iban) = 0
+wordCount (leaf ccy) = 0
+wordCount (leaf bool) = 0
+wordCount (leaf num) = 0
+wordCount (leaf amt) = 0
+wordCount (leaf date) = 0
+wordCount (leaf dtm) = 0
+wordCount (leaf (txt k)) = 0
+wordCount (leaf (enum ws)) = length ws
+
 -- the columns that follow from the list, at row r
 pub record Derived (t : List ℕ) (l : Listing) (r : ℕ) : Type 0 where
   pub child : cell t r 9 ≡ nextChild l r 0
@@ -40,6 +56,7 @@ pub record Derived (t : List ℕ) (l : Listing) (r : ℕ) : Type 0 where
   pub mate : cell t r 8 ≡ firstOf (l .rules) r
   pub pair : cell t r 13 ≡ secondOf (l .rules) r
   pub level : cell t r 14 ≡ levelIn l 16 r
+  pub words : cell t r 15 ≡ wordCount (rowAt l r .kind)
 
 pub record Sound (t pool : List ℕ) : Type 0 where
   pub well : WellFormed (listOf t pool)

@@ -7,7 +7,7 @@
 --   8 the first row of the rule whose second row it is
 -- and what follows from these, so that no one need search for it (Sound):
 --   9 its first child   10 its next sibling   11 its first required child   12 its next required sibling
---   13 the second row of the rule whose first row it is   14 its level   15 nothing
+--   13 the second row of the rule whose first row it is   14 its level   15 how many words an ENUM has
 -- with 0 for none.
 use mathlib.Core.Bool.{Bool, true, false, cond}
 use mathlib.Core.List.{List, [], _∷_}
@@ -15,6 +15,7 @@ use Prim.Native.Nat.{ℕ, zero, suc, _+_, _*_}
 use lib.Dec.{eqb, leb}
 use lib.ListN.{getD}
 use lib.Seq.{slice}
+use Rattle.text.specs.Lists.{same}
 use Rattle.list.specs.Listing.{ref, iban, ccy, bool, num, amt, date, dtm, txt, enum, Kind, group, choice, leaf, Count, one, optional, some, any, alternative, Row, Rule, both, Listing}
 
 -- column j of row r; 0 in a row above 255, in a column above 15, and past the table's end
@@ -30,6 +31,14 @@ longer x (w ∷ ws) = (x ∷ w) ∷ ws
 unfoldable pub words : List ℕ → List (List ℕ)
 words [] = [] ∷ []
 words (x ∷ xs) = cond (eqb x 32) ([] ∷ words xs) (longer x (words xs))
+
+-- "place in its list from 1", the places of these words counted from i on: the first that has the word; 0 where none has
+unfoldable pub placeFrom : ℕ → List (List ℕ) → List ℕ → ℕ
+placeFrom i [] w = 0
+placeFrom i (v ∷ vs) w = cond (same v w) i (placeFrom (suc i) vs w)
+
+abbrev pub placeIn : List (List ℕ) → List ℕ → ℕ
+placeIn ws w = placeFrom 1 ws w
 
 -- counts and kinds by their numbers; any other number says no count, or G
 abbrev pub countOf : ℕ → Count

@@ -9,7 +9,7 @@ use Rattle.text.specs.Lists.{same}
 use Rattle.list.specs.Words.{firstFrom}
 use Rattle.list.specs.Listing.{Leaf, ref, iban, ccy, bool, num, amt, date, dtm, txt, enum, Kind, group, choice, leaf, Count, one, optional, some, any, alternative, Rule, both, Listing, size, rowAt, isGroup, nextDue, up}
 use Rattle.list.specs.Table.{cell, listOf}
-use Rattle.list.specs.Sound.{nextChild, firstOf, secondOf, levelIn}
+use Rattle.list.specs.Sound.{nextChild, firstOf, secondOf, levelIn, wordCount}
 
 abbrev pub allOf : List Bool → Bool
 allOf [] = true
@@ -136,7 +136,8 @@ module _ (l : Listing) where
       eqb (cell t r 12) (nextDue l (rowAt l r .parent) r) ∷
       eqb (cell t r 8) (firstOf (l .rules) r) ∷
       eqb (cell t r 13) (secondOf (l .rules) r) ∷
-      eqb (cell t r 14) (levelIn l 16 r) ∷ []
+      eqb (cell t r 14) (levelIn l 16 r) ∷
+      eqb (cell t r 15) (wordCount (rowAt l r .kind)) ∷ []
 
 unfoldable pub well : Listing → Bool
 well l = allOf (listTests l)

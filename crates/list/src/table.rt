@@ -21,7 +21,7 @@ pub const WORDS_END: usize = 7;
 pub const MATE: usize = 8;
 
 // What follows from these: the first child, the next sibling, the first required child, the next required sibling, the second row of
-// the rule whose first row it is, the level. 0 says that there is none.
+// the rule whose first row it is, the level, how many words an ENUM has. 0 says that there is none.
 pub const CHILD: usize = 9;
 
 pub const SIBLING: usize = 10;
@@ -33,6 +33,8 @@ pub const DUE_SIBLING: usize = 12;
 pub const PAIR: usize = 13;
 
 pub const LEVEL: usize = 14;
+
+pub const WORD_COUNT: usize = 15;
 
 // Row 0's: how many rows there are, and where the namespace starts and ends in the pool.
 pub const SIZE: usize = 0;
