@@ -7,10 +7,11 @@ use native.Mathlib.Omega.{arith}
 use lib.Dec.{eqb}
 use borrow.Author.Tests.{eqb-true, eq-eqb}
 use Rattle.text.specs.Lists.{same}
+use Rattle.text.proofs.Classes.{and-is}
 use Rattle.list.specs.Words.{firstFrom}
 use Rattle.list.specs.Listing.{Listing, rowAt, size, Child, child}
 use Rattle.list.specs.WellFormed.{WellFormed}
-use Rattle.list.proofs.Tests.{clash, and-is}
+use Rattle.list.proofs.Tests.{clash}
 use Rattle.list.proofs.Words.{same-eq, same-of, firstFrom-none, firstFrom-some}
 
 module _ (l : Listing) (p : ℕ) (n : List ℕ) where

@@ -17,6 +17,8 @@ pub mod Along
 pub mod Levels
 -- a rule's two rows name each other
 pub mod Rules
+-- the words of a text
+pub mod Split
 -- the place of a word
 pub mod Places
 -- what passes the computed test is sound

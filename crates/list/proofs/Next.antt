@@ -7,10 +7,11 @@ use native.Mathlib.Decide.{decLt}
 use lib.Dec.{eqb}
 use lib.ListN.{length, List·getD-eq-default}
 use borrow.Author.Tests.{eqb-true, eq-eqb}
+use Rattle.text.proofs.Classes.{and-is}
 use Rattle.list.specs.Words.{firstFrom}
 use Rattle.list.specs.Listing.{Listing, size, noRow, rowAt, Child, required, nextDue}
 use Rattle.list.specs.Sound.{nextChild}
-use Rattle.list.proofs.Tests.{byCases, clash, and-is}
+use Rattle.list.proofs.Tests.{byCases, clash}
 use Rattle.list.proofs.Words.{First, firstFrom-none, firstFrom-some, firstFrom-is}
 
 -- a number above the last row is no row

@@ -11,13 +11,14 @@ use lib.ListN.{length}
 use borrow.Author.Tests.{eqb-true, eq-eqb, ne-eqb, ltb-true, leb-true, lt-ltb, le-ltb, lt-leb, not-true, not-false}
 use Rattle.text.specs.Bytes.{inRange, isCapital, isNameStart, isNamePart}
 use Rattle.text.specs.Lists.{Each, All, Begins, same}
+use Rattle.text.proofs.Classes.{and-is, or-is, or-not, in-range-is}
 use Rattle.list.specs.Words.{firstFrom}
 use Rattle.list.specs.Listing.{Leaf, ref, iban, ccy, bool, num, amt, date, dtm, txt, enum, Kind, group, choice, leaf, Count, one, optional, some, any, alternative, Rule, both, Listing, size, rowAt, Child, isGroup, nextDue, up}
 use Rattle.list.specs.WellFormed.{Fresh, Different, LeafOk, KindOk, BothOk, RuleOk, WellFormed}
 use Rattle.list.specs.Table.{cell, listOf}
 use Rattle.list.specs.Sound.{nextChild, firstOf, secondOf, levelIn, Derived, Sound}
 use Rattle.list.specs.Test.{allOf, each, every, begins, among, wordsOk, leafOk, kindOk, isSequence, isAlternative, isOne, isOptional, countFits, isChild, rowTests, ruleTests, rulesOk, listTests, derivedTests, well, derived, sound}
-use Rattle.list.proofs.Tests.{byCases, clash, and-is, or-is, or-not, all-of}
+use Rattle.list.proofs.Tests.{byCases, clash, all-of}
 use Rattle.list.proofs.Words.{same-of, firstFrom-none}
 use Rattle.list.proofs.Next.{next-child}
 
@@ -51,9 +52,6 @@ words-are (w ∷ ws) e =
 
 -- ---- kinds and counts
 
-range-is : (a b x : ℕ) → inRange a b x ≡ true → (a ≤ x) × (x ≤ b)
-range-is a b x e = let w = and-is (leb a x) (leb x b) e in (leb-true a x (w .0), leb-true x b (w .1))
-
 leaf-is : (k : Leaf) → leafOk k ≡ true → LeafOk k
 leaf-is ref e = tt
 leaf-is iban e = tt
@@ -63,11 +61,11 @@ leaf-is num e = tt
 leaf-is amt e = tt
 leaf-is date e = tt
 leaf-is dtm e = tt
-leaf-is (txt k) e = range-is 1 140 k e
+leaf-is (txt k) e = in-range-is 1 140 k e
 leaf-is (enum ws) e =
     let w = and-is (inRange 1 255 (length ws)) (wordsOk ws) e in
     let d = words-are ws (w .1) in
-    (range-is 1 255 (length ws) (w .0), d .0, d .1)
+    (in-range-is 1 255 (length ws) (w .0), d .0, d .1)
 
 kind-is : (k : Kind) → kindOk k ≡ true → KindOk k
 kind-is group e = tt

@@ -8,8 +8,9 @@ use native.Mathlib.Decide.{ℕ-discrete}
 use lib.Dec.{eqb, ltb}
 use borrow.Author.Tests.{eqb-true, eq-eqb, ne-eqb, ltb-true, lt-ltb, le-ltb}
 use Rattle.text.specs.Lists.{Each, same}
+use Rattle.text.proofs.Classes.{and-is}
 use Rattle.list.specs.Words.{times, has, Ordered, firstFrom}
-use Rattle.list.proofs.Tests.{byCases, clash, and-is}
+use Rattle.list.proofs.Tests.{byCases, clash}
 
 -- ---- texts compared
 

@@ -1,5 +1,5 @@
 -- A mirror: how the lookups go over the two tables. Assumes nothing.
-use mathlib.Core.Bool.{cond}
+use mathlib.Core.Bool.{Bool, cond, not}
 use mathlib.Core.List.{List}
 use Prim.Native.Nat.{ℕ, zero, suc}
 use lib.Dec.{eqb, ltb}
@@ -9,6 +9,10 @@ use Rattle.list.specs.Table.{cell, nameIn}
 -- the lowest required child of p above q, which is 0 or a child of p
 unfoldable pub dueAfter : List ℕ → ℕ → ℕ → ℕ
 dueAfter t p q = cond (eqb q 0) (cell t p 11) (cell t q 12)
+
+-- what a word of an ENUM goes on with
+unfoldable pub notSpace : ℕ → Bool
+notSpace x = not (eqb x 32)
 
 -- the first row called n among r and the siblings behind it, of which at most k are looked at; 0 where there is none
 unfoldable pub along : List ℕ → List ℕ → List ℕ → ℕ → ℕ → ℕ

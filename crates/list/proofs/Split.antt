@@ -1,0 +1,111 @@
+-- A text's words, one after the other. Assumes nothing.
+use mathlib.Core.Path.{_≡_, refl, sym, _∙_, ap, ap₂}
+use mathlib.Core.Bool.{Bool, true, false, cond, not}
+use mathlib.Core.List.{List, [], _∷_}
+use Prim.Native.Nat.{ℕ, zero, suc, _+_, _-_, _≤_, _<_}
+use native.Mathlib.Nat.{suc-add}
+use native.Mathlib.Numerals.{add-one, one-add}
+use native.Mathlib.Omega.{arith}
+use lib.Dec.{eqb}
+use lib.ListN.{length, getD, take, drop, length-drop, length-take}
+use lib.Seq.{slice, slice-empty, slice-cons, length-slice, take-take, take-nil, drop-nil, take-length, drop-drop}
+use borrow.Author.Tests.{eq-eqb, ne-eqb}
+use Rattle.text.specs.Lists.{span}
+use Rattle.text.proofs.Spans.{span-le}
+use Rattle.list.specs.Table.{words, longer}
+use Rattle.list.specs.Lookup.{notSpace}
+use Rattle.list.proofs.Tests.{byCases}
+
+-- ---- by the first space
+
+span-space : (x : ℕ) (xs : List ℕ) → eqb x 32 ≡ true → span notSpace (x ∷ xs) ≡ 0
+unfolding span notSpace
+span-space x xs e = rw e refl
+
+span-other : (x : ℕ) (xs : List ℕ) → eqb x 32 ≡ false → span notSpace (x ∷ xs) ≡ suc (span notSpace xs)
+unfolding span notSpace
+span-other x xs e = rw e refl
+
+words-space : (x : ℕ) (xs : List ℕ) → eqb x 32 ≡ true → words (x ∷ xs) ≡ [] ∷ words xs
+unfolding words
+words-space x xs e = rw e refl
+
+words-other : (x : ℕ) (xs : List ℕ) → eqb x 32 ≡ false → words (x ∷ xs) ≡ longer x (words xs)
+unfolding words
+words-other x xs e = rw e refl
+
+-- no space: one word
+words-last : (s : List ℕ) → span notSpace s ≡ length s → words s ≡ s ∷ []
+unfolding words
+words-last [] e = refl
+words-last (x ∷ xs) e = byCases (eqb x 32)
+    (λ y. absurd (omega (arith, span-space x xs y)))
+    (λ n. words-other x xs n ∙ ap (longer x) (words-last xs (omega (arith, span-other x xs n))))
+
+-- a space: the word before it, and the words behind it
+words-more : (s : List ℕ) (k : ℕ) → span notSpace s ≡ k → k < length s → words s ≡ take k s ∷ words (drop (suc k) s)
+words-more [] k e h = absurd (omega arith)
+words-more (x ∷ xs) k e h = byCases (eqb x 32)
+    (λ y. let z : k ≡ 0 = sym e ∙ span-space x xs y in rw z (words-space x xs y))
+    (λ n. go k (sym (span-other x xs n) ∙ e) h (words-more xs) n)
+  where
+    go : (k : ℕ) → suc (span notSpace xs) ≡ k → k < suc (length xs)
+        → ((j : ℕ) → span notSpace xs ≡ j → j < length xs → words xs ≡ take j xs ∷ words (drop (suc j) xs))
+        → eqb x 32 ≡ false → words (x ∷ xs) ≡ take k (x ∷ xs) ∷ words (drop (suc k) (x ∷ xs))
+    go zero e h f n = absurd (omega arith)
+    go (suc k) e h f n = words-other x xs n ∙ ap (longer x) (f k (omega arith) (omega arith))
+
+-- ---- in a part of the pool
+
+take-drop : (k i : ℕ) (xs : List ℕ) → take k (drop i xs) ≡ drop i (take (i + k) xs)
+take-drop k zero xs = let e : k ≡ 0 + k = omega arith in ap (λ n. take n xs) e
+take-drop k (suc i) [] = take-nil k ∙ sym (ap (drop (suc i)) (take-nil (suc i + k)) ∙ drop-nil (suc i))
+take-drop k (suc i) (x ∷ xs) = take-drop k i xs ∙ sym (ap (λ n. drop (suc i) (take n (x ∷ xs))) (suc-add i k))
+
+-- the first k of a part
+slice-take : (k i e : ℕ) (xs : List ℕ) → k ≤ length (slice i e xs) → take k (slice i e xs) ≡ slice i (i + k) xs
+slice-take zero i e xs h = let z : i + 0 ≡ i = omega arith in sym (ap (λ n. slice i n xs) z ∙ slice-empty i xs)
+slice-take (suc k) i e xs h =
+    take-drop (suc k) i (take e xs)
+    ∙ ap (drop i) (take-take (i + suc k) e xs (omega (arith, length-drop i (take e xs), length-take e xs)))
+
+-- ---- a byte at a time
+
+module _ (pool : List ℕ) (j e : ℕ) (to : e ≤ length pool) where
+  pub span-over : e ≤ j → span notSpace (slice j e pool) ≡ 0
+  span-over h = omega (arith, span-le notSpace (slice j e pool), length-slice j e pool to)
+
+  pub span-at : j < e → getD pool j 0 ≡ 32 → span notSpace (slice j e pool) ≡ 0
+  span-at h x = rw (slice-cons j e pool 0 h to) (span-space (getD pool j 0) (slice (suc j) e pool) (eq-eqb (getD pool j 0) 32 x))
+
+  pub span-on : j < e → (getD pool j 0 ≡ 32 → ⊥) → span notSpace (slice j e pool) ≡ 1 + span notSpace (slice (j + 1) e pool)
+  span-on h x =
+      rw (slice-cons j e pool 0 h to, add-one j, one-add (span notSpace (slice (suc j) e pool)))
+      (span-other (getD pool j 0) (slice (suc j) e pool) (ne-eqb (getD pool j 0) 32 x))
+
+-- ---- a word at a time
+
+-- the part from i to e of the pool, where no byte is a space before place j
+module _ (pool : List ℕ) (i e j : ℕ) (to : e ≤ length pool) (at : j ≡ i + span notSpace (slice i e pool)) where
+  most : span notSpace (slice i e pool) ≤ length (slice i e pool)
+  most = span-le notSpace (slice i e pool)
+
+  long : length (slice i e pool) ≡ e - i
+  long = length-slice i e pool to
+
+  first : take (span notSpace (slice i e pool)) (slice i e pool) ≡ slice i j pool
+  first = slice-take (span notSpace (slice i e pool)) i e pool most ∙ ap (λ n. slice i n pool) (sym at)
+
+  -- it ends there
+  pub last-word : e ≤ j → words (slice i e pool) ≡ slice i j pool ∷ []
+  last-word h =
+      let k : span notSpace (slice i e pool) ≡ length (slice i e pool) = omega (arith, most, long) in
+      words-last (slice i e pool) k ∙ ap (λ w. w ∷ []) (sym (take-length (slice i e pool)) ∙ ap (λ n. take n (slice i e pool)) (sym k) ∙ first)
+
+  -- a space stands there, and then the words behind it
+  pub next-word : j < e → words (slice i e pool) ≡ slice i j pool ∷ words (slice (j + 1) e pool)
+  next-word h =
+      let n : i + suc (span notSpace (slice i e pool)) ≡ j + 1 = omega arith in
+      words-more (slice i e pool) (span notSpace (slice i e pool)) refl (omega (arith, long))
+      ∙ ap₂ (λ w ws. w ∷ words ws) first
+      (drop-drop (suc (span notSpace (slice i e pool))) i (take e pool) ∙ ap (λ x. slice x e pool) n)
