@@ -25,3 +25,5 @@ pub mod Places
 pub mod Sound
 -- the house list is what its constants say
 pub mod HouseSound
+-- every row of a well-formed list, and of the house list
+pub mod EachRow

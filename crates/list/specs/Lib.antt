@@ -11,6 +11,8 @@ pub mod Content
 pub mod Table
 -- tables that say a well-formed list, and what follows from it
 pub mod Sound
+-- what well-formedness says of a single row
+pub mod EachRow
 -- soundness as one computed test
 pub mod Test
 -- how the lookups go

@@ -1,0 +1,36 @@
+-- Every row of a well-formed list keeps to the rules. Assumes nothing.
+use mathlib.Core.Path.{_≡_, refl, sym, _∙_, subst}
+use mathlib.Core.Bool.{true}
+use mathlib.Core.Logic.{_⊎_, inl, inr}
+use Prim.Native.Nat.{ℕ, _<_}
+use native.Mathlib.Omega.{arith}
+use native.Mathlib.Decide.{ℕ-discrete}
+use Rattle.list.specs.Listing.{Listing, rowAt, Child, isGroup}
+use Rattle.list.specs.WellFormed.{WellFormed}
+use Rattle.list.specs.EachRow.{EachRow}
+use Rattle.list.specs.House.{house}
+use Rattle.list.proofs.Levels.{level-child, level-bound}
+use Rattle.list.proofs.HouseSound.{house-well}
+
+module _ (l : Listing) (w : WellFormed l) (p r : ℕ) (c : Child l p r) where
+  pub each-row : EachRow l p r
+  each-row = record {
+    parent = elim (ℕ-discrete p 0) [
+      | yes e ↦ inl (e, w .oneRoot r (subst (λ q. Child l q r) e c))
+      | no n ↦ inr (omega arith, w .parents p r c (omega arith))
+    ];
+    before = w .before p r c;
+    filled = w .filled p r c;
+    byte = omega (arith, c .last, w .bytes);
+    deeper = level-child l w p r c;
+    levels = level-bound l w p r c .1;
+    name = w .names p r c;
+    apart = λ q d e. w .apart p r q c d e;
+    counted = w .counted p r c;
+    uncounted = w .uncounted p r c;
+    kind = w .kinds p r c;
+  }
+
+-- and so every row of the house list
+pub house-row : (p r : ℕ) → Child house p r → EachRow house p r
+house-row p r c = each-row house house-well p r c
