@@ -1,0 +1,17 @@
+-- The laws of `tags`.
+-- bytes passed at once
+pub mod Passing
+-- a text or a value holds no byte that ends it
+pub mod Avoid
+-- attributes, one and all: on any bytes, and of a tree
+pub mod Attributes
+-- a text, and a tag
+pub mod Tokens
+-- parts of a text by their places
+pub mod Slices
+-- where the root begins
+pub mod Start
+-- texts, elements and end tags at a place of a text: what the cursor answers, and what stands behind
+pub mod Elements
+-- of a good tree's text the cursor tells its message
+pub mod Story

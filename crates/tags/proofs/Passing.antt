@@ -1,0 +1,75 @@
+-- Bytes that are passed at once, in a list that is known and at a place of any list. Assumes nothing.
+use mathlib.Core.Path.{_≡_, refl, sym, _∙_, ap}
+use mathlib.Core.Bool.{Bool, true, false, not, true≢false}
+use mathlib.Core.List.{List, [], _∷_, _++_}
+use Prim.Native.Nat.{ℕ, zero, suc, _+_, _≤_, _<_}
+use native.Mathlib.Omega.{arith}
+use lib.Dec.{eqb}
+use lib.ListN.{length, drop, length-drop}
+use lib.Seq.{drop-append-seam, drop-append-add, drop-drop}
+use borrow.Author.Tests.{eqb-true, ne-eqb}
+use Rattle.text.specs.Bytes.{isBlank, isNamePart, isNameStart}
+use Rattle.text.specs.Lists.{All, span}
+use Rattle.text.proofs.Spans.{span-of, span-le}
+use Rattle.tags.specs.Passing.{but, noQuote, pass, one, behind}
+
+-- ---- all that pass a test
+
+pub all-append : (p : ℕ → Bool) (a b : List ℕ) → All p a → All p b → All p (a ++ b)
+all-append p [] b h k = k
+all-append p (x ∷ a) b h k = (h .0, all-append p a b (h .1) k)
+
+pub all-weaken : (p q : ℕ → Bool) → ((x : ℕ) → p x ≡ true → q x ≡ true) → (l : List ℕ) → All p l → All q l
+all-weaken p q f [] h = tt
+all-weaken p q f (x ∷ l) h = (f x (h .0), all-weaken p q f l (h .1))
+
+-- ---- a byte that stops
+
+pub but-other : (b x : ℕ) → (x ≡ b → ⊥) → but b x ≡ true
+but-other b x n = ap not (ne-eqb x b n)
+
+-- a test that b fails is passed by other bytes only
+pub but-by : (p : ℕ → Bool) (b : ℕ) → p b ≡ false → (x : ℕ) → p x ≡ true → but b x ≡ true
+but-by p b f x h = but-other b x (λ e. true≢false (sym h ∙ ap p e ∙ f))
+
+pub stops : (p : ℕ → Bool) (x : ℕ) (l : List ℕ) → p x ≡ false → span p (x ∷ l) ≡ 0
+unfolding span
+stops p x l e = rw e
+
+pub span-append : (p : ℕ → Bool) (a w : List ℕ) → All p a → span p (a ++ w) ≡ length a + span p w
+unfolding span
+span-append p [] w h = omega arith
+span-append p (x ∷ a) w h = rw (h .0) (omega (arith, span-append p a w (h .1)))
+
+-- ---- passing
+
+module _ {A : Type 0} (p : ℕ → Bool) (f : ℕ → List ℕ → A) where
+  pub pass-over : (o : ℕ) (a w : List ℕ) → All p a → span p w ≡ 0 → pass p f o (a ++ w) ≡ f (o + length a) w
+  unfolding pass
+  pass-over o a w h e = rw (span-of p a w h e, drop-append-seam a w)
+
+  -- some of them, and the rest later
+  pub pass-skip : (o : ℕ) (a w : List ℕ) → All p a → pass p f o (a ++ w) ≡ pass p f (o + length a) w
+  unfolding pass
+  pass-skip o a w h =
+      let e : o + (length a + span p w) ≡ o + length a + span p w = omega arith in
+      rw (span-append p a w h, drop-append-add a w (span p w), e)
+
+  -- none of them
+  pub pass-none : (o : ℕ) (w : List ℕ) → span p w ≡ 0 → pass p f o w ≡ f o w
+  unfolding pass
+  pass-none o w e = let z : o + 0 ≡ o = omega arith in rw (e, z)
+
+  -- a place of any list, passed by a span that was told
+  pub pass-at : (s : List ℕ) (at r : ℕ) → r ≡ at + span p (drop at s) → pass p f at (drop at s) ≡ f r (drop r s)
+  unfolding pass
+  pass-at s at r e = rw (e, drop-drop)
+
+  -- whatever was passed
+  pub pass-any : (P : A → Type 0) (o : ℕ) (l : List ℕ) → ((n : ℕ) → n ≤ length l → P (f (o + n) (drop n l))) → P (pass p f o l)
+  unfolding pass
+  pass-any P o l h = h (span p l) (span-le p l)
+
+pub one-le : (l : List ℕ) → one l ≤ length l
+one-le [] = omega arith
+one-le (x ∷ l) = omega arith

@@ -1,0 +1,40 @@
+-- Where the root begins. Assumes nothing.
+use mathlib.Core.Path.{_≡_, refl, sym, _∙_, ap}
+use mathlib.Core.Bool.{Bool, true, false, cond, _&&_, true≢false}
+use mathlib.Core.List.{List, [], _∷_, _++_}
+use Prim.Native.Nat.{ℕ, zero, suc, _+_}
+use native.Mathlib.Omega.{arith}
+use lib.Dec.{eqb}
+use lib.ListN.{length, drop}
+use borrow.Author.Tests.{ne-eqb}
+use Rattle.text.specs.Bytes.{ascii, isBlank, isNameStart}
+use Rattle.text.specs.Lists.{All, span}
+use Rattle.text.specs.Pieces.{greater, less}
+use Rattle.text.proofs.Spans.{span-of}
+use Rattle.xml.specs.House.{Blanks, IsName, declaration}
+use Rattle.tags.specs.Passing.{but, pass, one, headIs}
+use Rattle.tags.specs.Tokens.{rootFrom, startOf}
+use Rattle.tags.proofs.Passing.{stops, pass-over}
+use Rattle.tags.proofs.Avoid.{all-passed}
+
+-- the declaration up to its `>`
+declared : List ℕ
+declared = ascii "<?xml version=\"1.0\" encoding=\"UTF-8\"?"
+
+root-from : (o : ℕ) (b w : List ℕ) → Blanks b → rootFrom o (b ++ (60 ∷ w)) ≡ o + length b
+unfolding rootFrom isBlank
+root-from o b w h = ap (λ (n : ℕ). o + n) (span-of isBlank b (60 ∷ w) h (stops isBlank 60 w refl))
+
+name-no-question : (n w : List ℕ) → IsName n → headIs 63 (n ++ w) ≡ false
+unfolding isNameStart
+name-no-question [] w i = absurd i
+name-no-question (x ∷ n) w i = ne-eqb x 63 (λ e. true≢false (sym (i .0) ∙ ap isNameStart e))
+
+pub start-is : (d : Bool) (b n w : List ℕ) → Blanks b → IsName n → startOf (declaration d ++ (b ++ (60 ∷ (n ++ w)))) ≡ length (declaration d) + length b
+unfolding startOf declared isBlank
+start-is true b n w h i =
+    pass-over (but greater) (λ o m. rootFrom (o + one m) (drop (one m) m)) 0 declared (62 ∷ (b ++ (60 ∷ (n ++ w)))) (all-passed (but greater) declared refl) (stops (but greater) 62 _ refl)
+    ∙ root-from (length (declaration true)) b (n ++ w) h
+start-is false [] n w h i = rw (name-no-question n w i) (root-from 0 [] (n ++ w) h)
+start-is false (x ∷ b) n w h i =
+    rw (ne-eqb x 60 (λ e. true≢false (sym (h .0) ∙ ap isBlank e))) (root-from 0 (x ∷ b) (n ++ w) h)

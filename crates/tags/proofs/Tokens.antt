@@ -1,0 +1,104 @@
+-- What the cursor answers at a text and at a tag of a tree. Assumes nothing.
+use mathlib.Core.Path.{_≡_, refl, sym, _∙_, ap, ap₂}
+use mathlib.Core.Bool.{Bool, true, false, not, cond, true≢false}
+use mathlib.Core.List.{List, [], _∷_, _++_, append-assoc, append-nil}
+use Prim.Native.Nat.{ℕ, zero, suc, _+_, _-_, _≤_, _<_}
+use native.Mathlib.Omega.{arith}
+use lib.Dec.{eqb}
+use lib.ListN.{length, drop, length-drop, length-append}
+use lib.Seq.{drop-append-seam}
+use borrow.Author.Tests.{eqb-true, eq-eqb, ne-eqb}
+use Rattle.text.specs.Bytes.{isBlank, isNamePart, isNameStart}
+use Rattle.text.specs.Lists.{All, Each, span}
+use Rattle.text.specs.Pieces.{less, greater, solidus, Piece, spell, spells, GoodPiece}
+use Rattle.xml.specs.House.{Blanks, IsName, attrs, Tag, tag, GoodTag}
+use Rattle.tags.specs.declared.attribute.Attribute.{Attribute}
+use Rattle.tags.specs.declared.token.Kind.{Kind}
+use Rattle.tags.specs.declared.token.Kind.the-variants.{Open, Empty, Close, End}
+use Rattle.tags.specs.declared.token.Token.{Token}
+use Rattle.tags.specs.Passing.{but, pass, one, headIs, behind}
+use Rattle.tags.specs.Attributes.{attributeAt, passedAt}
+use Rattle.tags.specs.Tokens.{bare, shutAt, tailAt, tagAt, tokenAt}
+use Rattle.tags.specs.Places.{firstOf, tagOf}
+use Rattle.tags.proofs.Passing.{all-append, all-weaken, but-by, stops, pass-over, pass-skip, pass-none}
+use Rattle.tags.proofs.Avoid.{piece-avoids, text-avoids}
+use Rattle.tags.proofs.Attributes.{name-all, passed-is, first-is, attrs-end-name}
+
+-- ---- texts
+
+-- the token behind a piece is the token before it: the text goes on
+pub token-piece : (o : ℕ) (p : Piece) (w : List ℕ) → GoodPiece p → tokenAt o (spell p ++ w) ≡ tokenAt (o + length (spell p)) w
+unfolding tokenAt
+token-piece o p w g = pass-skip (but less) tagAt o (spell p) w (piece-avoids p g)
+
+pub token-text : (o : ℕ) (ps : List Piece) (w : List ℕ) → Each GoodPiece ps → tokenAt o (spells ps ++ w) ≡ tokenAt (o + length (spells ps)) w
+unfolding tokenAt
+token-text o ps w g = pass-skip (but less) tagAt o (spells ps) w (text-avoids ps g)
+
+-- bytes without `<` up to the end
+pub token-end : (o : ℕ) (l : List ℕ) → All (but less) l → tokenAt o l ≡ bare End (o + length l) (o + length l)
+unfolding tokenAt tagAt span
+token-end o l h = ap (pass (but less) tagAt o) (sym (append-nil l)) ∙ pass-over (but less) tagAt o l [] h refl
+
+-- ---- opening tags
+
+less-stops : (o : ℕ) (l : List ℕ) → tokenAt o (60 ∷ l) ≡ tagAt o (60 ∷ l)
+unfolding tokenAt
+less-stops o l = pass-none (but less) tagAt o (60 ∷ l) (stops (but less) 60 l refl)
+
+name-no-solidus : (n w : List ℕ) → IsName n → headIs solidus (n ++ w) ≡ false
+unfolding isNameStart
+name-no-solidus [] w i = absurd i
+name-no-solidus (x ∷ n) w i = ne-eqb x solidus (λ e. true≢false (sym (i .0) ∙ ap isNameStart e))
+
+-- behind the name: attributes, blanks, and then w
+tail-is : (o e : ℕ) (t : Tag) (w : List ℕ) → GoodTag t → span isBlank w ≡ 0 → span isNamePart w ≡ 0
+    → tailAt o e (attrs (t .attributes) ++ (t .gap ++ w)) ≡ shutAt o e (length (t .attributes)) (firstOf e (t .attributes) (t .gap)) (e + length (attrs (t .attributes)) + length (t .gap)) w
+unfolding tailAt
+tail-is o e t w g b n =
+    let a = attrs (t .attributes) in
+    let d : e + length a + length (t .gap) - e ≡ length (a ++ t .gap) = omega (arith, length-append a (t .gap)) in
+    rw (passed-is (t .gap) w (g .gap) b n e (t .attributes) (g .attributes), first-is (t .gap) w (g .gap) b n e (t .attributes) (g .attributes), d, ← append-assoc a (t .gap) w, drop-append-seam (a ++ t .gap) w)
+
+tag-is : (o : ℕ) (t : Tag) (w : List ℕ) → GoodTag t → span isBlank w ≡ 0 → span isNamePart w ≡ 0
+    → tokenAt o (60 ∷ (tag t ++ w)) ≡ shutAt o (o + 1 + length (t .name)) (length (t .attributes)) (firstOf (o + 1 + length (t .name)) (t .attributes) (t .gap)) (o + 1 + length (tag t)) w
+unfolding tagAt
+tag-is o t w g b n =
+    less-stops o (tag t ++ w)
+    ∙ ap (λ (l : List ℕ). tagAt o (60 ∷ l)) shape
+    ∙ ap (λ (z : Bool). cond z (bare Close o (behind greater (o + 1) (t .name ++ rest))) (pass isNamePart (tailAt o) (o + 1) (t .name ++ rest))) (name-no-solidus (t .name) rest (g .name))
+    ∙ pass-over isNamePart (tailAt o) (o + 1) (t .name) rest (name-all (t .name) (g .name)) (attrs-end-name (t .gap) w (g .gap) b n (t .attributes) (g .attributes))
+    ∙ tail-is o (o + 1 + length (t .name)) t w g b n
+    ∙ ap (λ (z : ℕ). shutAt o (o + 1 + length (t .name)) (length (t .attributes)) (firstOf (o + 1 + length (t .name)) (t .attributes) (t .gap)) z w)
+    (omega (arith, length-append (t .name) (attrs (t .attributes) ++ t .gap), length-append (attrs (t .attributes)) (t .gap)))
+  where
+    rest : List ℕ
+    rest = attrs (t .attributes) ++ (t .gap ++ w)
+
+    shape : tag t ++ w ≡ t .name ++ rest
+    shape = append-assoc (t .name) (attrs (t .attributes) ++ t .gap) w ∙ ap (λ (l : List ℕ). t .name ++ l) (append-assoc (attrs (t .attributes)) (t .gap) w)
+
+-- `<a ..>`
+pub token-open : (o : ℕ) (t : Tag) (w : List ℕ) → GoodTag t → tokenAt o (60 ∷ (tag t ++ (62 ∷ w))) ≡ tagOf Open o t (o + (length (tag t) + 2))
+unfolding shutAt isBlank isNamePart
+token-open o t w g = tag-is o t (62 ∷ w) g (stops isBlank 62 w refl) (stops isNamePart 62 w refl) ∙ ap (tagOf Open o t) (omega arith)
+
+-- `<a ../>`
+pub token-empty : (o : ℕ) (t : Tag) (w : List ℕ) → GoodTag t → tokenAt o (60 ∷ (tag t ++ (47 ∷ 62 ∷ w))) ≡ tagOf Empty o t (o + (length (tag t) + 3))
+unfolding shutAt isBlank isNamePart
+token-empty o t w g = tag-is o t (47 ∷ 62 ∷ w) g (stops isBlank 47 (62 ∷ w) refl) (stops isNamePart 47 (62 ∷ w) refl) ∙ ap (tagOf Empty o t) (omega arith)
+
+-- ---- end tags
+
+close-all : (n g : List ℕ) → IsName n → Blanks g → All (but greater) (47 ∷ (n ++ g))
+unfolding isBlank isNamePart
+close-all n g i b =
+    (refl, all-append (but greater) n g (all-weaken isNamePart (but greater) (but-by isNamePart greater refl) n (name-all n i)) (all-weaken isBlank (but greater) (but-by isBlank greater refl) g b))
+
+-- `</a>`
+pub token-close : (o : ℕ) (n g w : List ℕ) → IsName n → Blanks g → tokenAt o (60 ∷ 47 ∷ (n ++ (g ++ (62 ∷ w)))) ≡ bare Close o (o + (length n + length g + 3))
+unfolding tagAt behind
+token-close o n g w i b =
+    less-stops o (47 ∷ (n ++ (g ++ (62 ∷ w))))
+    ∙ ap (λ (l : List ℕ). bare Close o (behind greater (o + 1) (47 ∷ l))) (sym (append-assoc n g (62 ∷ w)))
+    ∙ ap (bare Close o) (pass-over (but greater) (λ z l. z + one l) (o + 1) (47 ∷ (n ++ g)) (62 ∷ w) (close-all n g i b) (stops (but greater) 62 w refl) ∙ omega (arith, length-append n g))

@@ -1,0 +1,11 @@
+-- The definitions of `tags`.
+-- a message in document order, and what a cursor that goes from token to token tells of a text
+pub mod Story
+-- the places of a tag and of an attribute of a tree
+pub mod Places
+-- a mirror: how the cursor passes bytes of a class
+pub mod Passing
+-- a mirror: how it passes attributes
+pub mod Attributes
+-- a mirror: how it passes a text and the tag behind it
+pub mod Tokens

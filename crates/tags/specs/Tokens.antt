@@ -1,0 +1,51 @@
+-- A mirror: how the cursor passes a text and the tag behind it. Assumes nothing.
+use mathlib.Core.Bool.{Bool, true, false, cond, _&&_}
+use mathlib.Core.List.{List, [], _∷_}
+use Prim.Native.Nat.{ℕ, _+_, _-_}
+use lib.Dec.{eqb}
+use lib.ListN.{drop}
+use Rattle.text.specs.Bytes.{isBlank, isNamePart}
+use Rattle.text.specs.Lists.{span}
+use Rattle.text.specs.Pieces.{less, greater, solidus}
+use Rattle.tags.specs.declared.attribute.Attribute.{Attribute}
+use Rattle.tags.specs.declared.token.Kind.{Kind}
+use Rattle.tags.specs.declared.token.Kind.the-variants.{Open, Empty, Close, End}
+use Rattle.tags.specs.declared.token.Token.{Token}
+use Rattle.tags.specs.Passing.{but, pass, one, headIs, behind}
+use Rattle.tags.specs.Attributes.{nowhere, attributeAt, passedAt}
+
+-- a token without name and attributes, whose text ends at o
+abbrev pub bare : Kind → ℕ → ℕ → Token
+bare k o e = record { kind = k; less = o; stop = o; attributes = 0; first = nowhere o; end = e }
+
+-- a tag with its `<` at o and its name up to e, n attributes, the first of them a; its `/` or `>` is at z
+unfoldable pub shutAt : ℕ → ℕ → ℕ → Attribute → ℕ → List ℕ → Token
+shutAt o e n a z [] = record { kind = Open; less = o; stop = e; attributes = n; first = a; end = z }
+shutAt o e n a z (x ∷ l) =
+    cond (eqb x solidus)
+    (record { kind = Empty; less = o; stop = e; attributes = n; first = a; end = z + 1 + one l })
+    (record { kind = Open; less = o; stop = e; attributes = n; first = a; end = z + 1 })
+
+-- behind the name
+unfoldable pub tailAt : ℕ → ℕ → List ℕ → Token
+tailAt o e l = shutAt o e (passedAt e l .count) (attributeAt e l) (passedAt e l .end) (drop (passedAt e l .end - e) l)
+
+-- a tag's `<` is at o
+unfoldable pub tagAt : ℕ → List ℕ → Token
+tagAt o [] = bare End o o
+tagAt o (x ∷ l) = cond (headIs solidus l) (bare Close o (behind greater (o + 1) l)) (pass isNamePart (tailAt o) (o + 1) l)
+
+-- from o on
+unfoldable pub tokenAt : ℕ → List ℕ → Token
+tokenAt o l = pass (but less) tagAt o l
+
+-- where the root begins: behind the declaration, if there is one, and blanks
+unfoldable pub rootFrom : ℕ → List ℕ → ℕ
+rootFrom o l = o + span isBlank l
+
+unfoldable pub startOf : List ℕ → ℕ
+startOf [] = 0
+startOf (x ∷ l) =
+    cond (eqb x less && headIs 63 l)
+    (pass (but greater) (λ o m. rootFrom (o + one m) (drop (one m) m)) 0 (x ∷ l))
+    (rootFrom 0 (x ∷ l))

@@ -1,0 +1,169 @@
+-- House XML: a text is house XML when it is the rendering of a good tree. Assumes nothing.
+use mathlib.Core.Path.{_≡_}
+use mathlib.Core.Logic.{_≢_}
+use mathlib.Core.Bool.{Bool, true, false, _&&_}
+use mathlib.Core.List.{List, [], _∷_, _++_}
+use Prim.Native.Nat.{ℕ, zero, suc, _≤_}
+use lib.Dec.{eqb}
+use lib.ListN.{length, take}
+use Rattle.text.specs.Bytes.{ascii, isBlank, isNameStart, isNamePart}
+use Rattle.text.specs.Lists.{All, Begins}
+use Rattle.text.specs.Pieces.{less, greater, solidus, equal, bracket, apostrophe, quotation, Piece, char, entity, spell, spells, GoodPiece}
+
+-- "blanks"; "one or more blanks"; "A name is a letter or `_`, then letters, digits, `.`, `-`, `_` (ASCII)"
+abbrev pub Blanks : List ℕ → Type 0
+Blanks l = All isBlank l
+
+abbrev pub SomeBlanks : List ℕ → Type 0
+SomeBlanks l = Begins isBlank isBlank l
+
+abbrev pub IsName : List ℕ → Type 0
+IsName l = Begins isNameStart isNamePart l
+
+-- "either quote"
+pub data Quote : Type 0 where
+  single double : Quote
+
+abbrev pub mark : Quote → ℕ
+mark single = apostrophe
+mark double = quotation
+
+-- "their values are XML 1.0 characters without the quote used"
+abbrev pub GoodValue : Quote → List Piece → Type 0
+GoodValue q [] = Unit {0}
+GoodValue q (p ∷ ps) = GoodPiece p × (p ≢ char (mark q)) × GoodValue q ps
+
+-- an attribute: "after one or more blanks", "blanks allowed around `=`"
+pub record Attr : Type 0 where
+  pub gap : List ℕ
+  pub name : List ℕ
+  pub before : List ℕ
+  pub after : List ℕ
+  pub quote : Quote
+  pub value : List Piece
+
+abbrev pub attr : Attr → List ℕ
+attr a = a .gap ++ (a .name ++ (a .before ++ (equal ∷ (a .after ++ (mark (a .quote) ∷ (spells (a .value) ++ (mark (a .quote) ∷ [])))))))
+
+abbrev pub attrs : List Attr → List ℕ
+attrs [] = []
+attrs (a ∷ more) = attr a ++ attrs more
+
+pub record GoodAttr (a : Attr) : Type 0 where
+  pub gap : SomeBlanks (a .gap)
+  pub name : IsName (a .name)
+  pub before : Blanks (a .before)
+  pub after : Blanks (a .after)
+  pub value : GoodValue (a .quote) (a .value)
+
+-- a name that is none of those
+abbrev pub Fresh : List ℕ → List (List ℕ) → Type 0
+Fresh n [] = Unit {0}
+Fresh n (m ∷ ms) = (n ≢ m) × Fresh n ms
+
+-- "At most four attributes, .. all names different": at most k, with other names than those seen
+abbrev pub GoodAttrs : ℕ → List (List ℕ) → List Attr → Type 0
+GoodAttrs k seen [] = Unit {0}
+GoodAttrs zero seen (a ∷ more) = ⊥
+GoodAttrs (suc k) seen (a ∷ more) = GoodAttr a × Fresh (a .name) seen × GoodAttrs k (a .name ∷ seen) more
+
+-- what stands between `<` and `>` or `/>`: "Blanks are allowed before `>` and `/>`"
+pub record Tag : Type 0 where
+  pub name : List ℕ
+  pub attributes : List Attr
+  pub gap : List ℕ
+
+abbrev pub tag : Tag → List ℕ
+tag t = t .name ++ (attrs (t .attributes) ++ t .gap)
+
+pub record GoodTag (t : Tag) : Type 0 where
+  pub name : IsName (t .name)
+  pub attributes : GoodAttrs 4 [] (t .attributes)
+  pub gap : Blanks (t .gap)
+
+-- what stands between an element's tags: nothing more; or a piece of text, `<a/>`, or `<a>`, what it holds, `</a` blanks `>`; and what follows it
+pub data Content : Type 0 where
+  end : Content
+  piece : Piece → Content → Content
+  empty : Tag → Content → Content
+  full : Tag → Content → List ℕ → Content → Content
+
+abbrev pub render : Content → List ℕ
+render end = []
+render (piece p k) = spell p ++ render k
+render (empty t k) = less ∷ (tag t ++ (solidus ∷ greater ∷ render k))
+render (full t i g k) = less ∷ (tag t ++ (greater ∷ (render i ++ (less ∷ solidus ∷ (t .name ++ (g ++ (greater ∷ render k)))))))
+
+-- the next piece is this character
+abbrev pub isChar : ℕ → Piece → Bool
+isChar x (char c) = eqb c x
+isChar x (entity e) = false
+
+abbrev pub begins : ℕ → Content → Bool
+begins x end = false
+begins x (piece p k) = isChar x p
+begins x (empty t k) = false
+begins x (full t i g k) = false
+
+abbrev pub behind : Content → Content
+behind end = end
+behind (piece p k) = k
+behind (empty t k) = end
+behind (full t i g k) = end
+
+-- "Text is XML 1.0 characters without .. `]]>`": the next three pieces are `]`, `]` and `>` as they stand
+abbrev pub cut : Content → Bool
+cut c = begins bracket c && (begins bracket (behind c) && begins greater (behind (behind c)))
+
+-- good, where elements may nest d deep
+abbrev pub Good : ℕ → Content → Type 0
+Good d end = Unit {0}
+Good d (piece p k) = GoodPiece p × (cut (piece p k) ≡ false) × Good d k
+Good zero (empty t k) = ⊥
+Good (suc d) (empty t k) = GoodTag t × Good (suc d) k
+Good zero (full t i g k) = ⊥
+Good (suc d) (full t i g k) = GoodTag t × Good d i × Blanks g × Good (suc d) k
+
+-- exactly one element
+abbrev pub OneElement : Content → Type 0
+OneElement end = ⊥
+OneElement (piece p k) = ⊥
+OneElement (empty t k) = k ≡ end
+OneElement (full t i g k) = k ≡ end
+
+-- "Optionally exactly `<?xml version="1.0" encoding="UTF-8"?>` at byte 0"
+abbrev pub declaration : Bool → List ℕ
+declaration true = ascii "<?xml version=\"1.0\" encoding=\"UTF-8\"?>"
+declaration false = []
+
+-- "then blanks .., one element, blanks"
+pub record Tree : Type 0 where
+  pub declared : Bool
+  pub before : List ℕ
+  pub root : Content
+  pub after : List ℕ
+
+abbrev pub whole : Tree → List ℕ
+whole t = declaration (t .declared) ++ (t .before ++ (render (t .root) ++ t .after))
+
+-- "Nesting is at most 16, the root being 1"
+pub record GoodTree (t : Tree) : Type 0 where
+  pub before : Blanks (t .before)
+  pub one : OneElement (t .root)
+  pub root : Good 16 (t .root)
+  pub after : Blanks (t .after)
+
+pub record HouseXml (s : List ℕ) : Type 0 where
+  pub tree : Tree
+  pub good : GoodTree tree
+  pub is : s ≡ whole tree
+
+-- some house XML text begins so
+unfoldable pub Viable : List ℕ → Type 0
+Viable p = (t : List ℕ) × HouseXml (p ++ t)
+
+-- "most leading bytes that still begin some house XML text"
+pub record Longest (s : List ℕ) (n : ℕ) : Type 0 where
+  pub within : n ≤ length s
+  pub begins : Viable (take n s)
+  pub most : (k : ℕ) → k ≤ length s → Viable (take k s) → k ≤ n

@@ -1,0 +1,39 @@
+-- A message: what a tree holds once blanks in tags are passed over and entities resolved, with the byte place of each `<` and of each
+-- character. Assumes nothing.
+use mathlib.Core.List.{List, [], _∷_}
+use Prim.Native.Nat.{ℕ, _+_}
+use lib.ListN.{length}
+use Rattle.text.specs.Pieces.{Piece, spell, resolved, resolvedAll}
+use Rattle.xml.specs.House.{Attr, Tag, tag, Content, end, piece, empty, full, render, declaration, Tree}
+
+-- attributes in order: the name, and the characters of the value "after entities are resolved"
+abbrev pub Attrs : Type 0
+Attrs = List (List ℕ × List ℕ)
+
+-- what stands in an element, in document order
+pub data Parts : Type 0 where
+  none : Parts
+  -- a character, its first byte at a place, and what follows it
+  char : ℕ → ℕ → Parts → Parts
+  -- an element, its `<` at a place: its name, its attributes, what stands in it, and what follows it
+  element : ℕ → List ℕ → Attrs → Parts → Parts → Parts
+
+abbrev pub attrsOf : List Attr → Attrs
+attrsOf [] = []
+attrsOf (a ∷ more) = (a .name, resolvedAll (a .value)) ∷ attrsOf more
+
+-- the parts of a content whose first byte is at place o
+abbrev pub partsOf : ℕ → Content → Parts
+partsOf o end = none
+partsOf o (piece p k) = char o (resolved p) (partsOf (o + length (spell p)) k)
+partsOf o (empty t k) = element o (t .name) (attrsOf (t .attributes)) none (partsOf (o + length (render (empty t end))) k)
+partsOf o (full t i g k) =
+    element o (t .name) (attrsOf (t .attributes)) (partsOf (o + (length (tag t) + 2)) i) (partsOf (o + length (render (full t i g end))) k)
+
+-- where the one element of a text begins
+abbrev pub rootAt : Tree → ℕ
+rootAt t = length (declaration (t .declared)) + length (t .before)
+
+-- the message of a tree: its one element
+abbrev pub messageOf : Tree → Parts
+messageOf t = partsOf (rootAt t) (t .root)

@@ -1,0 +1,1 @@
+// House XML.
