@@ -1,0 +1,9 @@
+-- The definitions of `walk`.
+-- what the walk asks of the types of leaves
+pub mod Types
+-- the first violation of a message
+pub mod First
+-- which content a message has
+pub mod Denotes
+-- a mirror: the same walk over tags and characters, with five numbers for each open element
+pub mod Machine

@@ -1,0 +1,1 @@
+// The walk: a message against any well-formed list, in document order.
