@@ -16,7 +16,8 @@ use Rattle.xml.specs.Message.{Attrs, Parts, none, char, element}
 use Rattle.walk.specs.Types.{Types}
 use Rattle.walk.specs.First.{Found, fine, found, if, orElse, firstOf, isNone, empty, textOf, only, currency, leafAttrs, attrsOk, kindOf, isRoot, childRows, opening, leafEnd, closing, inside, firstViolation}
 use Rattle.walk.specs.Denotes.{plain, OneElement, Spells, Denotes, Rooted, Has}
-use Rattle.walk.proofs.Words.{clash, and-is, same-eq, same-of}
+use Rattle.list.proofs.Tests.{clash, and-is}
+use Rattle.list.proofs.Words.{same-eq, same-of}
 use Rattle.walk.proofs.Answers.{or-fine, if-no, only-yes, yes-only, group-attrs, attrs-group, kinds, some-of, no-none}
 use Rattle.walk.proofs.Lookup.{child-found, child-is, no-child}
 use Rattle.walk.proofs.Steps.{Fits, Steps}

@@ -1,6 +1,4 @@
 -- What the proofs of `walk` share.
--- laws of the shared words
-pub mod Words
 -- first answers, tests
 pub mod Answers
 -- a child by its name
@@ -9,5 +7,11 @@ pub mod Lookup
 pub mod Steps
 -- what it means that the tests of a tag find nothing
 pub mod Tests
+-- a flag for rules
+pub mod Rules
 -- no violation exactly when some content meets the list; one content
 pub mod Accept
+-- the lowest required child that has not come
+pub mod Due
+-- the walk with five numbers for each open element finds the first violation
+pub mod Machine

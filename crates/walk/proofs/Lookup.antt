@@ -9,7 +9,8 @@ use borrow.Author.Tests.{eqb-true, eq-eqb}
 use Rattle.text.specs.Lists.{same}
 use Rattle.list.specs.Listing.{Leaf, leaf, Listing, rowAt, size, Child, child, isGroup}
 use Rattle.list.specs.WellFormed.{WellFormed}
-use Rattle.walk.proofs.Words.{clash, and-is, same-eq, same-of, firstFrom-none, firstFrom-some}
+use Rattle.list.proofs.Tests.{clash, and-is}
+use Rattle.list.proofs.Words.{same-eq, same-of, firstFrom-none, firstFrom-some}
 
 module _ (l : Listing) (p : ℕ) (n : List ℕ) where
   test : ℕ → Bool

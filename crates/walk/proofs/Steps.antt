@@ -13,7 +13,8 @@ use Rattle.text.specs.Lists.{Each}
 use Rattle.list.specs.Words.{times, Ordered}
 use Rattle.list.specs.Listing.{Kind, group, choice, leaf, Count, one, optional, any, alternative, Listing, rowAt, Child, single, required}
 use Rattle.list.specs.Content.{Counts}
-use Rattle.walk.proofs.Words.{clash, each-at, each-of, times-hit, times-miss, times-more}
+use Rattle.list.proofs.Tests.{clash}
+use Rattle.list.proofs.Words.{each-at, each-of, times-hit, times-miss, times-more}
 
 module _ (l : Listing) where
   abbrev once : ℕ → Bool

@@ -17,7 +17,8 @@ use Rattle.list.specs.Content.{Counts, Keeps, Children}
 use Rattle.xml.specs.Message.{Attrs}
 use Rattle.walk.specs.Types.{Types}
 use Rattle.walk.specs.First.{Found, fine, found, if, orElse, firstOf, empty, passed, breaks, attrsOk, kindOf, over, absent, opening, groupEnd, closing}
-use Rattle.walk.proofs.Words.{or-not, firstFrom-none, firstFrom-zero, times-hit, times-miss}
+use Rattle.list.proofs.Tests.{or-not}
+use Rattle.list.proofs.Words.{firstFrom-none, firstFrom-zero, times-hit, times-miss}
 use Rattle.walk.proofs.Answers.{or-fine, if-no, and-not, imp-and, empty-no, no-empty, empty-yes, passed-no, no-passed}
 use Rattle.walk.proofs.Steps.{Fits, Steps, ordered, at-most, steps, one-step, step-one, counted, limit, need}
 
@@ -95,7 +96,7 @@ keeps p rs (both g a b ∷ qs) k =
 
 module _ (l : Listing) where
   -- p's required child r is not among rs
-  pub lack : ℕ → List ℕ → ℕ → Bool
+  unfoldable pub lack : ℕ → List ℕ → ℕ → Bool
   lack p rs r = eqb (rowAt l r .parent) p && (required (rowAt l r .count) && not (has r rs))
 
   none-absent : (p : ℕ) (rs : List ℕ) → absent l p rs ≡ 0 → (r : ℕ) → Child l p r → required (rowAt l r .count) ≡ true → 0 < times r rs

@@ -5,7 +5,8 @@ use mathlib.Core.Option.{Option}
 use Prim.Native.Nat.{ℕ}
 use lib.Dec.{eqb, ltb}
 use Rattle.text.specs.Bytes.{isBlank}
-use Rattle.list.specs.Listing.{Kind, group, choice, leaf, Rule, both, Listing, rowAt, child, isGroup, isChoice, single, nextDue}
+use Rattle.list.specs.Listing.{Kind, group, choice, leaf, Listing, rowAt, child, isGroup, isChoice, single, nextDue}
+use Rattle.list.specs.Sound.{firstOf as mate, secondOf as pair}
 use Rattle.xml.specs.Message.{Attrs, Parts, none, char, element}
 use Rattle.walk.specs.Types.{Types}
 use Rattle.walk.specs.First.{Found, fine, if, orElse, firstOf, currency, attrsOk, kindOf, isRoot, leafEnd}
@@ -20,15 +21,6 @@ unfoldable pub events : Parts → List Event
 events none = []
 events (char o x k) = text o x ∷ events k
 events (element o n ats i k) = enter o n ats ∷ (events i ++ (leave ∷ events k))
-
--- the first row of the rule whose second row is b, the second row of the rule whose first row is a; 0 where there is none
-unfoldable pub mate : List Rule → ℕ → ℕ
-mate [] b = 0
-mate (both g x y ∷ qs) b = cond (eqb y b) x (mate qs b)
-
-unfoldable pub pair : List Rule → ℕ → ℕ
-pair [] a = 0
-pair (both g x y ∷ qs) a = cond (eqb x a) y (pair qs a)
 
 -- an open element: its row, the place of its `<`, the row of its last child (0: none yet), its lowest required child that has not come (0: none),
 -- and whether a row of a rule has come for good without the other
