@@ -15,3 +15,5 @@ pub mod Accept
 pub mod Due
 -- the walk with five numbers for each open element finds the first violation
 pub mod Machine
+-- it hands out the items of the message's content
+pub mod Items
