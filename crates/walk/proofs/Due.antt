@@ -67,7 +67,7 @@ module _ (l : Listing) where
       go (suc d) e =
           let f = firstFrom-some (lack l p seen) 1 (size l) (suc d) e (omega arith) in
           firstFrom-is (lack l p (r ∷ seen)) 1 (size l) (suc d)
-            (record { passes = lack-miss p (suc d) r seen (λ z. ne (z ∙ sym e)) ∙ f .passes; from = f .from; to = f .to; lowest = λ q a b. lack-less p q r seen (f .lowest q a b) }) ∙ sym e
+          (record { passes = lack-miss p (suc d) r seen (λ z. ne (z ∙ sym e)) ∙ f .passes; from = f .from; to = f .to; lowest = λ q a b. lack-less p q r seen (f .lowest q a b) }) ∙ sym e
 
   due-hit : (p r : ℕ) (seen : List ℕ) → 0 < r → Each (λ x. x ≤ r) seen → r ≡ absent l p seen → absent l p (r ∷ seen) ≡ nextDue l p r
   unfolding absent lack
@@ -76,27 +76,32 @@ module _ (l : Listing) where
       -- up to r nothing is lacking
       low : (q : ℕ) → 1 ≤ q → q ≤ r → lack l p (r ∷ seen) q ≡ false
       low q h k = elim (ℕ-discrete q r) [
-          yes y ↦ ap (lack l p (r ∷ seen)) y ∙ lack-came p r seen
-        | no y ↦ lack-less p q r seen (firstFrom-some (lack l p seen) 1 (size l) r (sym e) pos .lowest q h (omega arith)) ]
+        | yes y ↦ ap (lack l p (r ∷ seen)) y ∙ lack-came p r seen
+        | no y ↦ lack-less p q r seen (firstFrom-some (lack l p seen) 1 (size l) r (sym e) pos .lowest q h (omega arith))
+      ]
+
       -- behind r, what is not required
       free : (q : ℕ) → 1 ≤ q → q < 1 + size l → (Child l p q → required (rowAt l q .count) ≡ false) → lack l p (r ∷ seen) q ≡ false
       free q h k f = byCases (lack l p (r ∷ seen) q)
           (λ y. let w = lack-when p q (r ∷ seen) y in
-              clash (required (rowAt l q .count)) (w .1) (f (record { first = h; last = omega arith; parent = eqb-true (rowAt l q .parent) p (w .0) })))
+          clash (required (rowAt l q .count)) (w .1) (f (record { first = h; last = omega arith; parent = eqb-true (rowAt l q .parent) p (w .0) })))
           (λ n. n)
+
       go : (d : ℕ) → nextDue l p r ≡ d → absent l p (r ∷ seen) ≡ nextDue l p r
       go zero z = firstFrom-zero (lack l p (r ∷ seen)) 1 (size l)
           (λ q h k. elim (decLt r q) [ yes y ↦ free q h k (λ c. none-due l p r z q c y) | no y ↦ low q h (omega arith) ]) ∙ sym z
       go (suc d) z =
           let n = next-due l p r (suc d) z (omega arith) in
           firstFrom-is (lack l p (r ∷ seen)) 1 (size l) (suc d) (record {
-              passes = when-lack p (suc d) (r ∷ seen) (n .its .parent) (n .due) (none-above r (suc d) seen a (n .above));
-              from = omega arith;
-              to = omega (arith, n .its .last);
-              lowest = λ q h k. elim (decLt r q) [ yes y ↦ free q h (omega (arith, n .its .last)) (λ c. n .lowest q c y k) | no y ↦ low q h (omega arith) ] }) ∙ sym z
+            passes = when-lack p (suc d) (r ∷ seen) (n .its .parent) (n .due) (none-above r (suc d) seen a (n .above));
+            from = omega arith;
+            to = omega (arith, n .its .last);
+            lowest = λ q h k. elim (decLt r q) [ yes y ↦ free q h (omega (arith, n .its .last)) (λ c. n .lowest q c y k) | no y ↦ low q h (omega arith) ];
+          }) ∙ sym z
 
   -- when r comes: if it was due, the next one is
   pub due-step : (p r d : ℕ) (seen : List ℕ) → 0 < r → Each (λ x. x ≤ r) seen → d ≡ absent l p seen → cond (eqb r d) (nextDue l p r) d ≡ absent l p (r ∷ seen)
   due-step p r d seen pos a e = elim (ℕ-discrete r d) [
-      yes z ↦ rw (eq-eqb r d z) (sym (due-hit p r seen pos a (z ∙ e)))
-    | no z ↦ rw (ne-eqb r d z) (e ∙ sym (due-other p r seen (λ y. z (y ∙ sym e)))) ]
+    | yes z ↦ rw (eq-eqb r d z) (sym (due-hit p r seen pos a (z ∙ e)))
+    | no z ↦ rw (ne-eqb r d z) (e ∙ sym (due-other p r seen (λ y. z (y ∙ sym e))))
+  ]

@@ -68,10 +68,10 @@ module _ (t : Types) (l : Listing) (w : WellFormed l) where
       let tail = events k ++ (leave ∷ rest) in
       ap₂ (λ q es. opens t l (kindOf l q) q ++ emits t l (at (fresh l q o) (advance l lv q ∷ below) ats []) es) e (append-assoc (events i) (leave ∷ events k) (leave ∷ rest))
       ∙ ap₂ _++_ (opens-group (kindOf l r) r (d .1 .0))
-          (ap (λ as′. emits t l (at (fresh l r o) (lv₂ ∷ below) as′ []) (events i ++ (leave ∷ tail))) (d .1 .1)
-          ∙ group-emits i f (fresh l r o) (lv₂ ∷ below) tail (d .1 .0) (d .2)
-          ∙ ap (λ x. items f ++ x) (group-emits k c lv₂ below rest g (d .3))
-          ∙ sym (append-assoc (items f) (items c) (emits t l (pop below) rest)))
+      (ap (λ as′. emits t l (at (fresh l r o) (lv₂ ∷ below) as′ []) (events i ++ (leave ∷ tail))) (d .1 .1)
+      ∙ group-emits i f (fresh l r o) (lv₂ ∷ below) tail (d .1 .0) (d .2)
+      ∙ ap (λ x. items f ++ x) (group-emits k c lv₂ below rest g (d .3))
+      ∙ sym (append-assoc (items f) (items c) (emits t l (pop below) rest)))
 
   -- what the walk hands out over a message with a content is that content's items
   pub items-are : (m : Parts) (c : Content (t .A)) → Has t l m c → emits t l before (events m) ≡ items c

@@ -17,3 +17,5 @@ pub mod Due
 pub mod Machine
 -- it hands out the items of the message's content
 pub mod Items
+-- the examples
+pub mod Examples

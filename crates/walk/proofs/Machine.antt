@@ -38,10 +38,12 @@ regroup a b c d x =
 times-shift : (q r : ℕ) (a b : List ℕ) → times q (a ++ (r ∷ b)) ≡ times q (r ∷ (a ++ b))
 times-shift q r [] b = refl
 times-shift q r (x ∷ a) b = elim (ℕ-discrete x q) [
-    yes e ↦ elim (ℕ-discrete r q) [
-        yes f ↦ rw (eq-eqb x q e, times-shift q r a b, eq-eqb r q f)
-      | no f ↦ rw (eq-eqb x q e, times-shift q r a b, ne-eqb r q f) ]
-  | no e ↦ rw (ne-eqb x q e) (times-shift q r a b) ]
+  | yes e ↦ elim (ℕ-discrete r q) [
+    | yes f ↦ rw (eq-eqb x q e, times-shift q r a b, eq-eqb r q f)
+    | no f ↦ rw (eq-eqb x q e, times-shift q r a b, ne-eqb r q f)
+  ]
+  | no e ↦ rw (ne-eqb x q e) (times-shift q r a b)
+]
 
 empty-shift : (r : ℕ) (a b : List ℕ) → empty (a ++ (r ∷ b)) ≡ false
 empty-shift r [] b = refl
@@ -74,16 +76,19 @@ module _ (t : Types) (l : Listing) where
   passed-latest : (r : ℕ) (seen : List ℕ) → Each (λ x. x ≤ latest seen) seen → ltb r (latest seen) ≡ passed r seen
   passed-latest r [] a = le-ltb r 0 (omega arith)
   passed-latest r (x ∷ s) a = elim (decLt r x) [
-      yes h ↦ rw (lt-ltb r x h)
-    | no h ↦ rw (le-ltb r x (omega arith)) (sym (no-passed r s (each-of (λ q. q ≤ r) s (λ q z. let y : q ≤ x = each-at (λ y. y ≤ x) s q (a .1) z in omega arith)))) ]
+    | yes h ↦ rw (lt-ltb r x h)
+    | no h ↦ rw (le-ltb r x (omega arith)) (sym (no-passed r s (each-of (λ q. q ≤ r) s (λ q z. let y : q ≤ x = each-at (λ y. y ≤ x) s q (a .1) z in omega arith))))
+  ]
 
   has-latest : (r : ℕ) (seen : List ℕ) → 0 < r → Each (λ x. x ≤ latest seen) seen → Each (λ x. x ≤ r) seen → eqb (latest seen) r ≡ has r seen
   has-latest r [] pos a b = ne-eqb 0 r (omega arith)
   has-latest r (x ∷ s) pos a b = elim (ℕ-discrete x r) [
-      yes e ↦ eq-eqb x r e ∙ sym (has-of r (x ∷ s) (omega (arith, times-hit r x s e)))
+    | yes e ↦ eq-eqb x r e ∙ sym (has-of r (x ∷ s) (omega (arith, times-hit r x s e)))
     | no e ↦ ne-eqb x r e ∙ sym (elim (decLt 0 (times r s)) [
-          yes h ↦ absurd (e (let g : r ≤ x = each-at (λ y. y ≤ x) s r (a .1) h in omega (arith, b .0)))
-        | no h ↦ le-ltb 0 (times r (x ∷ s)) (omega (arith, times-miss r x s e)) ]) ]
+      | yes h ↦ absurd (e (let g : r ≤ x = each-at (λ y. y ≤ x) s r (a .1) h in omega (arith, b .0)))
+      | no h ↦ le-ltb 0 (times r (x ∷ s)) (omega (arith, times-miss r x s e))
+    ])
+  ]
 
   first-latest : (p : ℕ) (seen : List ℕ) → Each (Child l p) seen → eqb (latest seen) 0 ≡ empty seen
   first-latest p [] c = refl
@@ -97,11 +102,11 @@ module _ (t : Types) (l : Listing) where
 
   open-same : (kp kr : Kind) (p last r o : ℕ) (seen : List ℕ) (ats : Attrs) → Each (Child l p) seen → Each (λ x. x ≤ latest seen) seen → last ≡ latest seen
       → firstOf (if (eqb r 0) 5 p o ∷ if (not (isChoice kp) && ltb r last) 6 r o ∷ if (again l kp last r) 7 r o ∷ if (not (attrsOk t kr ats)) 9 r o ∷ [])
-        ≡ firstOf (if (eqb r 0) 5 p o ∷ if (not (isChoice kp) && passed r seen) 6 r o ∷ if (over l kp seen r) 7 r o ∷ if (not (attrsOk t kr ats)) 9 r o ∷ [])
+      ≡ firstOf (if (eqb r 0) 5 p o ∷ if (not (isChoice kp) && passed r seen) 6 r o ∷ if (over l kp seen r) 7 r o ∷ if (not (attrsOk t kr ats)) 9 r o ∷ [])
   open-same kp kr p last r o seen ats c a e =
       rw (e, passed-latest r seen a)
       (or-when (if (eqb r 0) 5 p o) _ _ (λ z. or-when (if (not (isChoice kp) && passed r seen) 6 r o) _ _ (λ y.
-        ap (λ b. orElse (if b 7 r o) (orElse (if (not (attrsOk t kr ats)) 9 r o) fine)) (over-latest kp p r seen (pos (if-no (eqb r 0) 5 p o z)) c a (if-no (not (isChoice kp) && passed r seen) 6 r o y)))))
+      ap (λ b. orElse (if b 7 r o) (orElse (if (not (attrsOk t kr ats)) 9 r o) fine)) (over-latest kp p r seen (pos (if-no (eqb r 0) 5 p o z)) c a (if-no (not (isChoice kp) && passed r seen) 6 r o y)))))
     where
       pos : eqb r 0 ≡ false → 0 < r
       pos z = elim (decLt 0 r) [ yes h ↦ h | no h ↦ absurd (eqb-false r 0 z (omega arith)) ]
@@ -140,12 +145,13 @@ module _ (t : Types) (l : Listing) where
     stands-advance : (lv : Level) (seen : List ℕ) (r : ℕ) → Stands lv seen → Child l (lv .row) r → Each (λ x. x ≤ r) seen → Stands (advance l lv r) (r ∷ seen)
     unfolding advance
     stands-advance lv seen r s c a = record {
-        last = refl;
-        due = due-step l (lv .row) r (lv .due) seen (c .first) a (s .due);
-        oddTo = λ e. step-to l w (lv .row) seen (s .theirs) (s .top) (lv .odd) (s .oddTo) (s .oddFrom) r c (latest-below r seen a) (subst (λ x. flagged (lv .odd) r x ≡ true) (s .last) e);
-        oddFrom = λ o. subst (λ x. flagged (lv .odd) r x ≡ true) (sym (s .last)) (step-from l w (lv .row) seen (s .theirs) (s .top) (lv .odd) (s .oddTo) (s .oddFrom) r c (latest-below r seen a) o);
-        top = (omega arith, a);
-        theirs = (c, s .theirs) }
+      last = refl;
+      due = due-step l (lv .row) r (lv .due) seen (c .first) a (s .due);
+      oddTo = λ e. step-to l w (lv .row) seen (s .theirs) (s .top) (lv .odd) (s .oddTo) (s .oddFrom) r c (latest-below r seen a) (subst (λ x. flagged (lv .odd) r x ≡ true) (s .last) e);
+      oddFrom = λ o. subst (λ x. flagged (lv .odd) r x ≡ true) (sym (s .last)) (step-from l w (lv .row) seen (s .theirs) (s .top) (lv .odd) (s .oddTo) (s .oddFrom) r c (latest-below r seen a) o);
+      top = (omega arith, a);
+      theirs = (c, s .theirs);
+    }
 
     close-same : (k : Kind) (lv : Level) (seen : List ℕ) (ats bts : Attrs) (cs ds : List ℕ) → isGroup k ≡ true → Stands lv seen
         → closeTest t l k lv ats cs ≡ closing t l k (lv .row) (lv .place) bts seen ds
@@ -168,7 +174,7 @@ module _ (t : Types) (l : Listing) where
 
     leaf-run : (i : Parts) (lv : Level) (below : List Level) (ats : Attrs) (rs cs : List ℕ) (rest : List Event) (f : Leaf) → 0 < lv .row → kindOf l (lv .row) ≡ leaf f
         → run t l (at lv below ats cs) (events i ++ (leave ∷ rest))
-          ≡ orElse (inside t l (lv .row) [] i) (orElse (closing t l (kindOf l (lv .row)) (lv .row) (lv .place) ats rs (cs ++ textOf i)) (run t l (pop below) rest))
+        ≡ orElse (inside t l (lv .row) [] i) (orElse (closing t l (kindOf l (lv .row)) (lv .row) (lv .place) ats rs (cs ++ textOf i)) (run t l (pop below) rest))
     unfolding run events inside openTest
     leaf-run none lv below ats rs cs rest f h e =
         ap (λ x. orElse x (run t l (pop below) rest)) (leaf-close (kindOf l (lv .row)) f lv ats rs cs e)
@@ -193,8 +199,8 @@ module _ (t : Types) (l : Listing) where
           → run t l (at (advance l lv r) below [] []) (events k ++ (leave ∷ rest)) ≡ orElse (inside t l (lv .row) (r ∷ seen) k) (ends (r ∷ (childRows l (lv .row) k ++ seen)))
       rest-run ih = ih (stands-advance lv seen r s its (below-of (kindOf l (lv .row)) r seen (op .fits)))
           ∙ ap (λ x. orElse (inside t l (lv .row) (r ∷ seen) k) (orElse x (run t l (pop below) rest)))
-              (closing-same (kindOf l (lv .row)) (lv .row) (lv .place) [] [] (childRows l (lv .row) k ++ (r ∷ seen)) (r ∷ (childRows l (lv .row) k ++ seen))
-                (λ q. times-shift q r (childRows l (lv .row) k) seen) (empty-shift r (childRows l (lv .row) k) seen))
+          (closing-same (kindOf l (lv .row)) (lv .row) (lv .place) [] [] (childRows l (lv .row) k ++ (r ∷ seen)) (r ∷ (childRows l (lv .row) k ++ seen))
+          (λ q. times-shift q r (childRows l (lv .row) k) seen) (empty-shift r (childRows l (lv .row) k) seen))
 
       abbrev tail : List Event
       tail = events k ++ (leave ∷ rest)
@@ -207,15 +213,15 @@ module _ (t : Types) (l : Listing) where
       unfolding fresh
       part-run ih = kinds (kindOf l r)
           (λ y. ap (λ z. run t l (at (fresh l r o) (advance l lv r ∷ below) z []) (events i ++ (leave ∷ tail))) (group-attrs t (kindOf l r) ats y (op .attrs)) ∙ ih y
-              ∙ ap (λ z. orElse (inside t l r [] i) (orElse z on))
-                  (ap (λ z. closing t l (kindOf l r) r o [] z []) (append-nil (childRows l r i)) ∙ closing-group (kindOf l r) r o [] ats (childRows l r i) [] (textOf i) y))
+          ∙ ap (λ z. orElse (inside t l r [] i) (orElse z on))
+          (ap (λ z. closing t l (kindOf l r) r o [] z []) (append-nil (childRows l r i)) ∙ closing-group (kindOf l r) r o [] ats (childRows l r i) [] (textOf i) y))
           (λ f y. leaf-run i (fresh l r o) (advance l lv r ∷ below) ats (childRows l r i) [] tail f (its .first) y)
 
     -- ---- what stands in a group, with its closing tag
 
     group-run : (i : Parts) (lv : Level) (below : List Level) (seen : List ℕ) (rest : List Event) → Stands lv seen → isGroup (kindOf l (lv .row)) ≡ true
         → run t l (at lv below [] []) (events i ++ (leave ∷ rest))
-          ≡ orElse (inside t l (lv .row) seen i) (orElse (closing t l (kindOf l (lv .row)) (lv .row) (lv .place) [] (childRows l (lv .row) i ++ seen) []) (run t l (pop below) rest))
+        ≡ orElse (inside t l (lv .row) seen i) (orElse (closing t l (kindOf l (lv .row)) (lv .row) (lv .place) [] (childRows l (lv .row) i ++ seen) []) (run t l (pop below) rest))
     unfolding run events inside openTest childRows fresh advance
     group-run none lv below seen rest s g = ap (λ x. orElse x (run t l (pop below) rest)) (close-same (kindOf l (lv .row)) lv seen [] [] [] [] g s)
     group-run (char o x k) lv below seen rest s g =
@@ -235,12 +241,12 @@ module _ (t : Types) (l : Listing) where
         let shut = closing t l (kindOf l r) r o ats (childRows l r i) (textOf i) in
         let ended = closing t l (kindOf l p) p (lv .place) [] (r ∷ (childRows l p k ++ seen)) [] in
         ap₂ (λ a es. orElse a (run t l (at (fresh l r o) (lv₂ ∷ below) ats []) es))
-          (open-same (kindOf l p) (kindOf l r) p (lv .last) r o seen ats (s .theirs) (s .top) (s .last)) (append-assoc (events i) (leave ∷ events k) (leave ∷ rest))
+        (open-same (kindOf l p) (kindOf l r) p (lv .last) r o seen ats (s .theirs) (s .top) (s .last)) (append-assoc (events i) (leave ∷ events k) (leave ∷ rest))
         ∙ or-when open′ (run t l (at (fresh l r o) (lv₂ ∷ below) ats []) (events i ++ (leave ∷ tail))) (orElse (inside t l r [] i) (orElse shut (orElse (inside t l p (r ∷ seen) k) (orElse ended done))))
-          (λ z. let op = opened t l (kindOf l p) (kindOf l r) p seen r ats o g z in
-                let its = child-found l p n r refl (op .row) .its in
-                part-run lv below seen rest s o ats i k r its op (λ y. group-run i (fresh l r o) (lv₂ ∷ below) [] tail (stands-fresh r o) y)
-                ∙ ap (λ x. orElse (inside t l r [] i) (orElse shut x)) (rest-run lv below seen rest s o ats i k r its op (λ s₂. group-run k lv₂ below (r ∷ seen) rest s₂ g)))
+        (λ z. let op = opened t l (kindOf l p) (kindOf l r) p seen r ats o g z in
+        let its = child-found l p n r refl (op .row) .its in
+        part-run lv below seen rest s o ats i k r its op (λ y. group-run i (fresh l r o) (lv₂ ∷ below) [] tail (stands-fresh r o) y)
+        ∙ ap (λ x. orElse (inside t l r [] i) (orElse shut x)) (rest-run lv below seen rest s o ats i k r its op (λ s₂. group-run k lv₂ below (r ∷ seen) rest s₂ g)))
         ∙ sym (regroup open′ (inside t l r [] i) shut (inside t l p (r ∷ seen) k) (orElse ended done))
 
     -- the walk finds the first violation of every message
@@ -252,6 +258,6 @@ module _ (t : Types) (l : Listing) where
         let g : isGroup (kindOf l 1) ≡ true = ap isGroup (w .root .1) in
         let c = childRows l 1 i in
         let e : closing t l (kindOf l 1) 1 o [] (c ++ []) [] ≡ closing t l (kindOf l 1) 1 o ats c (textOf i) =
-            ap (λ z. closing t l (kindOf l 1) 1 o [] z []) (append-nil c) ∙ closing-group (kindOf l 1) 1 o [] ats c [] (textOf i) g in
+        ap (λ z. closing t l (kindOf l 1) 1 o [] z []) (append-nil c) ∙ closing-group (kindOf l 1) 1 o [] ats c [] (textOf i) g in
         ap (λ x. orElse (if (not (isRoot l n ats)) 4 1 o) (run t l (at (fresh l 1 o) [] [] []) (events i ++ (leave ∷ events x)))) one
         ∙ ap (orElse (if (not (isRoot l n ats)) 4 1 o)) (group-run i (fresh l 1 o) [] [] [] (stands-fresh 1 o) g ∙ ap (λ x. orElse (inside t l 1 [] i) (orElse x fine)) e)

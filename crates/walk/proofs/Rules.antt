@@ -46,47 +46,55 @@ one-mate : (l : Listing) (g h a x b : ℕ) → BothOk l g a b → BothOk l h x b
 one-mate l g h a x b k m =
     let e : h ≡ g = sym (m .right .parent) ∙ k .right .parent in
     elim (decLt a x) [
-      yes z ↦ absurd (k .next x (subst (λ i. Child l i x) e (m .left)) z (m .order))
-    | no z ↦ elim (decLt x a) [
-        yes y ↦ absurd (m .next a (subst (λ i. Child l i a) (sym e) (k .left)) y (k .order))
-      | no y ↦ omega arith ] ]
+      | yes z ↦ absurd (k .next x (subst (λ i. Child l i x) e (m .left)) z (m .order))
+      | no z ↦ elim (decLt x a) [
+        | yes y ↦ absurd (m .next a (subst (λ i. Child l i a) (sym e) (k .left)) y (k .order))
+        | no y ↦ omega arith
+      ]
+    ]
 
 one-pair : (l : Listing) (g h a b y : ℕ) → BothOk l g a b → BothOk l h a y → y ≡ b
 one-pair l g h a b y k m =
     let e : h ≡ g = sym (m .left .parent) ∙ k .left .parent in
     elim (decLt y b) [
-      yes z ↦ absurd (k .next y (subst (λ i. Child l i y) e (m .right)) (m .order) z)
-    | no z ↦ elim (decLt b y) [
-        yes x ↦ absurd (m .next b (subst (λ i. Child l i b) (sym e) (k .right)) (k .order) x)
-      | no x ↦ omega arith ] ]
+      | yes z ↦ absurd (k .next y (subst (λ i. Child l i y) e (m .right)) (m .order) z)
+      | no z ↦ elim (decLt b y) [
+        | yes x ↦ absurd (m .next b (subst (λ i. Child l i b) (sym e) (k .right)) (k .order) x)
+        | no x ↦ omega arith
+      ]
+    ]
 
 mate-ruled : (qs : List Rule) (b : ℕ) → mate qs b ≢ 0 → (g : ℕ) × Ruled qs g (mate qs b) b
 unfolding mate
 mate-ruled [] b h = absurd (h refl)
 mate-ruled (both g x y ∷ qs) b h = elim (ℕ-discrete y b) [
-    yes e ↦ (g, inl (refl, rw (eq-eqb y b e), e))
-  | no e ↦ rw (ne-eqb y b e) (let r = mate-ruled qs b (rw (ne-eqb y b e) at h) in (r .0, inr (r .1))) ]
+  | yes e ↦ (g, inl (refl, rw (eq-eqb y b e), e))
+  | no e ↦ rw (ne-eqb y b e) (let r = mate-ruled qs b (rw (ne-eqb y b e) at h) in (r .0, inr (r .1)))
+]
 
 pair-ruled : (qs : List Rule) (a : ℕ) → pair qs a ≢ 0 → (g : ℕ) × Ruled qs g a (pair qs a)
 unfolding pair
 pair-ruled [] a h = absurd (h refl)
 pair-ruled (both g x y ∷ qs) a h = elim (ℕ-discrete x a) [
-    yes e ↦ (g, inl (refl, e, rw (eq-eqb x a e)))
-  | no e ↦ rw (ne-eqb x a e) (let r = pair-ruled qs a (rw (ne-eqb x a e) at h) in (r .0, inr (r .1))) ]
+  | yes e ↦ (g, inl (refl, e, rw (eq-eqb x a e)))
+  | no e ↦ rw (ne-eqb x a e) (let r = pair-ruled qs a (rw (ne-eqb x a e) at h) in (r .0, inr (r .1)))
+]
 
 ruled-mate : (l : Listing) (qs : List Rule) (g a b : ℕ) → Each (RuleOk l) qs → BothOk l g a b → Ruled qs g a b → mate qs b ≡ a
 unfolding mate
 ruled-mate l [] g a b k m r = absurd r
 ruled-mate l (both h x y ∷ qs) g a b k m r = elim (ℕ-discrete y b) [
-    yes e ↦ rw (eq-eqb y b e) (one-mate l g h a x b m (subst (λ z. BothOk l h x z) e (k .0)))
-  | no e ↦ rw (ne-eqb y b e) (elim r [ inl z ↦ absurd (e (z .2)) | inr z ↦ ruled-mate l qs g a b (k .1) m z ]) ]
+  | yes e ↦ rw (eq-eqb y b e) (one-mate l g h a x b m (subst (λ z. BothOk l h x z) e (k .0)))
+  | no e ↦ rw (ne-eqb y b e) (elim r [ inl z ↦ absurd (e (z .2)) | inr z ↦ ruled-mate l qs g a b (k .1) m z ])
+]
 
 ruled-pair : (l : Listing) (qs : List Rule) (g a b : ℕ) → Each (RuleOk l) qs → BothOk l g a b → Ruled qs g a b → pair qs a ≡ b
 unfolding pair
 ruled-pair l [] g a b k m r = absurd r
 ruled-pair l (both h x y ∷ qs) g a b k m r = elim (ℕ-discrete x a) [
-    yes e ↦ rw (eq-eqb x a e) (one-pair l g h a b y m (subst (λ z. BothOk l h z y) e (k .0)))
-  | no e ↦ rw (ne-eqb x a e) (elim r [ inl z ↦ absurd (e (z .1)) | inr z ↦ ruled-pair l qs g a b (k .1) m z ]) ]
+  | yes e ↦ rw (eq-eqb x a e) (one-pair l g h a b y m (subst (λ z. BothOk l h z y) e (k .0)))
+  | no e ↦ rw (ne-eqb x a e) (elim r [ inl z ↦ absurd (e (z .1)) | inr z ↦ ruled-pair l qs g a b (k .1) m z ])
+]
 
 -- ---- a broken rule
 
@@ -97,12 +105,15 @@ Differ a b rs = ((0 < times a rs) × (times b rs ≡ 0)) ⊎ ((times a rs ≡ 0)
 differ : (a b : ℕ) (rs : List ℕ) → xor (has a rs) (has b rs) ≡ true → Differ a b rs
 unfolding xor
 differ a b rs e = elim (decLt 0 (times a rs)) [
-    yes h ↦ elim (decLt 0 (times b rs)) [
-        yes k ↦ absurd (false≢true (sym (rw (lt-ltb 0 (times a rs) h, lt-ltb 0 (times b rs) k)) ∙ e))
-      | no k ↦ inl (h, omega arith) ]
+  | yes h ↦ elim (decLt 0 (times b rs)) [
+    | yes k ↦ absurd (false≢true (sym (rw (lt-ltb 0 (times a rs) h, lt-ltb 0 (times b rs) k)) ∙ e))
+    | no k ↦ inl (h, omega arith)
+  ]
   | no h ↦ elim (decLt 0 (times b rs)) [
-        yes k ↦ inr (omega arith, k)
-      | no k ↦ absurd (false≢true (sym (rw (le-ltb 0 (times a rs) (omega arith), le-ltb 0 (times b rs) (omega arith))) ∙ e)) ] ]
+    | yes k ↦ inr (omega arith, k)
+    | no k ↦ absurd (false≢true (sym (rw (le-ltb 0 (times a rs) (omega arith), le-ltb 0 (times b rs) (omega arith))) ∙ e))
+  ]
+]
 
 differs : (a b : ℕ) (rs : List ℕ) → Differ a b rs → xor (has a rs) (has b rs) ≡ true
 unfolding xor
@@ -118,8 +129,9 @@ record Broken (qs : List Rule) (p : ℕ) (rs : List ℕ) : Type 0 where
 broken : (p : ℕ) (rs : List ℕ) (qs : List Rule) → breaks p rs qs ≡ true → Broken qs p rs
 broken p rs [] e = absurd (false≢true e)
 broken p rs (both g a b ∷ qs) e = elim (or-is (eqb g p && xor (has a rs) (has b rs)) (breaks p rs qs) e) [
-    inl z ↦ let y = and-is (eqb g p) (xor (has a rs) (has b rs)) z in record { a = a; b = b; rule = inl (eqb-true g p (y .0), refl, refl); one = differ a b rs (y .1) }
-  | inr z ↦ let y = broken p rs qs z in record { a = y .a; b = y .b; rule = inr (y .rule); one = y .one } ]
+  | inl z ↦ let y = and-is (eqb g p) (xor (has a rs) (has b rs)) z in record { a = a; b = b; rule = inl (eqb-true g p (y .0), refl, refl); one = differ a b rs (y .1) }
+  | inr z ↦ let y = broken p rs qs z in record { a = y .a; b = y .b; rule = inr (y .rule); one = y .one }
+]
 
 break : (p : ℕ) (rs : List ℕ) (qs : List Rule) (a b : ℕ) → Ruled qs p a b → Differ a b rs → breaks p rs qs ≡ true
 break p rs [] a b r d = absurd r
@@ -171,17 +183,19 @@ module _ (l : Listing) (w : WellFormed l) where
                 let k = ruled-ok l (l .rules) (r .0) (latest seen) (pair (l .rules) (latest seen)) (w .rules) (r .1) in
                 let e : r .0 ≡ p = sym (k .left .parent) ∙ last-child (k .left .first) .parent in
                 break p seen (l .rules) (latest seen) (pair (l .rules) (latest seen)) (subst (λ g. Ruled (l .rules) g (latest seen) (pair (l .rules) (latest seen))) e (r .1))
-                  (inl (latest-in seen (k .left .first), unseen (pair (l .rules) (latest seen)) (k .order)))
+                (inl (latest-in seen (k .left .first), unseen (pair (l .rules) (latest seen)) (k .order)))
+
         g : breaks p seen (l .rules) ≡ true → (odd || not (eqb (pair (l .rules) (latest seen)) 0)) ≡ true
         g e =
             let o = broken p seen (l .rules) e in
             let k = ruled-ok l (l .rules) p (o .a) (o .b) (w .rules) (o .rule) in
             elim (ℕ-discrete (latest seen) (o .a)) [
-              yes z ↦
-                let y : pair (l .rules) (latest seen) ≡ o .b = ap (pair (l .rules)) z ∙ ruled-pair l (l .rules) p (o .a) (o .b) (w .rules) k (o .rule) in
-                let x : pair (l .rules) (latest seen) ≢ 0 = omega (arith, k .order) in
-                rw (ne-eqb (pair (l .rules) (latest seen)) 0 x) (or-true odd)
-            | no z ↦ rw (from (record { a = o .a; b = o .b; rule = o .rule; one = o .one; gone = z })) ]
+              | yes z ↦
+                  let y : pair (l .rules) (latest seen) ≡ o .b = ap (pair (l .rules)) z ∙ ruled-pair l (l .rules) p (o .a) (o .b) (w .rules) k (o .rule) in
+                  let x : pair (l .rules) (latest seen) ≢ 0 = omega (arith, k .order) in
+                  rw (ne-eqb (pair (l .rules) (latest seen)) 0 x) (or-true odd)
+              | no z ↦ rw (from (record { a = o .a; b = o .b; rule = o .rule; one = o .one; gone = z }))
+            ]
 
     -- a row that comes again changes nothing
     module _ (r : ℕ) (is : r ≡ latest seen) (pos : 0 < r) where
@@ -189,8 +203,9 @@ module _ (l : Listing) (w : WellFormed l) where
       old q =
           let h : 0 < times r seen = subst (λ x. 0 < times x seen) (sym is) (latest-in seen (omega arith)) in
           elim (ℕ-discrete r q) [
-            yes e ↦ let y : 0 < times q seen = subst (λ x. 0 < times x seen) e h in let z = times-hit q r seen e in (λ x. y, λ x. omega arith, λ x. omega arith, λ x. omega arith)
-          | no e ↦ let z = times-miss q r seen e in (λ x. omega arith, λ x. omega arith, λ x. omega arith, λ x. omega arith) ]
+            | yes e ↦ let y : 0 < times q seen = subst (λ x. 0 < times x seen) e h in let z = times-hit q r seen e in (λ x. y, λ x. omega arith, λ x. omega arith, λ x. omega arith)
+            | no e ↦ let z = times-miss q r seen e in (λ x. omega arith, λ x. omega arith, λ x. omega arith, λ x. omega arith)
+          ]
 
       pub odd-again : Odd p seen → Odd p (r ∷ seen)
       odd-again o = record { a = o .a; b = o .b; rule = o .rule; one = go (o .one); gone = λ z. o .gone (sym is ∙ z) }
@@ -217,26 +232,30 @@ module _ (l : Listing) (w : WellFormed l) where
           let e : g ≡ p = sym (k .right .parent) ∙ its .parent in
           let z = low a h in
           elim (decLt a (latest seen)) [
-            yes y ↦ absurd (k .next (latest seen) (subst (λ i. Child l i (latest seen)) (sym e) (last-child (omega arith))) y new)
-          | no y ↦ omega arith ]
+            | yes y ↦ absurd (k .next (latest seen) (subst (λ i. Child l i (latest seen)) (sym e) (last-child (omega arith))) y new)
+            | no y ↦ omega arith
+          ]
 
       pub odd-on : Odd p seen → Odd p (r ∷ seen)
       odd-on o = record { a = o .a; b = o .b; rule = o .rule; one = go (o .one); gone = not-a }
         where
           k : BothOk l p (o .a) (o .b)
           k = ruled-ok l (l .rules) p (o .a) (o .b) (w .rules) (o .rule)
+
           not-a : r ≢ o .a
           not-a e = no (o .one)
             where
               no : Differ (o .a) (o .b) seen → ⊥
               no (inl d) = let z = unseen r new in let y = subst (λ x. 0 < times x seen) (sym e) (d .0) in omega arith
               no (inr d) = let z = low (o .b) (d .1) in omega (arith, k .order)
+
           not-b : r ≢ o .b
           not-b e = no (o .one)
             where
               no : Differ (o .a) (o .b) seen → ⊥
               no (inl d) = o .gone (sym (beside p (o .a) (subst (λ x. BothOk l p (o .a) x) (sym e) k) (d .0)))
               no (inr d) = let z = unseen r new in let y = subst (λ x. 0 < times x seen) (sym e) (d .1) in omega arith
+
           go : Differ (o .a) (o .b) seen → Differ (o .a) (o .b) (r ∷ seen)
           go (inl d) = inl (omega (arith, d .0, other (o .a) not-a), omega (arith, d .1, other (o .b) not-b))
           go (inr d) = inr (omega (arith, d .0, other (o .a) not-a), omega (arith, d .1, other (o .b) not-b))
@@ -249,8 +268,13 @@ module _ (l : Listing) (w : WellFormed l) where
           let y : s .0 ≡ p = sym (k .right .parent) ∙ its .parent in
           let ne : r ≢ mate (l .rules) r = omega (arith, k .order) in
           let z : times (mate (l .rules) r) seen ≡ 0 = elim (decLt 0 (times (mate (l .rules) r) seen)) [ yes h ↦ absurd (m .1 (beside (s .0) (mate (l .rules) r) k h)) | no h ↦ omega arith ] in
-          record { a = mate (l .rules) r; b = r; rule = subst (λ g. Ruled (l .rules) g (mate (l .rules) r) r) y (s .1)
-                 ; one = inr (other (mate (l .rules) r) ne ∙ z, omega (arith, times-hit r r seen refl)); gone = ne }
+          record {
+            a = mate (l .rules) r;
+            b = r;
+            rule = subst (λ g. Ruled (l .rules) g (mate (l .rules) r) r) y (s .1);
+            one = inr (other (mate (l .rules) r) ne ∙ z, omega (arith, times-hit r r seen refl));
+            gone = ne;
+          }
 
       pub odd-pair : misses (pair (l .rules) (latest seen)) r ≡ true → Odd p (r ∷ seen)
       odd-pair e =
@@ -260,21 +284,30 @@ module _ (l : Listing) (w : WellFormed l) where
           let k = ruled-ok l (l .rules) (s .0) (latest seen) b (w .rules) (s .1) in
           let y : s .0 ≡ p = sym (k .left .parent) ∙ last-child (k .left .first) .parent in
           let ne : r ≢ latest seen = omega arith in
-          record { a = latest seen; b = b; rule = subst (λ g. Ruled (l .rules) g (latest seen) b) y (s .1)
-                 ; one = inl (omega (arith, latest-in seen (k .left .first), other (latest seen) ne), other b (λ z. m .1 (sym z)) ∙ unseen b (k .order)); gone = ne }
+          record {
+            a = latest seen;
+            b = b;
+            rule = subst (λ g. Ruled (l .rules) g (latest seen) b) y (s .1);
+            one = inl (omega (arith, latest-in seen (k .left .first), other (latest seen) ne), other b (λ z. m .1 (sym z)) ∙ unseen b (k .order));
+            gone = ne;
+          }
 
       pub odd-from : Odd p (r ∷ seen) → Odd p seen ⊎ (misses (mate (l .rules) r) (latest seen) || misses (pair (l .rules) (latest seen)) r) ≡ true
       odd-from o = elim (ℕ-discrete r (o .b)) [
-          yes e ↦ inr (by-mate e)
+        | yes e ↦ inr (by-mate e)
         | no e ↦ elim (ℕ-discrete (latest seen) (o .a)) [
-            yes z ↦ inr (by-pair e z)
-          | no z ↦ inl (record { a = o .a; b = o .b; rule = o .rule; one = go e (o .one); gone = z }) ] ]
+          | yes z ↦ inr (by-pair e z)
+          | no z ↦ inl (record { a = o .a; b = o .b; rule = o .rule; one = go e (o .one); gone = z })
+        ]
+      ]
         where
           k : BothOk l p (o .a) (o .b)
           k = ruled-ok l (l .rules) p (o .a) (o .b) (w .rules) (o .rule)
+
           go : r ≢ o .b → Differ (o .a) (o .b) (r ∷ seen) → Differ (o .a) (o .b) seen
           go e (inl d) = inl (omega (arith, d .0, other (o .a) (o .gone)), omega (arith, d .1, other (o .b) e))
           go e (inr d) = inr (omega (arith, d .0, other (o .a) (o .gone)), omega (arith, d .1, other (o .b) e))
+
           by-mate : r ≡ o .b → (misses (mate (l .rules) r) (latest seen) || misses (pair (l .rules) (latest seen)) r) ≡ true
           by-mate e =
               let m : mate (l .rules) r ≡ o .a = ap (mate (l .rules)) e ∙ ruled-mate l (l .rules) p (o .a) (o .b) (w .rules) k (o .rule) in
@@ -286,6 +319,7 @@ module _ (l : Listing) (w : WellFormed l) where
               no z (inr d) =
                   let y : 0 < times (o .a) seen = subst (λ x. 0 < times x seen) z (latest-in seen (omega (arith, k .left .first))) in
                   omega (arith, d .0, other (o .a) (o .gone))
+
           by-pair : r ≢ o .b → latest seen ≡ o .a → (misses (mate (l .rules) r) (latest seen) || misses (pair (l .rules) (latest seen)) r) ≡ true
           by-pair e z =
               let m : pair (l .rules) (latest seen) ≡ o .b = ap (pair (l .rules)) z ∙ ruled-pair l (l .rules) p (o .a) (o .b) (w .rules) k (o .rule) in
@@ -299,12 +333,14 @@ module _ (l : Listing) (w : WellFormed l) where
 
       pub step-to : stepped ≡ true → Odd p (r ∷ seen)
       step-to e = elim (ℕ-discrete r (latest seen)) [
-          yes z ↦ go-again z (or-is odd _ e)
-        | no z ↦ go-new (omega arith) (or-is odd _ e) ]
+        | yes z ↦ go-again z (or-is odd _ e)
+        | no z ↦ go-new (omega arith) (or-is odd _ e)
+      ]
         where
           go-again : r ≡ latest seen → (odd ≡ true) ⊎ ((not (eqb r (latest seen)) && (misses (mate (l .rules) r) (latest seen) || misses (pair (l .rules) (latest seen)) r)) ≡ true) → Odd p (r ∷ seen)
           go-again z (inl y) = odd-again r z (its .first) (to y)
           go-again z (inr y) = absurd (false≢true (sym (rw (eq-eqb r (latest seen) z)) ∙ y))
+
           go-new : latest seen < r → (odd ≡ true) ⊎ ((not (eqb r (latest seen)) && (misses (mate (l .rules) r) (latest seen) || misses (pair (l .rules) (latest seen)) r)) ≡ true) → Odd p (r ∷ seen)
           go-new z (inl y) = odd-on r its z (to y)
           go-new z (inr y) = two (or-is (misses (mate (l .rules) r) (latest seen)) _ (and-is (not (eqb r (latest seen))) _ y .1))
@@ -315,8 +351,9 @@ module _ (l : Listing) (w : WellFormed l) where
 
       pub step-from : Odd p (r ∷ seen) → stepped ≡ true
       step-from o = elim (ℕ-discrete r (latest seen)) [
-          yes z ↦ rw (from (again-odd r z (its .first) o))
-        | no z ↦ go (odd-from r its (omega arith) o) z ]
+        | yes z ↦ rw (from (again-odd r z (its .first) o))
+        | no z ↦ go (odd-from r its (omega arith) o) z
+      ]
         where
           go : Odd p seen ⊎ (misses (mate (l .rules) r) (latest seen) || misses (pair (l .rules) (latest seen)) r) ≡ true → r ≢ latest seen → stepped ≡ true
           go (inl x) z = rw (from x)

@@ -7,3 +7,5 @@ pub mod First
 pub mod Denotes
 -- a mirror: the same walk over tags and characters, with five numbers for each open element
 pub mod Machine
+-- messages against the house list, with their first violations
+pub mod Example
