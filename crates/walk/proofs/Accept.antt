@@ -16,10 +16,12 @@ use Rattle.xml.specs.Message.{Attrs, Parts, none, char, element}
 use Rattle.walk.specs.Types.{Types}
 use Rattle.walk.specs.First.{Found, fine, found, if, orElse, firstOf, isNone, empty, textOf, only, currency, leafAttrs, attrsOk, kindOf, isRoot, childRows, opening, leafEnd, closing, inside, firstViolation}
 use Rattle.walk.specs.Denotes.{plain, OneElement, Spells, Denotes, Rooted, Has}
-use Rattle.list.proofs.Tests.{clash, and-is}
+use Rattle.text.proofs.Classes.{and-is}
+use Rattle.list.proofs.Tests.{clash}
 use Rattle.list.proofs.Words.{same-eq, same-of}
 use Rattle.walk.proofs.Answers.{or-fine, if-no, only-yes, yes-only, group-attrs, attrs-group, kinds, some-of, no-none}
-use Rattle.walk.proofs.Lookup.{child-found, child-is, no-child}
+use Rattle.list.proofs.Child.{child-found, child-is}
+use Rattle.walk.proofs.Tests.{no-child}
 use Rattle.walk.proofs.Steps.{Fits, Steps}
 use Rattle.walk.proofs.Tests.{Opened, opened, opens, closed, closes}
 
@@ -178,12 +180,12 @@ module _ (t : Types) (l : Listing) (w : WellFormed l) where
   back (element o n ats i k) p seen end d g s = absurd d
   back (element o n ats i k) p seen (value r v c) d g s =
       let f = leafy (kindOf l r) r o ats (childRows l r i) i v (w .kinds p r (d .0 .0)) (d .1) in
-      back-element p seen o n ats i k r (rows c) (child-is l p n w r (d .0 .0) (d .0 .1)) (d .0 .0 .first) (s .0) (f .attrs) (plain-leaf i r [] (f .noGroup) (f .plainly)) (f .shuts)
+      back-element p seen o n ats i k r (rows c) (child-is l p n w r (record { its = d .0 .0; name = d .0 .1 })) (d .0 .0 .first) (s .0) (f .attrs) (plain-leaf i r [] (f .noGroup) (f .plainly)) (f .shuts)
       (back k p (r ∷ seen) c (d .2) (g .1) (s .1))
   back (element o n ats i k) p seen (node r e c) d g s =
       let z = closes t l w (kindOf l r) r o ats (rows e) (textOf i) (d .1 .0) refl (g .0 .1) in
       let b = back i r [] e (d .2) (g .1) (z .1) in
-      back-element p seen o n ats i k r (rows c) (child-is l p n w r (d .0 .0) (d .0 .1)) (d .0 .0 .first) (s .0) (attrs-group t (kindOf l r) ats (d .1 .0) (d .1 .1)) (b .passes)
+      back-element p seen o n ats i k r (rows c) (child-is l p n w r (record { its = d .0 .0; name = d .0 .1 })) (d .0 .0 .first) (s .0) (attrs-group t (kindOf l r) ats (d .1 .0) (d .1 .1)) (b .passes)
       (subst (λ rs. closing t l (kindOf l r) r o ats rs (textOf i) ≡ fine) (sym (b .rowed)) (z .0)) (back k p (r ∷ seen) c (d .3) (g .2) (s .1))
 
   -- ---- one content

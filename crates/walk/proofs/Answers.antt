@@ -13,7 +13,7 @@ use Rattle.list.specs.Listing.{Leaf, Kind, group, choice, leaf, isGroup}
 use Rattle.xml.specs.Message.{Attrs}
 use Rattle.walk.specs.Types.{Types}
 use Rattle.walk.specs.First.{Found, fine, found, if, orElse, firstOf, isNone, empty, passed, only, noAttrs, attrsOk}
-use Rattle.list.proofs.Tests.{and-is, or-not}
+use Rattle.text.proofs.Classes.{and-is, or-not}
 use Rattle.list.proofs.Words.{same-eq, same-refl}
 
 -- ---- the first of some answers

@@ -11,7 +11,8 @@ use borrow.Author.Tests.{eqb-true, eq-eqb, ne-eqb, ltb-true, lt-ltb, le-ltb}
 use Rattle.text.specs.Lists.{Each}
 use Rattle.list.specs.Words.{times, has, firstFrom}
 use Rattle.list.specs.Listing.{Listing, rowAt, size, Child, required, nextDue}
-use Rattle.list.proofs.Tests.{byCases, clash, and-is}
+use Rattle.text.proofs.Classes.{and-is}
+use Rattle.list.proofs.Tests.{byCases, clash}
 use Rattle.list.proofs.Words.{First, firstFrom-none, firstFrom-some, firstFrom-is, firstFrom-zero, firstFrom-ext, times-hit, times-miss, times-more, has-yes, has-of, each-at}
 use Rattle.list.proofs.Next.{Due, next-due, none-due}
 use Rattle.walk.specs.First.{absent}

@@ -1,8 +1,6 @@
 -- What the proofs of `walk` share.
 -- first answers, tests
 pub mod Answers
--- a child by its name
-pub mod Lookup
 -- children that pass the opening tests one after the other
 pub mod Steps
 -- what it means that the tests of a tag find nothing

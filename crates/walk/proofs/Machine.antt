@@ -16,12 +16,14 @@ use Rattle.list.specs.WellFormed.{WellFormed}
 use Rattle.list.specs.Sound.{firstOf as mate, secondOf as pair}
 use Rattle.list.proofs.Words.{firstFrom-ext, times-hit, times-miss, has-of, each-at, each-of}
 use Rattle.xml.specs.Message.{Attrs, Parts, none, char, element}
+use Rattle.tags.specs.Story.{Event, char as text, enter, leave, events}
 use Rattle.walk.specs.Types.{Types}
 use Rattle.walk.specs.First.{Found, fine, found, if, orElse, firstOf, empty, passed, breaks, textOf, attrsOk, kindOf, isRoot, over, absent, childRows, opening, closing, inside, firstViolation}
 use Rattle.walk.specs.Denotes.{OneElement}
-use Rattle.walk.specs.Machine.{Event, enter, text, leave, events, Level, State, before, at, after, pop, fresh, advance, again, openTest, closeTest, run, walk, misses}
+use Rattle.walk.specs.Machine.{Level, State, before, at, after, pop, fresh, advance, again, openTest, closeTest, run, walk, misses}
 use Rattle.walk.proofs.Answers.{or-right, or-when, or-assoc, if-no, passed-no, no-passed, group-attrs, kinds}
-use Rattle.walk.proofs.Lookup.{child-found, no-child}
+use Rattle.list.proofs.Child.{child-found}
+use Rattle.walk.proofs.Tests.{no-child}
 use Rattle.walk.proofs.Steps.{Fits}
 use Rattle.walk.proofs.Tests.{Opened, opened}
 use Rattle.walk.proofs.Rules.{latest, Odd, odd-ends, step-to, step-from}
@@ -173,9 +175,9 @@ module _ (t : Types) (l : Listing) where
     leaf-close (leaf g) f lv ats rs cs e = refl
 
     leaf-run : (i : Parts) (lv : Level) (below : List Level) (ats : Attrs) (rs cs : List ℕ) (rest : List Event) (f : Leaf) → 0 < lv .row → kindOf l (lv .row) ≡ leaf f
-        → run t l (at lv below ats cs) (events i ++ (leave ∷ rest))
+        → run t l (at lv below ats cs) (events i (leave ∷ rest))
         ≡ orElse (inside t l (lv .row) [] i) (orElse (closing t l (kindOf l (lv .row)) (lv .row) (lv .place) ats rs (cs ++ textOf i)) (run t l (pop below) rest))
-    unfolding run events inside openTest
+    unfolding run inside openTest
     leaf-run none lv below ats rs cs rest f h e =
         ap (λ x. orElse x (run t l (pop below) rest)) (leaf-close (kindOf l (lv .row)) f lv ats rs cs e)
         ∙ ap (λ x. orElse (closing t l (kindOf l (lv .row)) (lv .row) (lv .place) ats rs x) (run t l (pop below) rest)) (sym (append-nil cs))
@@ -195,24 +197,24 @@ module _ (t : Types) (l : Listing) where
       abbrev ends : List ℕ → Found
       ends rs = orElse (closing t l (kindOf l (lv .row)) (lv .row) (lv .place) [] rs []) (run t l (pop below) rest)
 
-      rest-run : (Stands (advance l lv r) (r ∷ seen) → run t l (at (advance l lv r) below [] []) (events k ++ (leave ∷ rest)) ≡ orElse (inside t l (lv .row) (r ∷ seen) k) (ends (childRows l (lv .row) k ++ (r ∷ seen))))
-          → run t l (at (advance l lv r) below [] []) (events k ++ (leave ∷ rest)) ≡ orElse (inside t l (lv .row) (r ∷ seen) k) (ends (r ∷ (childRows l (lv .row) k ++ seen)))
+      rest-run : (Stands (advance l lv r) (r ∷ seen) → run t l (at (advance l lv r) below [] []) (events k (leave ∷ rest)) ≡ orElse (inside t l (lv .row) (r ∷ seen) k) (ends (childRows l (lv .row) k ++ (r ∷ seen))))
+          → run t l (at (advance l lv r) below [] []) (events k (leave ∷ rest)) ≡ orElse (inside t l (lv .row) (r ∷ seen) k) (ends (r ∷ (childRows l (lv .row) k ++ seen)))
       rest-run ih = ih (stands-advance lv seen r s its (below-of (kindOf l (lv .row)) r seen (op .fits)))
           ∙ ap (λ x. orElse (inside t l (lv .row) (r ∷ seen) k) (orElse x (run t l (pop below) rest)))
           (closing-same (kindOf l (lv .row)) (lv .row) (lv .place) [] [] (childRows l (lv .row) k ++ (r ∷ seen)) (r ∷ (childRows l (lv .row) k ++ seen))
           (λ q. times-shift q r (childRows l (lv .row) k) seen) (empty-shift r (childRows l (lv .row) k) seen))
 
       abbrev tail : List Event
-      tail = events k ++ (leave ∷ rest)
+      tail = events k (leave ∷ rest)
 
       abbrev on : Found
       on = run t l (at (advance l lv r) below [] []) tail
 
-      part-run : (isGroup (kindOf l r) ≡ true → run t l (at (fresh l r o) (advance l lv r ∷ below) [] []) (events i ++ (leave ∷ tail)) ≡ orElse (inside t l r [] i) (orElse (closing t l (kindOf l r) r o [] (childRows l r i ++ []) []) on))
-          → run t l (at (fresh l r o) (advance l lv r ∷ below) ats []) (events i ++ (leave ∷ tail)) ≡ orElse (inside t l r [] i) (orElse (closing t l (kindOf l r) r o ats (childRows l r i) (textOf i)) on)
+      part-run : (isGroup (kindOf l r) ≡ true → run t l (at (fresh l r o) (advance l lv r ∷ below) [] []) (events i (leave ∷ tail)) ≡ orElse (inside t l r [] i) (orElse (closing t l (kindOf l r) r o [] (childRows l r i ++ []) []) on))
+          → run t l (at (fresh l r o) (advance l lv r ∷ below) ats []) (events i (leave ∷ tail)) ≡ orElse (inside t l r [] i) (orElse (closing t l (kindOf l r) r o ats (childRows l r i) (textOf i)) on)
       unfolding fresh
       part-run ih = kinds (kindOf l r)
-          (λ y. ap (λ z. run t l (at (fresh l r o) (advance l lv r ∷ below) z []) (events i ++ (leave ∷ tail))) (group-attrs t (kindOf l r) ats y (op .attrs)) ∙ ih y
+          (λ y. ap (λ z. run t l (at (fresh l r o) (advance l lv r ∷ below) z []) (events i (leave ∷ tail))) (group-attrs t (kindOf l r) ats y (op .attrs)) ∙ ih y
           ∙ ap (λ z. orElse (inside t l r [] i) (orElse z on))
           (ap (λ z. closing t l (kindOf l r) r o [] z []) (append-nil (childRows l r i)) ∙ closing-group (kindOf l r) r o [] ats (childRows l r i) [] (textOf i) y))
           (λ f y. leaf-run i (fresh l r o) (advance l lv r ∷ below) ats (childRows l r i) [] tail f (its .first) y)
@@ -220,29 +222,29 @@ module _ (t : Types) (l : Listing) where
     -- ---- what stands in a group, with its closing tag
 
     group-run : (i : Parts) (lv : Level) (below : List Level) (seen : List ℕ) (rest : List Event) → Stands lv seen → isGroup (kindOf l (lv .row)) ≡ true
-        → run t l (at lv below [] []) (events i ++ (leave ∷ rest))
+        → run t l (at lv below [] []) (events i (leave ∷ rest))
         ≡ orElse (inside t l (lv .row) seen i) (orElse (closing t l (kindOf l (lv .row)) (lv .row) (lv .place) [] (childRows l (lv .row) i ++ seen) []) (run t l (pop below) rest))
-    unfolding run events inside openTest childRows fresh advance
+    unfolding run inside openTest childRows fresh advance
     group-run none lv below seen rest s g = ap (λ x. orElse x (run t l (pop below) rest)) (close-same (kindOf l (lv .row)) lv seen [] [] [] [] g s)
     group-run (char o x k) lv below seen rest s g =
         let ih = group-run k lv below seen rest s g in
         let f = if (isGroup (kindOf l (lv .row)) && not (isBlank x)) 10 (lv .row) o in
         let u = inside t l (lv .row) seen k in
         let v = orElse (closing t l (kindOf l (lv .row)) (lv .row) (lv .place) [] (childRows l (lv .row) k ++ seen) []) (run t l (pop below) rest) in
-        ap (λ b. orElse f (run t l (at lv below [] (cond b [] (x ∷ []))) (events k ++ (leave ∷ rest)))) g
+        ap (λ b. orElse f (run t l (at lv below [] (cond b [] (x ∷ []))) (events k (leave ∷ rest)))) g
         ∙ ap (orElse f) ih ∙ sym (or-assoc f (orElse u fine) v ∙ ap (orElse f) (or-assoc u fine v))
     group-run (element o n ats i k) lv below seen rest s g =
         let p = lv .row in
         let r = child l p n in
         let open′ = opening t l p seen r ats o in
-        let tail = events k ++ (leave ∷ rest) in
+        let tail = events k (leave ∷ rest) in
         let done = run t l (pop below) rest in
         let lv₂ = advance l lv r in
         let shut = closing t l (kindOf l r) r o ats (childRows l r i) (textOf i) in
         let ended = closing t l (kindOf l p) p (lv .place) [] (r ∷ (childRows l p k ++ seen)) [] in
-        ap₂ (λ a es. orElse a (run t l (at (fresh l r o) (lv₂ ∷ below) ats []) es))
-        (open-same (kindOf l p) (kindOf l r) p (lv .last) r o seen ats (s .theirs) (s .top) (s .last)) (append-assoc (events i) (leave ∷ events k) (leave ∷ rest))
-        ∙ or-when open′ (run t l (at (fresh l r o) (lv₂ ∷ below) ats []) (events i ++ (leave ∷ tail))) (orElse (inside t l r [] i) (orElse shut (orElse (inside t l p (r ∷ seen) k) (orElse ended done))))
+        ap (λ a. orElse a (run t l (at (fresh l r o) (lv₂ ∷ below) ats []) (events i (leave ∷ tail))))
+        (open-same (kindOf l p) (kindOf l r) p (lv .last) r o seen ats (s .theirs) (s .top) (s .last))
+        ∙ or-when open′ (run t l (at (fresh l r o) (lv₂ ∷ below) ats []) (events i (leave ∷ tail))) (orElse (inside t l r [] i) (orElse shut (orElse (inside t l p (r ∷ seen) k) (orElse ended done))))
         (λ z. let op = opened t l (kindOf l p) (kindOf l r) p seen r ats o g z in
         let its = child-found l p n r refl (op .row) .its in
         part-run lv below seen rest s o ats i k r its op (λ y. group-run i (fresh l r o) (lv₂ ∷ below) [] tail (stands-fresh r o) y)
@@ -251,7 +253,7 @@ module _ (t : Types) (l : Listing) where
 
     -- the walk finds the first violation of every message
     pub walk-is : (m : Parts) → OneElement m → walk t l m ≡ firstViolation t l m
-    unfolding walk firstViolation fresh run events
+    unfolding walk firstViolation fresh run
     walk-is none one = absurd one
     walk-is (char o x k) one = absurd one
     walk-is (element o n ats i k) one =
@@ -259,5 +261,5 @@ module _ (t : Types) (l : Listing) where
         let c = childRows l 1 i in
         let e : closing t l (kindOf l 1) 1 o [] (c ++ []) [] ≡ closing t l (kindOf l 1) 1 o ats c (textOf i) =
         ap (λ z. closing t l (kindOf l 1) 1 o [] z []) (append-nil c) ∙ closing-group (kindOf l 1) 1 o [] ats c [] (textOf i) g in
-        ap (λ x. orElse (if (not (isRoot l n ats)) 4 1 o) (run t l (at (fresh l 1 o) [] [] []) (events i ++ (leave ∷ events x)))) one
+        ap (λ x. orElse (if (not (isRoot l n ats)) 4 1 o) (run t l (at (fresh l 1 o) [] [] []) (events i (leave ∷ events x [])))) one
         ∙ ap (orElse (if (not (isRoot l n ats)) 4 1 o)) (group-run i (fresh l 1 o) [] [] [] (stands-fresh 1 o) g ∙ ap (λ x. orElse (inside t l 1 [] i) (orElse x fine)) e)

@@ -13,7 +13,9 @@ use Rattle.list.specs.Words.{times, has}
 use Rattle.list.specs.Listing.{Rule, both, Listing, rowAt, Child}
 use Rattle.list.specs.WellFormed.{BothOk, RuleOk, WellFormed}
 use Rattle.list.specs.Sound.{firstOf as mate, secondOf as pair}
-use Rattle.list.proofs.Tests.{byCases, and-is, or-is}
+use Rattle.text.proofs.Classes.{and-is, or-is}
+use Rattle.list.proofs.Tests.{byCases}
+use Rattle.list.proofs.Rules.{Among, each-among}
 use Rattle.list.proofs.Words.{times-hit, times-miss, each-at}
 use Rattle.walk.specs.First.{breaks}
 use Rattle.walk.specs.Machine.{misses}
@@ -30,16 +32,8 @@ latest-in (r ∷ rs) h = omega (arith, times-hit r r rs refl)
 
 -- ---- the rules of a list
 
--- among qs is the rule of g that a and b are both present or both absent
-abbrev pub Ruled : List Rule → ℕ → ℕ → ℕ → Type 0
-Ruled [] g a b = ⊥
-Ruled (both h x y ∷ qs) g a b = ((h ≡ g) × (x ≡ a) × (y ≡ b)) ⊎ Ruled qs g a b
-
-ruled-ok : (l : Listing) (qs : List Rule) (g a b : ℕ) → Each (RuleOk l) qs → Ruled qs g a b → BothOk l g a b
-ruled-ok l [] g a b k r = absurd r
-ruled-ok l (both h x y ∷ qs) g a b k (inl e) =
-    subst (λ z. BothOk l g a z) (e .2) (subst (λ z. BothOk l g z y) (e .1) (subst (λ z. BothOk l z x y) (e .0) (k .0)))
-ruled-ok l (both h x y ∷ qs) g a b k (inr r) = ruled-ok l qs g a b (k .1) r
+ruled-ok : (l : Listing) (g a b : ℕ) → Each (RuleOk l) (l .rules) → Among g a b (l .rules) → BothOk l g a b
+ruled-ok l g a b k r = each-among (RuleOk l) g a b (l .rules) k r
 
 -- a rule's other row is determined
 one-mate : (l : Listing) (g h a x b : ℕ) → BothOk l g a b → BothOk l h x b → x ≡ a
@@ -64,7 +58,7 @@ one-pair l g h a b y k m =
       ]
     ]
 
-mate-ruled : (qs : List Rule) (b : ℕ) → mate qs b ≢ 0 → (g : ℕ) × Ruled qs g (mate qs b) b
+mate-ruled : (qs : List Rule) (b : ℕ) → mate qs b ≢ 0 → (g : ℕ) × Among g (mate qs b) b qs
 unfolding mate
 mate-ruled [] b h = absurd (h refl)
 mate-ruled (both g x y ∷ qs) b h = elim (ℕ-discrete y b) [
@@ -72,7 +66,7 @@ mate-ruled (both g x y ∷ qs) b h = elim (ℕ-discrete y b) [
   | no e ↦ rw (ne-eqb y b e) (let r = mate-ruled qs b (rw (ne-eqb y b e) at h) in (r .0, inr (r .1)))
 ]
 
-pair-ruled : (qs : List Rule) (a : ℕ) → pair qs a ≢ 0 → (g : ℕ) × Ruled qs g a (pair qs a)
+pair-ruled : (qs : List Rule) (a : ℕ) → pair qs a ≢ 0 → (g : ℕ) × Among g a (pair qs a) qs
 unfolding pair
 pair-ruled [] a h = absurd (h refl)
 pair-ruled (both g x y ∷ qs) a h = elim (ℕ-discrete x a) [
@@ -80,7 +74,7 @@ pair-ruled (both g x y ∷ qs) a h = elim (ℕ-discrete x a) [
   | no e ↦ rw (ne-eqb x a e) (let r = pair-ruled qs a (rw (ne-eqb x a e) at h) in (r .0, inr (r .1)))
 ]
 
-ruled-mate : (l : Listing) (qs : List Rule) (g a b : ℕ) → Each (RuleOk l) qs → BothOk l g a b → Ruled qs g a b → mate qs b ≡ a
+ruled-mate : (l : Listing) (qs : List Rule) (g a b : ℕ) → Each (RuleOk l) qs → BothOk l g a b → Among g a b qs → mate qs b ≡ a
 unfolding mate
 ruled-mate l [] g a b k m r = absurd r
 ruled-mate l (both h x y ∷ qs) g a b k m r = elim (ℕ-discrete y b) [
@@ -88,7 +82,7 @@ ruled-mate l (both h x y ∷ qs) g a b k m r = elim (ℕ-discrete y b) [
   | no e ↦ rw (ne-eqb y b e) (elim r [ inl z ↦ absurd (e (z .2)) | inr z ↦ ruled-mate l qs g a b (k .1) m z ])
 ]
 
-ruled-pair : (l : Listing) (qs : List Rule) (g a b : ℕ) → Each (RuleOk l) qs → BothOk l g a b → Ruled qs g a b → pair qs a ≡ b
+ruled-pair : (l : Listing) (qs : List Rule) (g a b : ℕ) → Each (RuleOk l) qs → BothOk l g a b → Among g a b qs → pair qs a ≡ b
 unfolding pair
 ruled-pair l [] g a b k m r = absurd r
 ruled-pair l (both h x y ∷ qs) g a b k m r = elim (ℕ-discrete x a) [
@@ -123,7 +117,7 @@ differs a b rs (inr d) = rw (le-ltb 0 (times a rs) (omega (arith, d .0)), lt-ltb
 record Broken (qs : List Rule) (p : ℕ) (rs : List ℕ) : Type 0 where
   a : ℕ
   b : ℕ
-  rule : Ruled qs p a b
+  rule : Among p a b qs
   one : Differ a b rs
 
 broken : (p : ℕ) (rs : List ℕ) (qs : List Rule) → breaks p rs qs ≡ true → Broken qs p rs
@@ -133,7 +127,7 @@ broken p rs (both g a b ∷ qs) e = elim (or-is (eqb g p && xor (has a rs) (has 
   | inr z ↦ let y = broken p rs qs z in record { a = y .a; b = y .b; rule = inr (y .rule); one = y .one }
 ]
 
-break : (p : ℕ) (rs : List ℕ) (qs : List Rule) (a b : ℕ) → Ruled qs p a b → Differ a b rs → breaks p rs qs ≡ true
+break : (p : ℕ) (rs : List ℕ) (qs : List Rule) (a b : ℕ) → Among p a b qs → Differ a b rs → breaks p rs qs ≡ true
 break p rs [] a b r d = absurd r
 break p rs (both g x y ∷ qs) a b (inl e) d =
     rw (e .1, e .2, eq-eqb g p (e .0), differs a b rs d)
@@ -154,7 +148,7 @@ module _ (l : Listing) (w : WellFormed l) where
   pub record Odd (p : ℕ) (seen : List ℕ) : Type 0 where
     pub a : ℕ
     pub b : ℕ
-    pub rule : Ruled (l .rules) p a b
+    pub rule : Among p a b (l .rules)
     pub one : Differ a b seen
     pub gone : latest seen ≢ a
 
@@ -180,15 +174,15 @@ module _ (l : Listing) (w : WellFormed l) where
             go (inl z) = let o = to z in break p seen (l .rules) (o .a) (o .b) (o .rule) (o .one)
             go (inr z) =
                 let r = pair-ruled (l .rules) (latest seen) (eqb-false (pair (l .rules) (latest seen)) 0 (not-true (eqb (pair (l .rules) (latest seen)) 0) z)) in
-                let k = ruled-ok l (l .rules) (r .0) (latest seen) (pair (l .rules) (latest seen)) (w .rules) (r .1) in
+                let k = ruled-ok l (r .0) (latest seen) (pair (l .rules) (latest seen)) (w .rules) (r .1) in
                 let e : r .0 ≡ p = sym (k .left .parent) ∙ last-child (k .left .first) .parent in
-                break p seen (l .rules) (latest seen) (pair (l .rules) (latest seen)) (subst (λ g. Ruled (l .rules) g (latest seen) (pair (l .rules) (latest seen))) e (r .1))
+                break p seen (l .rules) (latest seen) (pair (l .rules) (latest seen)) (subst (λ g. Among g (latest seen) (pair (l .rules) (latest seen)) (l .rules)) e (r .1))
                 (inl (latest-in seen (k .left .first), unseen (pair (l .rules) (latest seen)) (k .order)))
 
         g : breaks p seen (l .rules) ≡ true → (odd || not (eqb (pair (l .rules) (latest seen)) 0)) ≡ true
         g e =
             let o = broken p seen (l .rules) e in
-            let k = ruled-ok l (l .rules) p (o .a) (o .b) (w .rules) (o .rule) in
+            let k = ruled-ok l p (o .a) (o .b) (w .rules) (o .rule) in
             elim (ℕ-discrete (latest seen) (o .a)) [
               | yes z ↦
                   let y : pair (l .rules) (latest seen) ≡ o .b = ap (pair (l .rules)) z ∙ ruled-pair l (l .rules) p (o .a) (o .b) (w .rules) k (o .rule) in
@@ -240,7 +234,7 @@ module _ (l : Listing) (w : WellFormed l) where
       odd-on o = record { a = o .a; b = o .b; rule = o .rule; one = go (o .one); gone = not-a }
         where
           k : BothOk l p (o .a) (o .b)
-          k = ruled-ok l (l .rules) p (o .a) (o .b) (w .rules) (o .rule)
+          k = ruled-ok l p (o .a) (o .b) (w .rules) (o .rule)
 
           not-a : r ≢ o .a
           not-a e = no (o .one)
@@ -264,14 +258,14 @@ module _ (l : Listing) (w : WellFormed l) where
       odd-mate e =
           let m = misses-yes (mate (l .rules) r) (latest seen) e in
           let s = mate-ruled (l .rules) r (m .0) in
-          let k = ruled-ok l (l .rules) (s .0) (mate (l .rules) r) r (w .rules) (s .1) in
+          let k = ruled-ok l (s .0) (mate (l .rules) r) r (w .rules) (s .1) in
           let y : s .0 ≡ p = sym (k .right .parent) ∙ its .parent in
           let ne : r ≢ mate (l .rules) r = omega (arith, k .order) in
           let z : times (mate (l .rules) r) seen ≡ 0 = elim (decLt 0 (times (mate (l .rules) r) seen)) [ yes h ↦ absurd (m .1 (beside (s .0) (mate (l .rules) r) k h)) | no h ↦ omega arith ] in
           record {
             a = mate (l .rules) r;
             b = r;
-            rule = subst (λ g. Ruled (l .rules) g (mate (l .rules) r) r) y (s .1);
+            rule = subst (λ g. Among g (mate (l .rules) r) r (l .rules)) y (s .1);
             one = inr (other (mate (l .rules) r) ne ∙ z, omega (arith, times-hit r r seen refl));
             gone = ne;
           }
@@ -281,13 +275,13 @@ module _ (l : Listing) (w : WellFormed l) where
           let b = pair (l .rules) (latest seen) in
           let m = misses-yes b r e in
           let s = pair-ruled (l .rules) (latest seen) (m .0) in
-          let k = ruled-ok l (l .rules) (s .0) (latest seen) b (w .rules) (s .1) in
+          let k = ruled-ok l (s .0) (latest seen) b (w .rules) (s .1) in
           let y : s .0 ≡ p = sym (k .left .parent) ∙ last-child (k .left .first) .parent in
           let ne : r ≢ latest seen = omega arith in
           record {
             a = latest seen;
             b = b;
-            rule = subst (λ g. Ruled (l .rules) g (latest seen) b) y (s .1);
+            rule = subst (λ g. Among g (latest seen) b (l .rules)) y (s .1);
             one = inl (omega (arith, latest-in seen (k .left .first), other (latest seen) ne), other b (λ z. m .1 (sym z)) ∙ unseen b (k .order));
             gone = ne;
           }
@@ -302,7 +296,7 @@ module _ (l : Listing) (w : WellFormed l) where
       ]
         where
           k : BothOk l p (o .a) (o .b)
-          k = ruled-ok l (l .rules) p (o .a) (o .b) (w .rules) (o .rule)
+          k = ruled-ok l p (o .a) (o .b) (w .rules) (o .rule)
 
           go : r ≢ o .b → Differ (o .a) (o .b) (r ∷ seen) → Differ (o .a) (o .b) seen
           go e (inl d) = inl (omega (arith, d .0, other (o .a) (o .gone)), omega (arith, d .1, other (o .b) e))

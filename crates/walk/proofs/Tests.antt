@@ -11,18 +11,23 @@ use lib.ListN.{length}
 use borrow.Author.Tests.{eqb-true, eqb-false, eq-eqb, ne-eqb, ltb-true, ltb-false, lt-ltb, le-ltb, not-false}
 use Rattle.text.specs.Lists.{Each}
 use Rattle.list.specs.Words.{times, has, Ordered}
-use Rattle.list.specs.Listing.{Kind, group, choice, leaf, Count, alternative, Rule, both, Listing, rowAt, size, Child, isGroup, isChoice, single, required}
+use Rattle.list.specs.Listing.{Leaf, Kind, group, choice, leaf, Count, alternative, Rule, both, Listing, rowAt, size, Child, child, isGroup, isChoice, single, required}
 use Rattle.list.specs.WellFormed.{WellFormed}
 use Rattle.list.specs.Content.{Counts, Keeps, Children}
 use Rattle.xml.specs.Message.{Attrs}
 use Rattle.walk.specs.Types.{Types}
 use Rattle.walk.specs.First.{Found, fine, found, if, orElse, firstOf, empty, passed, breaks, attrsOk, kindOf, over, absent, opening, groupEnd, closing}
-use Rattle.list.proofs.Tests.{or-not}
+use Rattle.text.proofs.Classes.{or-not}
+use Rattle.list.proofs.Child.{child-zero}
 use Rattle.list.proofs.Words.{firstFrom-none, firstFrom-zero, times-hit, times-miss}
 use Rattle.walk.proofs.Answers.{or-fine, if-no, and-not, imp-and, empty-no, no-empty, empty-yes, passed-no, no-passed}
 use Rattle.walk.proofs.Steps.{Fits, Steps, ordered, at-most, steps, one-step, step-one, counted, limit, need}
 
 -- ---- the opening tests
+
+-- a leaf has no child
+pub no-child : (l : Listing) (p : ℕ) (n : List ℕ) → WellFormed l → (f : Leaf) → 0 < p → rowAt l p .kind ≡ leaf f → child l p n ≡ 0
+no-child l p n w f h e = child-zero l p n (λ r g. true≢false (sym (w .parents p r (g .its) h) ∙ ap isGroup e))
 
 pub record Opened (t : Types) (l : Listing) (kp kr : Kind) (seen : List ℕ) (r : ℕ) (ats : Attrs) : Type 0 where
   pub row : 0 < r

@@ -7,20 +7,10 @@ use lib.Dec.{eqb, ltb}
 use Rattle.text.specs.Bytes.{isBlank}
 use Rattle.list.specs.Listing.{Kind, group, choice, leaf, Listing, rowAt, child, isGroup, isChoice, single, nextDue}
 use Rattle.list.specs.Sound.{firstOf as mate, secondOf as pair}
-use Rattle.xml.specs.Message.{Attrs, Parts, none, char, element}
+use Rattle.xml.specs.Message.{Attrs, Parts}
+use Rattle.tags.specs.Story.{Event, char as text, enter, leave, events}
 use Rattle.walk.specs.Types.{Types}
 use Rattle.walk.specs.First.{Found, fine, if, orElse, firstOf, currency, attrsOk, kindOf, isRoot, leafEnd}
-
--- an opening tag, its `<` at a place, with its name and attributes; a character, its first byte at a place; a closing tag
-pub data Event : Type 0 where
-  enter : ℕ → List ℕ → Attrs → Event
-  text : ℕ → ℕ → Event
-  leave : Event
-
-unfoldable pub events : Parts → List Event
-events none = []
-events (char o x k) = text o x ∷ events k
-events (element o n ats i k) = enter o n ats ∷ (events i ++ (leave ∷ events k))
 
 -- an open element: its row, the place of its `<`, the row of its last child (0: none yet), its lowest required child that has not come (0: none),
 -- and whether a row of a rule has come for good without the other
@@ -108,7 +98,7 @@ module _ (t : Types) (l : Listing) where
   run s (e ∷ es) = orElse (test s e) (run (next s e) es)
 
   unfoldable pub walk : Parts → Found
-  walk m = run before (events m)
+  walk m = run before (events m [])
 
   -- the items: a group's at its opening tag, a leaf's at its closing tag
   abbrev pub opens : Kind → ℕ → List (ℕ × Option (t .A))
