@@ -9,10 +9,11 @@ use Rattle.list.specs.WellFormed.{KindOk, WellFormed}
 use Rattle.list.specs.Content.{Content, end, value, node, items}
 use Rattle.xml.specs.Message.{Attrs, Parts, none, char, element}
 use Rattle.tags.specs.Story.{Event, char as text, enter, leave, events}
+use Rattle.walk.specs.declared.level.Level.{Level}
 use Rattle.walk.specs.Types.{Types}
 use Rattle.walk.specs.First.{textOf, currency, kindOf}
 use Rattle.walk.specs.Denotes.{plain, Spells, Denotes, Has}
-use Rattle.walk.specs.Machine.{Level, State, before, at, after, pop, fresh, advance, opens, closes, emits}
+use Rattle.walk.specs.Machine.{State, before, at, after, pop, fresh, advance, opens, closes, emits}
 use Rattle.list.proofs.Child.{child-is}
 
 module _ (t : Types) (l : Listing) (w : WellFormed l) where

@@ -17,10 +17,11 @@ use Rattle.list.specs.Sound.{firstOf as mate, secondOf as pair}
 use Rattle.list.proofs.Words.{firstFrom-ext, times-hit, times-miss, has-of, each-at, each-of}
 use Rattle.xml.specs.Message.{Attrs, Parts, none, char, element}
 use Rattle.tags.specs.Story.{Event, char as text, enter, leave, events}
+use Rattle.walk.specs.declared.level.Level.{Level}
 use Rattle.walk.specs.Types.{Types}
 use Rattle.walk.specs.First.{Found, fine, found, if, orElse, firstOf, empty, passed, breaks, textOf, attrsOk, kindOf, isRoot, over, absent, childRows, opening, closing, inside, firstViolation}
 use Rattle.walk.specs.Denotes.{OneElement}
-use Rattle.walk.specs.Machine.{Level, State, before, at, after, pop, fresh, advance, again, openTest, closeTest, run, walk, misses}
+use Rattle.walk.specs.Machine.{State, before, at, after, pop, fresh, advance, again, openTest, closeTest, run, walk, misses}
 use Rattle.walk.proofs.Answers.{or-right, or-when, or-assoc, if-no, passed-no, no-passed, group-attrs, kinds}
 use Rattle.list.proofs.Child.{child-found}
 use Rattle.walk.proofs.Tests.{no-child}

@@ -7,5 +7,7 @@ pub mod First
 pub mod Denotes
 -- a mirror: the same walk over tags and characters, with five numbers for each open element
 pub mod Machine
+-- a mirror: its numbers and tests over the cells of two tables
+pub mod Tables
 -- messages against the house list, with their first violations
 pub mod Example

@@ -9,17 +9,9 @@ use Rattle.list.specs.Listing.{Kind, group, choice, leaf, Listing, rowAt, child
 use Rattle.list.specs.Sound.{firstOf as mate, secondOf as pair}
 use Rattle.xml.specs.Message.{Attrs, Parts}
 use Rattle.tags.specs.Story.{Event, char as text, enter, leave, events}
+use Rattle.walk.specs.declared.level.Level.{Level}
 use Rattle.walk.specs.Types.{Types}
 use Rattle.walk.specs.First.{Found, fine, if, orElse, firstOf, currency, attrsOk, kindOf, isRoot, leafEnd}
-
--- an open element: its row, the place of its `<`, the row of its last child (0: none yet), its lowest required child that has not come (0: none),
--- and whether a row of a rule has come for good without the other
-pub record Level : Type 0 where
-  pub row : ℕ
-  pub place : ℕ
-  pub last : ℕ
-  pub due : ℕ
-  pub odd : Bool
 
 -- the root is to come; the innermost open element, those around it, and of a leaf its attributes and the characters so far; the root is closed
 pub data State : Type 0 where

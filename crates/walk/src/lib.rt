@@ -1,1 +1,2 @@
-// The walk: a message against any well-formed list, in document order.
+// The walk: a message against any well-formed list, lent as tables, in document order.
+pub mod level; // level.rt: an open element, and the stack of those around it
