@@ -3,11 +3,11 @@ use mathlib.Core.Path.{_≡_, refl, sym, _∙_, ap, subst}
 use mathlib.Core.Bool.{true, false}
 use mathlib.Core.Logic.{_⊎_, inl, inr}
 use mathlib.Core.List.{List}
-use Prim.Native.Nat.{ℕ, zero, suc, _+_, _≤_, _<_}
+use Prim.Native.Nat.{ℕ, zero, suc, _+_, _-_, _≤_, _<_}
 use native.Mathlib.Omega.{arith}
 use native.Mathlib.Decide.{ℕ-discrete, decLt}
 use lib.Dec.{ltb}
-use borrow.Author.Tests.{eq-eqb, ne-eqb, ltb-true}
+use borrow.Author.Tests.{eq-eqb, ne-eqb, ltb-true, lt-ltb, le-ltb}
 use Rattle.text.specs.Lists.{same}
 use Rattle.list.specs.Listing.{Listing, rowAt, size, Child, child, nextDue}
 use Rattle.list.specs.Table.{cell, nameIn, listOf}
@@ -33,6 +33,37 @@ module _ (t pool n : List ℕ) (k r : ℕ) where
   pub along-on : (r ≡ 0 → ⊥) → same (nameIn t pool r) n ≡ false → along t pool n (suc k) r ≡ along t pool n k (cell t r 10)
   unfolding along
   along-on h e = rw (ne-eqb r 0 h, e) refl
+
+-- the same for a loop that counts down
+module _ (t pool n : List ℕ) (k r : ℕ) (some : 0 < k) where
+  one-more : k ≡ suc (k - 1)
+  one-more = omega arith
+
+  count : along t pool n k r ≡ along t pool n (suc (k - 1)) r
+  count = ap (λ m. along t pool n m r) one-more
+
+  pub stop-none : r ≡ 0 → 0 ≡ along t pool n k r
+  stop-none e = sym (count ∙ along-none t pool n (k - 1) r e)
+
+  pub stop-here : (r ≡ 0 → ⊥) → same (nameIn t pool r) n ≡ true → r ≡ along t pool n k r
+  stop-here h e = sym (count ∙ along-here t pool n (k - 1) r h e)
+
+  pub go-on : (r ≡ 0 → ⊥) → same (nameIn t pool r) n ≡ false → along t pool n (k - 1) (cell t r 10) ≡ along t pool n k r
+  go-on h e = sym (count ∙ along-on t pool n (k - 1) r h e)
+
+pub stop-end : (t pool n : List ℕ) (k r : ℕ) → k ≡ 0 → 0 ≡ along t pool n k r
+unfolding along
+stop-end t pool n k r e = rw e refl
+
+-- and for the two searches of `child`
+module _ (t pool n : List ℕ) (p last r : ℕ) (e : r ≡ along t pool n 255 last) where
+  pub from-last : 0 < r → r ≡ childAlong t pool p last n
+  unfolding childAlong
+  from-last h = rw (lt-ltb 0 (along t pool n 255 last) (omega arith)) e
+
+  pub from-first : r ≤ 0 → along t pool n 255 (cell t p 9) ≡ childAlong t pool p last n
+  unfolding childAlong
+  from-first h = rw (le-ltb 0 (along t pool n 255 last) (omega arith)) refl
 
 -- ---- under soundness
 

@@ -18,11 +18,11 @@ each-get P (v ∷ vs) e zero h = e .0
 each-get P (v ∷ vs) e (suc k) h = each-get P vs (e .1) k (omega arith)
 
 module _ (w : List ℕ) where
-  place-here : (i : ℕ) (v : List ℕ) (vs : List (List ℕ)) → same v w ≡ true → placeFrom i (v ∷ vs) w ≡ i
+  pub place-here : (i : ℕ) (v : List ℕ) (vs : List (List ℕ)) → same v w ≡ true → placeFrom i (v ∷ vs) w ≡ i
   unfolding placeFrom
   place-here i v vs e = rw e refl
 
-  place-on : (i : ℕ) (v : List ℕ) (vs : List (List ℕ)) → same v w ≡ false → placeFrom i (v ∷ vs) w ≡ placeFrom (suc i) vs w
+  pub place-on : (i : ℕ) (v : List ℕ) (vs : List (List ℕ)) → same v w ≡ false → placeFrom i (v ∷ vs) w ≡ placeFrom (suc i) vs w
   unfolding placeFrom
   place-on i v vs e = rw e refl
 

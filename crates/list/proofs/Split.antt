@@ -2,19 +2,21 @@
 use mathlib.Core.Path.{_≡_, refl, sym, _∙_, ap, ap₂}
 use mathlib.Core.Bool.{Bool, true, false, cond, not}
 use mathlib.Core.List.{List, [], _∷_}
-use Prim.Native.Nat.{ℕ, zero, suc, _+_, _-_, _≤_, _<_}
+use Prim.Native.Nat.{ℕ, zero, suc, min, _+_, _-_, _≤_, _<_}
 use native.Mathlib.Nat.{suc-add}
 use native.Mathlib.Numerals.{add-one, one-add}
 use native.Mathlib.Omega.{arith}
+use native.Mathlib.Decide.{decLt}
 use lib.Dec.{eqb}
 use lib.ListN.{length, getD, take, drop, length-drop, length-take}
-use lib.Seq.{slice, slice-empty, slice-cons, length-slice, take-take, take-nil, drop-nil, take-length, drop-drop}
+use lib.Seq.{slice, slice-empty, slice-cons, length-slice, take-take, take-nil, drop-nil, take-all, take-length, drop-drop}
 use borrow.Author.Tests.{eq-eqb, ne-eqb}
-use Rattle.text.specs.Lists.{span}
+use Rattle.text.specs.Lists.{span, same}
 use Rattle.text.proofs.Spans.{span-le}
-use Rattle.list.specs.Table.{words, longer}
+use Rattle.list.specs.Table.{words, longer, placeFrom}
 use Rattle.list.specs.Lookup.{notSpace}
 use Rattle.list.proofs.Tests.{byCases}
+use Rattle.list.proofs.Places.{place-here, place-on}
 
 -- ---- by the first space
 
@@ -109,3 +111,28 @@ module _ (pool : List ℕ) (i e j : ℕ) (to : e ≤ length pool) (at : j ≡ i 
       words-more (slice i e pool) (span notSpace (slice i e pool)) refl (omega (arith, long))
       ∙ ap₂ (λ w ws. w ∷ words ws) first
       (drop-drop (suc (span notSpace (slice i e pool))) i (take e pool) ∙ ap (λ x. slice x e pool) n)
+
+-- ---- looking for a word
+
+-- an end past the pool's is the pool's
+pub slice-least : (pool : List ℕ) (i x e : ℕ) → e ≡ min x (length pool) → slice i e pool ≡ slice i x pool
+slice-least pool i x e h = elim (decLt x (length pool)) [
+  | yes k ↦ let z : e ≡ x = omega arith in ap (λ n. slice i n pool) z
+  | no k ↦ let z : e ≡ length pool = omega arith in ap (λ n. slice i n pool) z ∙ ap (drop i) (take-length pool ∙ sym (take-all x pool (omega arith)))
+]
+
+module _ (pool w : List ℕ) (i e j place : ℕ) (to : e ≤ length pool) (at : j ≡ i + span notSpace (slice i e pool)) where
+  pub word-here : same (slice i j pool) w ≡ true → place ≡ placeFrom place (words (slice i e pool)) w
+  word-here y = elim (decLt j e) [
+    | yes h ↦ sym (ap (λ ws. placeFrom place ws w) (next-word pool i e j to at h) ∙ place-here w place (slice i j pool) _ y)
+    | no h ↦ sym (ap (λ ws. placeFrom place ws w) (last-word pool i e j to at (omega arith)) ∙ place-here w place (slice i j pool) [] y)
+  ]
+
+  pub word-none : same (slice i j pool) w ≡ false → e ≤ j → 0 ≡ placeFrom place (words (slice i e pool)) w
+  unfolding placeFrom
+  word-none n h = sym (ap (λ ws. placeFrom place ws w) (last-word pool i e j to at h) ∙ place-on w place (slice i j pool) [] n)
+
+  pub word-on : same (slice i j pool) w ≡ false → j < e → placeFrom (place + 1) (words (slice (j + 1) e pool)) w ≡ placeFrom place (words (slice i e pool)) w
+  word-on n h =
+      rw (add-one place)
+      (sym (ap (λ ws. placeFrom place ws w) (next-word pool i e j to at h) ∙ place-on w place (slice i j pool) (words (slice (j + 1) e pool)) n))

@@ -2,12 +2,21 @@
 use crate::lookup::cell;
 use crate::table::WORDS;
 use crate::table::WORDS_END;
+use text::part::same_part;
 ghost use mathlib.Core.Path.{_≡_};
-ghost use Prim.Native.Nat.{_+_, _≤_};
+ghost use Prim.Native.Nat.{_+_, _≤_, min};
 ghost use lib.ListN.{length};
 ghost use lib.Seq.{slice};
 ghost use Rattle.text.specs.Lists.{span};
+ghost use Rattle.list.specs.Table.{placeIn, wordsIn};
 ghost use Rattle.list.specs.Lookup.{notSpace};
+
+// The lesser of two numbers.
+fn least(x: usize, y: usize) -> usize
+    ensures { λ r. ⌜ r ≡ min x y ⌝ }
+{
+    if x < y { x } else { y }
+}
 
 // Where the word that starts at `i` ends: at the next space, and at `end` where there is none.
 fn word_end(pool: &[u8], i: usize, end: usize) -> usize
@@ -22,4 +31,24 @@ fn word_end(pool: &[u8], i: usize, end: usize) -> usize
         j += 1;
     }
     j
+}
+
+// The place, from 1, of s from a to b among the words of row r; 0 where it is none of them.
+pub fn word_place(rows: &[u16], pool: &[u8], r: usize, s: &[u8], a: usize, b: usize) -> usize
+    ensures { λ x. ⌜ x ≡ placeIn (wordsIn (now (rows .entry)) (now (pool .entry)) r) (slice a b (now (s .entry))) ⌝ }
+{
+    let end = least(cell(rows, r, WORDS_END), pool.len());
+    let mut i = cell(rows, r, WORDS);
+    let mut place = 1;
+    loop {
+        let j = word_end(pool, i, end);
+        if same_part(pool, i, j, s, a, b) {
+            return place;
+        }
+        if end <= j {
+            return 0;
+        }
+        i = j + 1;
+        place += 1;
+    }
 }
