@@ -63,7 +63,7 @@ attribute-lies o l =
 
 -- ---- all of them, on any bytes
 
-some-end : (o : ℕ) (l : List ℕ) → isNone (attributeAt o l) ≡ false → o < attributeAt o l .end
+pub some-end : (o : ℕ) (l : List ℕ) → isNone (attributeAt o l) ≡ false → o < attributeAt o l .end
 some-end o l e =
     let h = attribute-lies o l in
     let n = eqb-false (attributeAt o l .stop) (attributeAt o l .name) e in
@@ -89,6 +89,34 @@ fuel (suc f) (suc g) o l h k = go (isNone (attributeAt o l)) refl (λ a b. fuel 
         let n = attribute-lies o l .end in
         let d = length-drop (attributeAt o l .end - o) l in
         ap counted (ih (omega arith) (omega arith))
+
+-- they end within the bytes, and each has a byte at least
+pub record Between (o e : ℕ) (p : Passed) : Type 0 where
+  pub low : o + p .count ≤ p .end
+  pub high : p .end ≤ e
+
+between-from : (f o : ℕ) (l : List ℕ) → Between o (o + length l) (passedFrom f o l)
+unfolding passedFrom
+between-from zero o l = record { low = omega arith; high = omega arith }
+between-from (suc f) o l = go (isNone (attributeAt o l)) refl (between-from f (attributeAt o l .end) (drop (attributeAt o l .end - o) l))
+  where
+    left : List ℕ
+    left = drop (attributeAt o l .end - o) l
+
+    go : (b : Bool) → isNone (attributeAt o l) ≡ b → Between (attributeAt o l .end) (attributeAt o l .end + length left) (passedFrom f (attributeAt o l .end) left)
+        → Between o (o + length l) (cond b (record { count = 0; end = attributeAt o l .name }) (counted (passedFrom f (attributeAt o l .end) left)))
+    go true e ih =
+        let h = attribute-lies o l in
+        record { low = omega (arith, h .gap); high = omega (arith, h .name, h .equal, h .value, h .quote, h .end) }
+    go false e ih =
+        let m = some-end o l e in
+        let n = attribute-lies o l .end in
+        let d = length-drop (attributeAt o l .end - o) l in
+        record { low = omega (arith, ih .low); high = omega (arith, ih .high) }
+
+pub passed-between : (o : ℕ) (l : List ℕ) → Between o (o + length l) (passedAt o l)
+unfolding passedAt
+passed-between o l = between-from (suc (length l)) o l
 
 pub passed-none : (o : ℕ) (l : List ℕ) → isNone (attributeAt o l) ≡ true → passedAt o l ≡ record { count = 0; end = attributeAt o l .name }
 unfolding passedAt passedFrom

@@ -7,6 +7,8 @@ pub mod Avoid
 pub mod Attributes
 -- a text, and a tag
 pub mod Tokens
+-- the mirrors at a place of any text, from what the code's calls told
+pub mod Steps
 -- parts of a text by their places
 pub mod Slices
 -- where the root begins

@@ -4,14 +4,14 @@ use mathlib.Core.Bool.{Bool, true, false, not, true≢false}
 use mathlib.Core.List.{List, [], _∷_, _++_}
 use Prim.Native.Nat.{ℕ, zero, suc, _+_, _≤_, _<_}
 use native.Mathlib.Omega.{arith}
+use native.Mathlib.Decide.{decLt}
 use lib.Dec.{eqb}
-use lib.ListN.{length, drop, length-drop}
-use lib.Seq.{drop-append-seam, drop-append-add, drop-drop}
-use borrow.Author.Tests.{eqb-true, ne-eqb}
-use Rattle.text.specs.Bytes.{isBlank, isNamePart, isNameStart}
+use lib.ListN.{length, getD, drop, drop-of-length-le}
+use lib.Seq.{drop-append-seam, drop-append-add, drop-drop, drop-cons}
+use borrow.Author.Tests.{eq-eqb, ne-eqb}
 use Rattle.text.specs.Lists.{All, span}
-use Rattle.text.proofs.Spans.{span-of, span-le}
-use Rattle.tags.specs.Passing.{but, noQuote, pass, one, behind}
+use Rattle.text.proofs.Spans.{span-of, span-le, span-stop, span-go}
+use Rattle.tags.specs.Passing.{but, noQuote, pass, one, headIs}
 
 -- ---- all that pass a test
 
@@ -73,3 +73,38 @@ module _ {A : Type 0} (p : ℕ → Bool) (f : ℕ → List ℕ → A) where
 pub one-le : (l : List ℕ) → one l ≤ length l
 one-le [] = omega arith
 one-le (x ∷ l) = omega arith
+
+-- ---- at a place of any list
+
+pub past-go : (s : List ℕ) (i : ℕ) → i < length s → i + 1 ≡ i + one (drop i s)
+past-go s i h = rw (drop-cons s i 0 h)
+
+pub past-end : (s : List ℕ) (i : ℕ) → length s ≤ i → i ≡ i + one (drop i s)
+past-end s i h = rw (drop-of-length-le s h) (omega arith)
+
+pub head-at : (b : ℕ) (s : List ℕ) (i : ℕ) → i < length s → eqb (getD s i 0) b ≡ headIs b (drop i s)
+head-at b s i h = rw (drop-cons s i 0 h)
+
+pub head-end : (b : ℕ) (s : List ℕ) (i : ℕ) → length s ≤ i → false ≡ headIs b (drop i s)
+head-end b s i h = rw (drop-of-length-le s h)
+
+-- a byte that was found is there
+pub head-in : (b : ℕ) (s : List ℕ) (i : ℕ) → headIs b (drop i s) ≡ true → i < length s
+head-in b s i e = go (decLt i (length s))
+  where
+    go : Dec (i < length s) → i < length s
+    go (yes h) = h
+    go (no h) = absurd (true≢false (sym e ∙ sym (head-end b s i (omega arith))))
+
+-- a loop up to b that has come to i
+module _ (b : ℕ) (s : List ℕ) (i n : ℕ) (w : i + span (but b) (drop i s) ≡ n) (h : i < length s) where
+  pub until-found : getD s i 0 ≡ b → i ≡ n
+  until-found e = omega (arith, span-stop (but b) s i h (ap not (eq-eqb (getD s i 0) b e)))
+
+  pub until-again : (getD s i 0 ≡ b → ⊥) → i + 1 + span (but b) (drop (i + 1) s) ≡ n
+  until-again f = omega (arith, span-go (but b) s i h (but-other b (getD s i 0) f))
+
+-- a byte that is neither quote
+pub no-quote : (x : ℕ) → (x ≡ 34 → ⊥) → (x ≡ 39 → ⊥) → noQuote x ≡ true
+unfolding noQuote
+no-quote x a b = rw (ne-eqb x 34 a, ne-eqb x 39 b)

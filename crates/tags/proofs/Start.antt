@@ -36,5 +36,4 @@ start-is true b n w h i =
     pass-over (but greater) (λ o m. rootFrom (o + one m) (drop (one m) m)) 0 declared (62 ∷ (b ++ (60 ∷ (n ++ w)))) (all-passed (but greater) declared refl) (stops (but greater) 62 _ refl)
     ∙ root-from (length (declaration true)) b (n ++ w) h
 start-is false [] n w h i = rw (name-no-question n w i) (root-from 0 [] (n ++ w) h)
-start-is false (x ∷ b) n w h i =
-    rw (ne-eqb x 60 (λ e. true≢false (sym (h .0) ∙ ap isBlank e))) (root-from 0 (x ∷ b) (n ++ w) h)
+start-is false (x ∷ b) n w h i = rw (ne-eqb x 60 (λ e. true≢false (sym (h .0) ∙ ap isBlank e))) (root-from 0 (x ∷ b) (n ++ w) h)

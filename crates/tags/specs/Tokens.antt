@@ -1,7 +1,7 @@
 -- A mirror: how the cursor passes a text and the tag behind it. Assumes nothing.
 use mathlib.Core.Bool.{Bool, true, false, cond, _&&_}
 use mathlib.Core.List.{List, [], _∷_}
-use Prim.Native.Nat.{ℕ, _+_, _-_}
+use Prim.Native.Nat.{ℕ, _+_, _-_, min}
 use lib.Dec.{eqb}
 use lib.ListN.{drop}
 use Rattle.text.specs.Bytes.{isBlank, isNamePart}
@@ -20,11 +20,10 @@ bare k o e = record { kind = k; less = o; stop = o; attributes = 0; first = nowh
 
 -- a tag with its `<` at o and its name up to e, n attributes, the first of them a; its `/` or `>` is at z
 unfoldable pub shutAt : ℕ → ℕ → ℕ → Attribute → ℕ → List ℕ → Token
-shutAt o e n a z [] = record { kind = Open; less = o; stop = e; attributes = n; first = a; end = z }
-shutAt o e n a z (x ∷ l) =
-    cond (eqb x solidus)
-    (record { kind = Empty; less = o; stop = e; attributes = n; first = a; end = z + 1 + one l })
-    (record { kind = Open; less = o; stop = e; attributes = n; first = a; end = z + 1 })
+shutAt o e n a z l =
+    cond (headIs solidus l)
+    (record { kind = Empty; less = o; stop = e; attributes = n; first = a; end = z + 1 + one (drop 1 l) })
+    (record { kind = Open; less = o; stop = e; attributes = n; first = a; end = z + one l })
 
 -- behind the name
 unfoldable pub tailAt : ℕ → ℕ → List ℕ → Token
@@ -43,9 +42,16 @@ tokenAt o l = pass (but less) tagAt o l
 unfoldable pub rootFrom : ℕ → List ℕ → ℕ
 rootFrom o l = o + span isBlank l
 
+-- it begins as a declaration does
+abbrev pub isDeclared : List ℕ → Bool
+isDeclared l = headIs less l && headIs 63 (drop 1 l)
+
 unfoldable pub startOf : List ℕ → ℕ
-startOf [] = 0
-startOf (x ∷ l) =
-    cond (eqb x less && headIs 63 l)
-    (pass (but greater) (λ o m. rootFrom (o + one m) (drop (one m) m)) 0 (x ∷ l))
-    (rootFrom 0 (x ∷ l))
+startOf l =
+    cond (isDeclared l)
+    (pass (but greater) (λ o m. rootFrom (o + one m) (drop (one m) m)) 0 l)
+    (rootFrom 0 l)
+
+-- the first byte from a to b that is no blank, or b
+abbrev pub inkIn : List ℕ → ℕ → ℕ → ℕ
+inkIn s a b = min (a + span isBlank (drop a s)) b

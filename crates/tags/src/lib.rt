@@ -1,3 +1,5 @@
-// The cursor: it goes over a text that is known to be house XML, tag by tag, and answers with places only.
+// The cursor: it goes once over a text that is known to be house XML, from tag to tag, and answers with places only. On other bytes
+// it answers something too: no place past the end, and each answer further on than the last.
 pub mod attribute; // attribute.rt: one attribute, and how many there are
-pub mod token; // token.rt: the text up to the next tag, and that tag
+mod pass; // pass.rt: up to a byte, and over it
+pub mod token; // token.rt: a text and the tag behind it; where the root begins; where a text has ink

@@ -1,0 +1,62 @@
+// Up to a byte, and over it. A place past the end is its own answer.
+
+ghost use mathlib.Core.Path.{_≡_};
+ghost use Prim.Native.Nat.{_+_};
+ghost use lib.ListN.{drop};
+ghost use Rattle.text.specs.Lists.{span};
+ghost use Rattle.tags.specs.Passing.{but, noQuote, one, headIs};
+
+// The first byte b from a place on, or the end.
+pub(crate) fn until(s: &[u8], at: usize, b: u8) -> usize
+    ensures { λ r. ⌜ r ≡ at + span (but b) (drop at (now (s .entry))) ⌝ }
+{
+    let mut i = at;
+    while i < s.len() {
+        if s[i] == b {
+            return i;
+        }
+        i += 1;
+    }
+    i
+}
+
+// The first quote of either kind from a place on, or the end.
+pub(crate) fn until_quote(s: &[u8], at: usize) -> usize
+    ensures { λ r. ⌜ r ≡ at + span noQuote (drop at (now (s .entry))) ⌝ }
+{
+    let mut i = at;
+    while i < s.len() {
+        if !no_quote(s[i]) {
+            return i;
+        }
+        i += 1;
+    }
+    i
+}
+
+fn no_quote(b: u8) -> bool
+    ensures { λ r. ⌜ r ≡ noQuote b ⌝ }
+{
+    match b {
+        34 => false,
+        39 => false,
+        _ => true,
+    }
+}
+
+// Over one byte, where there is one.
+pub(crate) fn past(s: &[u8], at: usize) -> usize
+    ensures { λ r. ⌜ r ≡ at + one (drop at (now (s .entry))) ⌝ }
+{
+    if at < s.len() { at + 1 } else { at }
+}
+
+// Whether a byte b stands at a place.
+pub(crate) fn byte_is(s: &[u8], at: usize, b: u8) -> bool
+    ensures { λ r. ⌜ r ≡ headIs b (drop at (now (s .entry))) ⌝ }
+{
+    if s.len() <= at {
+        return false;
+    }
+    s[at] == b
+}
