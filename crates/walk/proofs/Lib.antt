@@ -17,3 +17,5 @@ pub mod Machine
 pub mod Items
 -- the examples
 pub mod Examples
+-- the tests of a tag over the tables, from what the code's calls told
+pub mod Says

@@ -7,7 +7,19 @@ use lib.ListN.{getD, set}
 use Rattle.list.specs.Table.{cell}
 use Rattle.list.specs.Lookup.{dueAfter}
 use Rattle.walk.specs.declared.level.Level.{Level}
+use Rattle.walk.specs.declared.verdict.Verdict.{Verdict}
 use Rattle.walk.specs.Machine.{misses}
+
+abbrev pub says : ℕ → ℕ → ℕ → Verdict
+says c r o = record { code = c; row = r; place = o }
+
+-- no violation so far
+abbrev pub nothing : Verdict
+nothing = says 0 0 0
+
+-- a kind's number is no leaf's
+unfoldable pub isGroupIn : ℕ → Bool
+isGroupIn c = not (leb 2 c && leb c 11)
 
 module _ (t : List ℕ) where
   abbrev pub freshIn : ℕ → ℕ → Level
@@ -21,6 +33,30 @@ module _ (t : List ℕ) where
 
   abbrev pub advanceIn : Level → ℕ → Level
   advanceIn lv r = record { row = lv .row; place = lv .place; last = r; due = nextIn (lv .row) (lv .due) r; odd = oddIn (lv .odd) (lv .last) r }
+
+  -- ---- the tests of a tag
+
+  unfoldable pub passedIn : Level → ℕ → Bool
+  passedIn lv r = not (eqb (cell t (lv .row) 2) 1) && ltb r (lv .last)
+
+  unfoldable pub againIn : Level → ℕ → Bool
+  againIn lv r = cond (eqb (cell t (lv .row) 2) 1) (not (eqb (lv .last) 0)) (leb (cell t r 1) 1 && eqb (lv .last) r)
+
+  unfoldable pub openingIn : Level → ℕ → Bool → ℕ → Verdict
+  openingIn lv r own o =
+      cond (eqb r 0) (says 5 (lv .row) o)
+      (cond (passedIn lv r) (says 6 r o)
+      (cond (againIn lv r) (says 7 r o)
+      (cond (not own) (says 9 r o) nothing)))
+
+  unfoldable pub brokenIn : Level → Bool
+  brokenIn lv = lv .odd || not (eqb (cell t (lv .last) 13) 0)
+
+  unfoldable pub groupEndIn : Level → Verdict
+  groupEndIn lv =
+      cond (eqb (lv .last) 0) (says 11 (lv .row) (lv .place))
+      (cond (ltb 0 (lv .due)) (says 8 (lv .due) (lv .place))
+      (cond (brokenIn lv) (says 13 (lv .row) (lv .place)) nothing))
 
 -- ---- the stack
 
