@@ -1,6 +1,6 @@
 -- A child by its name. Assumes nothing.
 use mathlib.Core.Path.{_≡_, refl, sym, _∙_}
-use mathlib.Core.Bool.{Bool, true, _&&_}
+use mathlib.Core.Bool.{Bool, _&&_}
 use mathlib.Core.List.{List}
 use Prim.Native.Nat.{ℕ, zero, suc, _<_}
 use native.Mathlib.Omega.{arith}
@@ -8,7 +8,6 @@ use lib.Dec.{eqb}
 use borrow.Author.Tests.{eqb-true, eq-eqb}
 use Rattle.text.specs.Lists.{same}
 use Rattle.text.proofs.Classes.{and-is}
-use Rattle.list.specs.Words.{firstFrom}
 use Rattle.list.specs.Listing.{Listing, rowAt, size, Child, child}
 use Rattle.list.specs.WellFormed.{WellFormed}
 use Rattle.list.proofs.Tests.{clash}

@@ -1,11 +1,10 @@
 -- Every row of a well-formed list keeps to the rules. Assumes nothing.
-use mathlib.Core.Path.{_≡_, refl, sym, _∙_, subst}
-use mathlib.Core.Bool.{true}
-use mathlib.Core.Logic.{_⊎_, inl, inr}
-use Prim.Native.Nat.{ℕ, _<_}
+use mathlib.Core.Path.{subst}
+use mathlib.Core.Logic.{inl, inr}
+use Prim.Native.Nat.{ℕ}
 use native.Mathlib.Omega.{arith}
 use native.Mathlib.Decide.{ℕ-discrete}
-use Rattle.list.specs.Listing.{Listing, rowAt, Child, isGroup}
+use Rattle.list.specs.Listing.{Listing, Child}
 use Rattle.list.specs.WellFormed.{WellFormed}
 use Rattle.list.specs.EachRow.{EachRow}
 use Rattle.list.specs.House.{house}

@@ -1,6 +1,6 @@
 -- The constants say the house list, and they are sound: two computed equations. Assumes nothing.
 use mathlib.Core.Path.{_≡_, refl}
-use mathlib.Core.Bool.{Bool, true}
+use mathlib.Core.Bool.{true}
 use Rattle.text.specs.Lists.{same}
 use Rattle.text.specs.Bytes.{isCapital, isNameStart, isNamePart}
 use Rattle.list.specs.Words.{firstFrom}

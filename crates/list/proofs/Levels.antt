@@ -1,11 +1,11 @@
 -- The level of a row is one more than its parent's, and at most 16. Assumes nothing.
-use mathlib.Core.Path.{_≡_, refl, sym, _∙_, ap, subst}
+use mathlib.Core.Path.{_≡_, refl, ap, subst}
 use mathlib.Core.Bool.{Bool, true, false, cond}
-use Prim.Native.Nat.{ℕ, zero, suc, _≤_, _<_, zero-le, suc-le-suc}
+use Prim.Native.Nat.{ℕ, zero, suc, _≤_, zero-le, suc-le-suc}
 use native.Mathlib.Omega.{arith}
 use lib.Dec.{eqb}
 use borrow.Author.Tests.{eq-eqb, ne-eqb}
-use Rattle.list.specs.Listing.{Listing, rowAt, size, Child, up}
+use Rattle.list.specs.Listing.{Listing, rowAt, Child, up}
 use Rattle.list.specs.WellFormed.{WellFormed}
 use Rattle.list.specs.Sound.{levelIn, level}
 

@@ -7,6 +7,8 @@ pub mod Words
 pub mod Cells
 -- the cells of a row are the row's
 pub mod Rows
+-- the numbers for counts and kinds, as code tests them
+pub mod Codes
 -- the next child, and the next required one
 pub mod Next
 -- a child by its name

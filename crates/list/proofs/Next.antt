@@ -1,18 +1,17 @@
 -- The lowest child above a row, and the lowest required one. Assumes nothing.
-use mathlib.Core.Path.{_≡_, refl, sym, _∙_, ap, subst}
+use mathlib.Core.Path.{_≡_, refl, sym, _∙_, ap}
 use mathlib.Core.Bool.{Bool, true, false, _&&_, false≢true}
-use Prim.Native.Nat.{ℕ, zero, suc, pred, _+_, _-_, _≤_, _<_}
+use Prim.Native.Nat.{ℕ, zero, suc, _-_, _≤_, _<_}
 use native.Mathlib.Omega.{arith}
 use native.Mathlib.Decide.{decLt}
 use lib.Dec.{eqb}
-use lib.ListN.{length, List·getD-eq-default}
+use lib.ListN.{List·getD-eq-default}
 use borrow.Author.Tests.{eqb-true, eq-eqb}
 use Rattle.text.proofs.Classes.{and-is}
-use Rattle.list.specs.Words.{firstFrom}
 use Rattle.list.specs.Listing.{Listing, size, noRow, rowAt, Child, required, nextDue}
 use Rattle.list.specs.Sound.{nextChild}
 use Rattle.list.proofs.Tests.{byCases, clash}
-use Rattle.list.proofs.Words.{First, firstFrom-none, firstFrom-some, firstFrom-is}
+use Rattle.list.proofs.Words.{firstFrom-none, firstFrom-some, firstFrom-is}
 
 -- a number above the last row is no row
 pub row-past : (l : Listing) (r : ℕ) → size l < r → rowAt l r ≡ noRow

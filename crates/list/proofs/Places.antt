@@ -1,14 +1,14 @@
 -- The place of a word among words. Assumes nothing.
-use mathlib.Core.Path.{_≡_, refl, sym, _∙_, ap, subst}
-use mathlib.Core.Bool.{Bool, true, false, cond}
+use mathlib.Core.Path.{_≡_, refl, sym, _∙_, ap}
+use mathlib.Core.Bool.{true, false}
 use mathlib.Core.List.{List, [], _∷_}
-use Prim.Native.Nat.{ℕ, zero, suc, _+_, _≤_, _<_}
+use Prim.Native.Nat.{ℕ, zero, suc, _+_, _<_}
 use native.Mathlib.Omega.{arith}
 use lib.ListN.{length, getD}
 use Rattle.text.specs.Lists.{Each, same}
-use Rattle.list.specs.WellFormed.{Fresh, Different}
+use Rattle.list.specs.WellFormed.{Different}
 use Rattle.list.specs.Table.{placeFrom, placeIn}
-use Rattle.list.proofs.Tests.{byCases, clash}
+use Rattle.list.proofs.Tests.{byCases}
 use Rattle.list.proofs.Words.{same-eq, same-of}
 
 -- what holds of each word holds of one at its place

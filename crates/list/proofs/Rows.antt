@@ -1,10 +1,10 @@
 -- The cells of a row are the row's. Assumes nothing.
-use mathlib.Core.Path.{_≡_, refl, sym, _∙_, ap, subst}
-use mathlib.Core.List.{List, [], _∷_}
+use mathlib.Core.Path.{_≡_, refl, _∙_, ap}
+use mathlib.Core.List.{List}
 use Prim.Native.Nat.{ℕ, zero, suc, _+_, _≤_, _<_}
 use native.Mathlib.Omega.{arith}
 use lib.ListN.{length, getD}
-use Rattle.list.specs.Listing.{Row, Kind, Count, Listing, size, noRow, rowAt}
+use Rattle.list.specs.Listing.{Row, size, noRow, rowAt}
 use Rattle.list.specs.Table.{cell, countOf, kindOf, nameIn, wordsIn, rowOf, rowsFrom, listOf}
 
 module _ (t pool : List ℕ) where

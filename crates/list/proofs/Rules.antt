@@ -1,15 +1,14 @@
 -- A table's rules: the columns of the two rows name each other. Assumes nothing.
 use mathlib.Core.Path.{_≡_, refl, sym, _∙_, ap, subst}
-use mathlib.Core.Bool.{Bool, true, false, cond}
-use mathlib.Core.Logic.{_⊎_, inl, inr, ⊎-elim}
+use mathlib.Core.Logic.{_⊎_, inl, inr}
 use mathlib.Core.List.{List, [], _∷_}
 use Prim.Native.Nat.{ℕ, zero, suc, _+_, _≤_, _<_}
 use native.Mathlib.Omega.{arith}
 use native.Mathlib.Decide.{ℕ-discrete, decLt}
 use lib.Dec.{eqb}
-use borrow.Author.Tests.{eqb-true, eqb-false, eq-eqb, ne-eqb}
+use borrow.Author.Tests.{eqb-true, eq-eqb, ne-eqb}
 use Rattle.text.specs.Lists.{Each}
-use Rattle.list.specs.Listing.{Rule, both, Listing, rowAt, size, Child}
+use Rattle.list.specs.Listing.{Rule, both, Listing, size}
 use Rattle.list.specs.WellFormed.{BothOk, RuleOk}
 use Rattle.list.specs.Table.{cell, rulesFrom, listOf}
 use Rattle.list.specs.Sound.{secondOf, Sound}

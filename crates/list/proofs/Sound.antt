@@ -3,22 +3,22 @@ use mathlib.Core.Path.{_≡_, refl, sym, _∙_, ap, subst}
 use mathlib.Core.Bool.{Bool, true, false, _&&_, _||_, not, true≢false, false≢true}
 use mathlib.Core.Logic.{_≢_, ⊎-elim}
 use mathlib.Core.List.{List, [], _∷_}
-use Prim.Native.Nat.{ℕ, zero, suc, _+_, _-_, _≤_, _<_}
+use Prim.Native.Nat.{ℕ, zero, suc, _≤_, _<_}
 use native.Mathlib.Omega.{arith}
 use native.Mathlib.Decide.{ℕ-discrete}
 use lib.Dec.{eqb, ltb, leb}
 use lib.ListN.{length}
-use borrow.Author.Tests.{eqb-true, eq-eqb, ne-eqb, ltb-true, leb-true, lt-ltb, le-ltb, lt-leb, not-true, not-false}
+use borrow.Author.Tests.{eqb-true, eq-eqb, ne-eqb, ltb-true, leb-true, lt-leb, not-true, not-false}
 use Rattle.text.specs.Bytes.{inRange, isCapital, isNameStart, isNamePart}
 use Rattle.text.specs.Lists.{Each, All, Begins, same}
 use Rattle.text.proofs.Classes.{and-is, or-is, or-not, in-range-is}
 use Rattle.list.specs.Words.{firstFrom}
-use Rattle.list.specs.Listing.{Leaf, ref, iban, ccy, bool, num, amt, date, dtm, txt, enum, Kind, group, choice, leaf, Count, one, optional, some, any, alternative, Rule, both, Listing, size, rowAt, Child, isGroup, nextDue, up}
+use Rattle.list.specs.Listing.{Leaf, ref, iban, ccy, bool, num, amt, date, dtm, txt, enum, Kind, group, choice, leaf, Count, one, optional, some, any, alternative, Rule, both, Listing, size, rowAt, Child, isGroup, up}
 use Rattle.list.specs.WellFormed.{Fresh, Different, LeafOk, KindOk, BothOk, RuleOk, WellFormed}
-use Rattle.list.specs.Table.{cell, listOf}
-use Rattle.list.specs.Sound.{nextChild, firstOf, secondOf, levelIn, Derived, Sound}
+use Rattle.list.specs.Table.{listOf}
+use Rattle.list.specs.Sound.{nextChild, Derived, Sound}
 use Rattle.list.specs.Test.{allOf, each, every, begins, among, wordsOk, leafOk, kindOk, isSequence, isAlternative, isOne, isOptional, countFits, isChild, rowTests, ruleTests, rulesOk, listTests, derivedTests, well, derived, sound}
-use Rattle.list.proofs.Tests.{byCases, clash, all-of}
+use Rattle.list.proofs.Tests.{clash, all-of}
 use Rattle.list.proofs.Words.{same-of, firstFrom-none}
 use Rattle.list.proofs.Next.{next-child}
 

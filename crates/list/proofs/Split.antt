@@ -1,6 +1,6 @@
 -- A text's words, one after the other. Assumes nothing.
 use mathlib.Core.Path.{_≡_, refl, sym, _∙_, ap, ap₂}
-use mathlib.Core.Bool.{Bool, true, false, cond, not}
+use mathlib.Core.Bool.{Bool, true, false}
 use mathlib.Core.List.{List, [], _∷_}
 use Prim.Native.Nat.{ℕ, zero, suc, min, _+_, _-_, _≤_, _<_}
 use native.Mathlib.Nat.{suc-add}
@@ -13,7 +13,7 @@ use lib.Seq.{slice, slice-empty, slice-cons, length-slice, take-take, take-nil, 
 use borrow.Author.Tests.{eq-eqb, ne-eqb}
 use Rattle.text.specs.Lists.{span, same}
 use Rattle.text.proofs.Spans.{span-le}
-use Rattle.list.specs.Table.{words, longer, placeFrom}
+use Rattle.list.specs.Table.{words, longer, placeFrom, placeIn}
 use Rattle.list.specs.Lookup.{notSpace}
 use Rattle.list.proofs.Tests.{byCases}
 use Rattle.list.proofs.Places.{place-here, place-on}
@@ -99,13 +99,13 @@ module _ (pool : List ℕ) (i e j : ℕ) (to : e ≤ length pool) (at : j ≡ i 
   first = slice-take (span notSpace (slice i e pool)) i e pool most ∙ ap (λ n. slice i n pool) (sym at)
 
   -- it ends there
-  pub last-word : e ≤ j → words (slice i e pool) ≡ slice i j pool ∷ []
+  last-word : e ≤ j → words (slice i e pool) ≡ slice i j pool ∷ []
   last-word h =
       let k : span notSpace (slice i e pool) ≡ length (slice i e pool) = omega (arith, most, long) in
       words-last (slice i e pool) k ∙ ap (λ w. w ∷ []) (sym (take-length (slice i e pool)) ∙ ap (λ n. take n (slice i e pool)) (sym k) ∙ first)
 
   -- a space stands there, and then the words behind it
-  pub next-word : j < e → words (slice i e pool) ≡ slice i j pool ∷ words (slice (j + 1) e pool)
+  next-word : j < e → words (slice i e pool) ≡ slice i j pool ∷ words (slice (j + 1) e pool)
   next-word h =
       let n : i + suc (span notSpace (slice i e pool)) ≡ j + 1 = omega arith in
       words-more (slice i e pool) (span notSpace (slice i e pool)) refl (omega (arith, long))
@@ -115,24 +115,45 @@ module _ (pool : List ℕ) (i e j : ℕ) (to : e ≤ length pool) (at : j ≡ i 
 -- ---- looking for a word
 
 -- an end past the pool's is the pool's
-pub slice-least : (pool : List ℕ) (i x e : ℕ) → e ≡ min x (length pool) → slice i e pool ≡ slice i x pool
+slice-least : (pool : List ℕ) (i x e : ℕ) → e ≡ min x (length pool) → slice i e pool ≡ slice i x pool
 slice-least pool i x e h = elim (decLt x (length pool)) [
   | yes k ↦ let z : e ≡ x = omega arith in ap (λ n. slice i n pool) z
   | no k ↦ let z : e ≡ length pool = omega arith in ap (λ n. slice i n pool) z ∙ ap (drop i) (take-length pool ∙ sym (take-all x pool (omega arith)))
 ]
 
-module _ (pool w : List ℕ) (i e j place : ℕ) (to : e ≤ length pool) (at : j ≡ i + span notSpace (slice i e pool)) where
-  pub word-here : same (slice i j pool) w ≡ true → place ≡ placeFrom place (words (slice i e pool)) w
-  word-here y = elim (decLt j e) [
-    | yes h ↦ sym (ap (λ ws. placeFrom place ws w) (next-word pool i e j to at h) ∙ place-here w place (slice i j pool) _ y)
-    | no h ↦ sym (ap (λ ws. placeFrom place ws w) (last-word pool i e j to at (omega arith)) ∙ place-here w place (slice i j pool) [] y)
+-- the search for w has come to the word that starts at i, with this place: what is still to come makes up the answer n
+pub record Seeks (pool w : List ℕ) (e i place n : ℕ) : Type 0 where
+  pub to : e ≤ length pool
+  pub low : place ≤ i + 1
+  pub rest : placeFrom place (words (slice i e pool)) w ≡ n
+
+pub seek-start : (pool w : List ℕ) (i x e y z : ℕ) → e ≡ min x (length pool) → i ≡ y → x ≡ z → Seeks pool w e i 1 (placeIn (words (slice y z pool)) w)
+seek-start pool w i x e y z h f g = record {
+  to = omega arith;
+  low = omega arith;
+  rest = ap (λ p. placeFrom 1 (words p) w) (slice-least pool i x e h ∙ ap₂ (λ a b. slice a b pool) f g);
+}
+
+module _ {pool w : List ℕ} {e i place n j : ℕ} {x : Bool} (k : Seeks pool w e i place n) (at : j ≡ i + span notSpace (slice i e pool))
+    (f : x ≡ same (slice i j pool) w) where
+  stays : (ws : List (List ℕ)) → words (slice i e pool) ≡ slice i j pool ∷ ws → placeFrom place (slice i j pool ∷ ws) w ≡ n
+  stays ws h = ap (λ v. placeFrom place v w) (sym h) ∙ k .rest
+
+  pub seek-found : x ≡ true → place ≡ n
+  seek-found y = elim (decLt j e) [
+    | yes h ↦ sym (place-here w place (slice i j pool) _ (sym f ∙ y)) ∙ stays _ (next-word pool i e j (k .to) at h)
+    | no h ↦ sym (place-here w place (slice i j pool) _ (sym f ∙ y)) ∙ stays _ (last-word pool i e j (k .to) at (omega arith))
   ]
 
-  pub word-none : same (slice i j pool) w ≡ false → e ≤ j → 0 ≡ placeFrom place (words (slice i e pool)) w
+  pub seek-none : x ≡ false → e ≤ j → 0 ≡ n
   unfolding placeFrom
-  word-none n h = sym (ap (λ ws. placeFrom place ws w) (last-word pool i e j to at h) ∙ place-on w place (slice i j pool) [] n)
+  seek-none y h = sym (place-on w place (slice i j pool) [] (sym f ∙ y)) ∙ stays [] (last-word pool i e j (k .to) at h)
 
-  pub word-on : same (slice i j pool) w ≡ false → j < e → placeFrom (place + 1) (words (slice (j + 1) e pool)) w ≡ placeFrom place (words (slice i e pool)) w
-  word-on n h =
-      rw (add-one place)
-      (sym (ap (λ ws. placeFrom place ws w) (next-word pool i e j to at h) ∙ place-on w place (slice i j pool) (words (slice (j + 1) e pool)) n))
+  pub seek-again : x ≡ false → j < e → Seeks pool w e (j + 1) (place + 1) n
+  seek-again y h = record {
+    to = k .to;
+    low = omega (arith, k .low);
+    rest =
+        rw (add-one place)
+        (sym (place-on w place (slice i j pool) (words (slice (j + 1) e pool)) (sym f ∙ y)) ∙ stays _ (next-word pool i e j (k .to) at h));
+  }

@@ -1,33 +1,20 @@
 -- Laws of the words about rows: the first number that passes a test, how often a row occurs, row order. Assumes nothing.
-use mathlib.Core.Path.{_≡_, refl, sym, _∙_, ap, ap₂, subst}
-use mathlib.Core.Bool.{Bool, true, false, cond, _&&_, true≢false, false≢true}
+use mathlib.Core.Path.{_≡_, refl, sym, _∙_, subst}
+use mathlib.Core.Bool.{Bool, true, false}
 use mathlib.Core.List.{List, [], _∷_}
 use Prim.Native.Nat.{ℕ, zero, suc, _+_, _≤_, _<_}
 use native.Mathlib.Omega.{arith}
 use native.Mathlib.Decide.{ℕ-discrete}
-use lib.Dec.{eqb, ltb}
-use borrow.Author.Tests.{eqb-true, eq-eqb, ne-eqb, ltb-true, lt-ltb, le-ltb}
+use borrow.Author.Tests.{eq-eqb, ne-eqb, ltb-true, lt-ltb}
 use Rattle.text.specs.Lists.{Each, same}
-use Rattle.text.proofs.Classes.{and-is}
+pub use Rattle.text.proofs.Parts.{same-eq, same-of}
 use Rattle.list.specs.Words.{times, has, Ordered, firstFrom}
-use Rattle.list.proofs.Tests.{byCases, clash}
+use Rattle.list.proofs.Tests.{byCases}
 
 -- ---- texts compared
 
-pub same-eq : (a b : List ℕ) → same a b ≡ true → a ≡ b
-unfolding same
-same-eq [] [] e = refl
-same-eq [] (y ∷ ys) e = absurd (false≢true e)
-same-eq (x ∷ xs) [] e = absurd (false≢true e)
-same-eq (x ∷ xs) (y ∷ ys) e = let w = and-is (eqb x y) (same xs ys) e in ap₂ _∷_ (eqb-true x y (w .0)) (same-eq xs ys (w .1))
-
 pub same-refl : (a : List ℕ) → same a a ≡ true
-unfolding same
-same-refl [] = refl
-same-refl (x ∷ xs) = rw (eq-eqb x x refl) (same-refl xs)
-
-pub same-of : (a b : List ℕ) → a ≡ b → same a b ≡ true
-same-of a b e = rw (← e) (same-refl a)
+same-refl a = same-of a a refl
 
 -- ---- the first number that passes
 

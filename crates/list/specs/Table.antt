@@ -9,7 +9,7 @@
 --   9 its first child   10 its next sibling   11 its first required child   12 its next required sibling
 --   13 the second row of the rule whose first row it is   14 its level   15 how many words an ENUM has
 -- with 0 for none.
-use mathlib.Core.Bool.{Bool, true, false, cond}
+use mathlib.Core.Bool.{cond}
 use mathlib.Core.List.{List, [], _∷_}
 use Prim.Native.Nat.{ℕ, zero, suc, _+_, _*_}
 use lib.Dec.{eqb, leb}

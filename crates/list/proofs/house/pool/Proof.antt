@@ -1,3 +1,4 @@
+-- `house::pool` meets its contract. Assumes nothing.
 use mathlib.Core.Path.{refl}
 use Rattle.list.specs.HouseTable.{housePool}
 use Rattle.list.proofs.house.pool.Statement.{statement}

@@ -1,3 +1,4 @@
+-- `house::rows` meets its contract. Assumes nothing.
 use mathlib.Core.Path.{refl}
 use Rattle.list.specs.HouseTable.{houseRows}
 use Rattle.list.proofs.house.rows.Statement.{statement}

@@ -1,51 +1,38 @@
+-- `lookup::cell` meets its contract. Assumes nothing.
+use mathlib.Core.Path.{sym, _∙_}
+use native.Mathlib.Omega.{arith}
 use borrow.Author.Needs.{needs}
+use Rattle.list.proofs.Cells.{no-column, no-row, no-cell, cell-at}
 use Rattle.list.proofs.lookup.cell.Statement.{statement}
 use Rattle.list.proofs.lookup.cell.Tie as tie
-use Rattle.list.proofs.lookup.cell.Reads as reads
-use Rattle.list.proofs.lookup.cell.Lts as lts
-use Rattle.list.proofs.lookup.wide.Reads as wide-reads
-use mathlib.Core.Path.{_≡_, sym, _∙_}
-use native.Mathlib.Omega.{arith}
-use Rattle.list.proofs.Cells.{no-column, no-row, no-cell, cell-at}
 
--- answers
-
--- src/lookup.rt:19:9
 returns : tie.Need-returns
 returns c =
     no-column (c .before .before .args .rows .now) (c .before .before .args .r) (c .before .before .args .column) (c .if1 .taken)
 
--- src/lookup.rt:22:9
 returns-2 : tie.Need-returns-2
 returns-2 c =
     no-row (c .before .before .before .args .rows .now) (c .before .before .before .args .r) (c .before .before .before .args .column) (omega arith) (c .if2 .taken)
 
--- src/lookup.rt:24:14
 mul-at : tie.Need-mul-at
 mul-at c = search needs
 
--- src/lookup.rt:24:14
 add-at : tie.Need-add-at
 add-at c = search needs
 
--- src/lookup.rt:25:31
 mul-wide : tie.Need-mul-wide
 mul-wide c = search needs
 
--- src/lookup.rt:25:31
 shared-slice-read-wide : tie.Need-shared-slice-read-wide
 shared-slice-read-wide c = search needs
 
--- src/lookup.rt:25:26
 wide-requires : tie.Need-wide-requires
 wide-requires c κs = search needs
 
--- src/lookup.rt:15:1
 returns-3 : tie.Need-returns-3
 returns-3 c =
     c .wide .ensures ∙ sym (cell-at (c .before .before .before .before .before .before .args .rows .now) (c .before .before .before .before .before .before .args .r) (c .before .before .before .before .before .before .args .column) (omega arith) (omega arith))
 
--- src/lookup.rt:15:1
 returns-4 : tie.Need-returns-4
 returns-4 c =
     no-cell (c .before .before .before .before .args .rows .now) (c .before .before .before .before .args .r) (c .before .before .before .before .args .column) (omega arith) (omega arith) (omega arith)

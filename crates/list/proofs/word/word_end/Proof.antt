@@ -1,17 +1,13 @@
-use Rattle.list.proofs.word.word_end.Statement.{statement}
-use Rattle.list.proofs.word.word_end.Tie as tie
-use Rattle.list.proofs.word.word_end.Reads as reads
-use Rattle.list.proofs.word.word_end.Lts as lts
+-- `word::word_end` meets its contract. Assumes nothing.
 use mathlib.Core.Path.{_≡_, refl}
 use Prim.Native.Nat.{_+_, _-_}
 use native.Mathlib.Omega.{arith}
 use lib.Seq.{slice}
-use borrow.Author.Needs.{needs}
 use Rattle.text.specs.Lists.{span}
 use Rattle.list.specs.Lookup.{notSpace}
 use Rattle.list.proofs.Split.{span-over, span-at, span-on}
-
--- answers
+use Rattle.list.proofs.word.word_end.Statement.{statement}
+use Rattle.list.proofs.word.word_end.Tie as tie
 
 abbrev Inv-loop : tie.InvT-loop
 Inv-loop pool i end j₀ j = j + span notSpace (slice j end pool) ≡ i + span notSpace (slice i end pool)
@@ -19,37 +15,26 @@ Inv-loop pool i end j₀ j = j + span notSpace (slice j end pool) ≡ i + span n
 abbrev μ-loop : tie.MeasureT-loop
 μ-loop pool i end j₀ j = end - j
 
--- src/word.rt:18:5
 loop-holds : tie.Need-loop-holds Inv-loop μ-loop
-loop-holds c =
-    refl
+loop-holds c = refl
 
--- src/word.rt:19:12
 shared-slice-read-if1 : tie.Need-shared-slice-read-if1 Inv-loop μ-loop
-shared-slice-read-if1 c =
-    omega arith
+shared-slice-read-if1 c = omega arith
 
--- src/word.rt:20:13
 returns : tie.Need-returns Inv-loop μ-loop
 returns c =
     omega (arith, span-at (c .before .before .before .before .args .pool .now) (c .before .before .before .loop .j) (c .before .before .before .before .args .end) (c .before .before .before .before .pre) (c .before .before .loop-test .taken) (c .if1 .taken))
 
--- src/word.rt:22:9
 add-j : tie.Need-add-j Inv-loop μ-loop
-add-j c =
-    omega arith
+add-j c = omega arith
 
--- src/word.rt:18:5
 loop-less : tie.Need-loop-less Inv-loop μ-loop
-loop-less c =
-    omega arith
+loop-less c = omega arith
 
--- src/word.rt:18:5
 loop-again : tie.Need-loop-again Inv-loop μ-loop
 loop-again c =
     omega (arith, span-on (c .before .before .before .before .args .pool .now) (c .before .before .before .loop .j) (c .before .before .before .before .args .end) (c .before .before .before .before .pre) (c .before .before .loop-test .taken) (c .if1 .left))
 
--- src/word.rt:13:1
 returns-2 : tie.Need-returns-2 Inv-loop μ-loop
 returns-2 c =
     omega (arith, span-over (c .before .before .args .pool .now) (c .before .loop .j) (c .before .before .args .end) (c .before .before .pre) (c .loop-test .left))

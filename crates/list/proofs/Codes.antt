@@ -1,0 +1,57 @@
+-- What code asks of a number for a count or a kind is what the definitions ask of the count or kind. Assumes nothing.
+use mathlib.Core.Path.{_≡_, refl, sym, _∙_, ap}
+use mathlib.Core.Bool.{Bool, true, false, _||_, not, Bool·beq, false≢true}
+use mathlib.Core.List.{List, [], _∷_}
+use Prim.Native.Nat.{ℕ, _≤_}
+use native.Mathlib.Omega.{arith}
+use native.Mathlib.Decide.{decLt}
+use lib.Dec.{eqb, ltb}
+use lib.ListN.{List·getD-eq-default}
+use borrow.Author.Tests.{le-ltb, ne-eqb}
+use Rattle.text.specs.Bytes.{inRange}
+use Rattle.text.proofs.Classes.{every, passes, in-range-is, not-so}
+use Rattle.list.specs.Listing.{ref, iban, ccy, bool, num, amt, date, dtm, txt, enum, group, choice, leaf, one, optional, some, any, alternative, isGroup, isChoice, single, required}
+use Rattle.list.specs.Table.{countOf, kindOf}
+
+beq-is : (a b : Bool) → Bool·beq a b ≡ true → a ≡ b
+beq-is true true e = refl
+beq-is true false e = absurd (false≢true e)
+beq-is false true e = absurd (false≢true e)
+beq-is false false e = refl
+
+-- two tests agree below n, computed; and above it, where the number is none of those that have a name
+agree : (f g : ℕ → Bool) (n : ℕ) → every (λ c. Bool·beq (f c) (g c)) 0 n ≡ true → ((c : ℕ) → n ≤ c → f c ≡ g c) → (c : ℕ) → f c ≡ g c
+agree f g n e h c = elim (decLt c n) [
+  | yes k ↦ beq-is (f c) (g c) (passes (λ c. Bool·beq (f c) (g c)) 0 n e c (omega arith) (omega arith))
+  | no k ↦ h c (omega arith)
+]
+
+past-count : (c : ℕ) → 4 ≤ c → countOf c ≡ alternative
+past-count c h = List·getD-eq-default (one ∷ optional ∷ some ∷ any ∷ []) alternative h
+
+pub single-is : (c : ℕ) → single (countOf c) ≡ ltb c 2
+single-is c =
+    agree (λ c. single (countOf c)) (λ c. ltb c 2) 4 refl
+    (λ c h. ap single (past-count c h) ∙ sym (le-ltb c 2 (omega arith))) c
+
+pub required-is : (c : ℕ) → required (countOf c) ≡ (eqb c 0 || eqb c 2)
+required-is c =
+    agree (λ c. required (countOf c)) (λ c. eqb c 0 || eqb c 2) 4 refl
+    (λ c h. ap required (past-count c h) ∙ sym (rw (ne-eqb c 0 (λ z. omega arith), ne-eqb c 2 (λ z. omega arith)) refl)) c
+
+module _ (k : ℕ) (ws : List (List ℕ)) where
+  past-kind : (c : ℕ) → 12 ≤ c → kindOf c k ws ≡ group
+  past-kind c h =
+      List·getD-eq-default
+      (group ∷ choice ∷ leaf ref ∷ leaf (txt k) ∷ leaf iban ∷ leaf ccy ∷ leaf (enum ws) ∷ leaf bool ∷ leaf num ∷ leaf amt ∷ leaf date ∷ leaf dtm ∷ [])
+      group h
+
+  pub choice-is : (c : ℕ) → isChoice (kindOf c k ws) ≡ eqb c 1
+  choice-is c =
+      agree (λ c. isChoice (kindOf c k ws)) (λ c. eqb c 1) 12 refl
+      (λ c h. ap isChoice (past-kind c h) ∙ sym (ne-eqb c 1 (λ z. omega arith))) c
+
+  pub group-is : (c : ℕ) → isGroup (kindOf c k ws) ≡ not (inRange 2 11 c)
+  group-is c =
+      agree (λ c. isGroup (kindOf c k ws)) (λ c. not (inRange 2 11 c)) 12 refl
+      (λ c h. ap isGroup (past-kind c h) ∙ sym (ap not (not-so (inRange 2 11 c) (λ e. omega (arith, in-range-is 2 11 c e))))) c
