@@ -1,16 +1,15 @@
 -- A good piece spells no `<`, and none of a value's pieces spells the quote used. Assumes nothing.
 use mathlib.Core.Path.{_≡_, refl, sym, _∙_, ap}
 use mathlib.Core.Logic.{_≢_}
-use mathlib.Core.Bool.{Bool, true, false, cond, _&&_, true≢false}
+use mathlib.Core.Bool.{Bool, true, false, _&&_}
 use mathlib.Core.List.{List, [], _∷_, _++_}
-use Prim.Native.Nat.{ℕ, zero, suc, _+_, _/_, _%_, _<_}
+use Prim.Native.Nat.{ℕ, _≤_, _<_}
 use native.Mathlib.Omega.{arith}
-use lib.Dec.{ltb, eqb}
-use borrow.Author.Tests.{ltb-true, ltb-false}
 use Rattle.text.specs.Lists.{All, Each}
 use Rattle.text.specs.Utf8.{encode}
 use Rattle.text.specs.Pieces.{less, Entity, amp, lt, gt, quot, apos, word, Piece, char, entity, spell, spells, GoodPiece}
 use Rattle.text.proofs.Classes.{and-is}
+use Rattle.text.proofs.Decoding.{by-length}
 use Rattle.xml.specs.House.{Quote, single, double, mark, GoodValue}
 use Rattle.tags.specs.Passing.{but}
 use Rattle.tags.proofs.Passing.{all-append, but-other}
@@ -26,16 +25,13 @@ all-passed p (x ∷ l) e = let w = and-is (p x) (passed p l) e in (w .0, all-pas
 
 -- of the bytes of a character none is another ASCII character
 encode-avoids : (x c : ℕ) → x < 128 → c ≢ x → All (but x) (encode c)
-unfolding encode
-encode-avoids x c h n = go (ltb c 0x80) (ltb c 0x800) (ltb c 0x10000)
-  where
-    go : (a b d : Bool)
-        → All (but x) (cond a (c ∷ []) (cond b ((0xC0 + c / 64) ∷ (0x80 + c % 64) ∷ []) (cond d ((0xE0 + c / 4096) ∷ (0x80 + c / 64 % 64) ∷ (0x80 + c % 64) ∷ []) ((0xF0 + c / 262144) ∷ (0x80 + c / 4096 % 64) ∷ (0x80 + c / 64 % 64) ∷ (0x80 + c % 64) ∷ []))))
-    go true b d = (but-other x c n, tt)
-    go false true d = (but-other x _ (λ e. omega arith), (but-other x _ (λ e. omega arith), tt))
-    go false false true = (but-other x _ (λ e. omega arith), (but-other x _ (λ e. omega arith), (but-other x _ (λ e. omega arith), tt)))
-    go false false false =
-        (but-other x _ (λ e. omega arith), (but-other x _ (λ e. omega arith), (but-other x _ (λ e. omega arith), (but-other x _ (λ e. omega arith), tt))))
+encode-avoids x c h n =
+    let high : (y : ℕ) → 128 ≤ y → but x y ≡ true = λ y k. but-other x y (λ e. omega arith) in
+    by-length (All (but x)) c
+    (λ k. (but-other x c n, tt))
+    (λ k m. (high _ (omega arith), (high _ (omega arith), tt)))
+    (λ k m. (high _ (omega arith), (high _ (omega arith), (high _ (omega arith), tt))))
+    (λ k. (high _ (omega arith), (high _ (omega arith), (high _ (omega arith), (high _ (omega arith), tt)))))
 
 -- an ASCII character that no entity's word holds
 record Apart (x : ℕ) : Type 0 where

@@ -15,5 +15,7 @@ pub mod Slices
 pub mod Start
 -- texts, elements and end tags at a place of a text: what the cursor answers, and what stands behind
 pub mod Elements
+-- a text's characters one by one, and its first ink
+pub mod Texts
 -- of a good tree's text the cursor tells its message
 pub mod Story

@@ -3,20 +3,22 @@ use mathlib.Core.Path.{_≡_, refl, sym, _∙_, ap}
 use mathlib.Core.List.{List, [], _∷_, _++_}
 use Prim.Native.Nat.{ℕ, zero, suc, _+_, _≤_, _<_}
 use native.Mathlib.Omega.{arith}
-use lib.ListN.{length, take, drop}
-use lib.Seq.{slice, take-nil, take-at, drop-append-seam, drop-drop}
-
-append-none : (x w : List ℕ) → x ++ w ≡ [] → x ≡ []
-append-none [] w e = refl
-append-none (y ∷ x) w e = let z : _≡_ {A = ℕ} 0 1 = cc in absurd (omega arith)
+use lib.ListN.{length, take, drop, take-append-drop}
+use lib.Seq.{slice, take-append-seam, drop-append-seam, drop-append-le, drop-drop, length-take-le, length-slice}
+use Rattle.text.proofs.Parts.{part-take}
 
 -- the part up to b is x
 pub slice-is : (a b : ℕ) (s x w : List ℕ) → drop a s ≡ x ++ w → b ≡ a + length x → slice a b s ≡ x
-slice-is zero b s x w e h = ap (take b) e ∙ take-at x w b (omega arith)
-slice-is (suc a) b [] x w e h = rw (take-nil b) (sym (append-none x w (sym e)))
-slice-is (suc a) zero (y ∷ s) x w e h = absurd (omega arith)
-slice-is (suc a) (suc b) (y ∷ s) x w e h = slice-is a b s x w e (omega arith)
+slice-is a b s x w e h = ap (λ (n : ℕ). slice a n s) h ∙ part-take a (length x) s ∙ ap (take (length x)) e ∙ take-append-seam x w
 
 -- behind x
 pub drop-is : (a b : ℕ) (s x w : List ℕ) → drop a s ≡ x ++ w → b ≡ a + length x → drop b s ≡ w
 drop-is a b s x w e h = ap (λ (n : ℕ). drop n s) h ∙ sym (drop-drop (length x) a s) ∙ ap (drop (length x)) e ∙ drop-append-seam x w
+
+-- a part, and what stands behind it
+pub slice-drop : (a b : ℕ) (s : List ℕ) → a ≤ b → b ≤ length s → drop a s ≡ slice a b s ++ drop b s
+slice-drop a b s h k =
+    ap (drop a) (sym (take-append-drop b s)) ∙ drop-append-le a (take b s) (drop b s) (omega (arith, length-take-le b s k))
+
+pub slice-end : (a b : ℕ) (s : List ℕ) → a ≤ b → b ≤ length s → b ≡ a + length (slice a b s)
+slice-end a b s h k = omega (arith, length-slice a b s k)

@@ -1,5 +1,6 @@
 -- What the cursor answers at a text and at a tag of a tree. Assumes nothing.
 use mathlib.Core.Path.{_≡_, refl, sym, _∙_, ap, ap₂}
+use mathlib.Core.Logic.{_≢_}
 use mathlib.Core.Bool.{Bool, true, false, not, cond, true≢false}
 use mathlib.Core.List.{List, [], _∷_, _++_, append-assoc, append-nil}
 use Prim.Native.Nat.{ℕ, zero, suc, _+_, _-_, _≤_, _<_}
@@ -20,9 +21,62 @@ use Rattle.tags.specs.Passing.{but, pass, one, headIs, behind}
 use Rattle.tags.specs.Attributes.{attributeAt, passedAt}
 use Rattle.tags.specs.Tokens.{bare, shutAt, tailAt, tagAt, tokenAt}
 use Rattle.tags.specs.Places.{firstOf, tagOf}
-use Rattle.tags.proofs.Passing.{all-append, all-weaken, but-by, stops, pass-over, pass-skip, pass-none}
+use Rattle.tags.proofs.Passing.{all-append, all-weaken, but-by, stops, pass-over, pass-skip, pass-none, pass-any, one-le}
 use Rattle.tags.proofs.Avoid.{piece-avoids, text-avoids}
-use Rattle.tags.proofs.Attributes.{name-all, passed-is, first-is, attrs-end-name}
+use Rattle.tags.proofs.Attributes.{name-all, passed-between, passed-is, first-is, attrs-end-name}
+
+-- ---- on any bytes: a token ends within them, and behind its `<` if there is one
+
+pub record Ahead (o e : ℕ) (t : Token) : Type 0 where
+  pub text : o ≤ t .less
+  pub tag : t .less ≤ t .end
+  pub within : t .end ≤ e
+  pub on : t .kind ≢ End → t .less < t .end
+
+bare-ahead : (o e a z : ℕ) → o ≤ a → a < z → z ≤ e → Ahead o e (bare Close a z)
+bare-ahead o e a z h k m = record { text = h; tag = omega arith; within = m; on = λ n. k }
+
+shut-ahead : (y o e n : ℕ) (a : Attribute) (z : ℕ) (l : List ℕ) → y ≤ o → o < z → Ahead y (z + length l) (shutAt o e n a z l)
+unfolding shutAt
+shut-ahead y o e n a z [] h k = record { text = h; tag = omega arith; within = omega arith; on = λ m. omega arith }
+shut-ahead y o e n a z (x ∷ l) h k = go (eqb x solidus) (one-le l)
+  where
+    go : (b : Bool) → one l ≤ length l
+        → Ahead y (z + suc (length l)) (cond b (record { kind = Empty; less = o; stop = e; attributes = n; first = a; end = z + 1 + one l }) (record { kind = Open; less = o; stop = e; attributes = n; first = a; end = z + 1 }))
+    go true m = record { text = h; tag = omega arith; within = omega arith; on = λ w. omega arith }
+    go false m = record { text = h; tag = omega arith; within = omega arith; on = λ w. omega arith }
+
+ahead-to : (o e e′ : ℕ) (t : Token) → e ≡ e′ → Ahead o e t → Ahead o e′ t
+ahead-to o e e′ t q h = rw q at h
+
+tag-ahead : (y o : ℕ) (l : List ℕ) → y ≤ o → Ahead y (o + length l) (tagAt o l)
+unfolding tagAt behind tailAt
+tag-ahead y o [] h = record { text = h; tag = omega arith; within = omega arith; on = λ n. absurd (n refl) }
+tag-ahead y o (x ∷ l) h = go (headIs solidus l)
+  where
+    go : (b : Bool) → Ahead y (o + suc (length l)) (cond b (bare Close o (behind greater (o + 1) l)) (pass isNamePart (tailAt o) (o + 1) l))
+    go true =
+        pass-any (but greater) (λ z m. z + one m) (λ (z : ℕ). Ahead y (o + suc (length l)) (bare Close o z)) (o + 1) l
+        (λ n k. bare-ahead y (o + suc (length l)) o (o + 1 + n + one (drop n l)) h (omega arith) (omega (arith, one-le (drop n l), length-drop n l)))
+    go false =
+        pass-any isNamePart (tailAt o) (Ahead y (o + suc (length l))) (o + 1) l
+        (λ n k.
+        let e = o + 1 + n in
+        let p = passedAt e (drop n l) in
+        let b = passed-between e (drop n l) in
+        let w = drop (p .end - e) (drop n l) in
+        let d : p .end + length w ≡ o + suc (length l) = omega (arith, b .low, b .high, length-drop n l, length-drop (p .end - e) (drop n l)) in
+        ahead-to y (p .end + length w) (o + suc (length l)) (tailAt o e (drop n l)) d (shut-ahead y o e (p .count) (attributeAt e (drop n l)) (p .end) w h (omega (arith, b .low))))
+
+pub token-ahead : (o : ℕ) (l : List ℕ) → Ahead o (o + length l) (tokenAt o l)
+unfolding tokenAt
+token-ahead o l =
+    pass-any (but less) tagAt (Ahead o (o + length l)) o l
+    (λ n k. ahead-to o (o + n + length (drop n l)) (o + length l) (tagAt (o + n) (drop n l)) (omega (arith, length-drop n l)) (tag-ahead o (o + n) (drop n l) (omega arith)))
+
+-- at a place of s: no place past its end
+pub token-within : (s : List ℕ) (o : ℕ) → o ≤ length s → Ahead o (length s) (tokenAt o (drop o s))
+token-within s o h = ahead-to o (o + length (drop o s)) (length s) (tokenAt o (drop o s)) (omega (arith, length-drop o s)) (token-ahead o (drop o s))
 
 -- ---- texts
 

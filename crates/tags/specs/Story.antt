@@ -1,10 +1,14 @@
 -- A message in document order, and what a cursor tells of a text as it goes over it from token to token. Assumes nothing.
 use mathlib.Core.Path.{_≡_}
+use mathlib.Core.Bool.{cond}
 use mathlib.Core.List.{List, [], _∷_}
-use Prim.Native.Nat.{ℕ, _+_}
+use Prim.Native.Nat.{ℕ, _+_, _<_}
 use lib.ListN.{length, drop}
 use lib.Seq.{slice}
+use Rattle.text.specs.Bytes.{isBlank}
 use Rattle.text.specs.Lists.{Each}
+use Rattle.text.specs.Chars.{NextChar}
+use Rattle.text.specs.declared.utf8.Char.{Char}
 use Rattle.text.specs.Pieces.{Piece, spell, spells, resolved, GoodPiece, Spells}
 use Rattle.xml.specs.Message.{Attrs, Parts}
 use Rattle.xml.specs.Message as message
@@ -32,10 +36,21 @@ abbrev pub chars : ℕ → List Piece → List Event → List Event
 chars o [] more = more
 chars o (p ∷ ps) more = char o (resolved p) ∷ chars (o + length (spell p)) ps more
 
+-- the place of its first character that is no blank, or its end
+abbrev pub inkOf : ℕ → List Piece → ℕ
+inkOf o [] = o
+inkOf o (p ∷ ps) = cond (isBlank (resolved p)) (inkOf (o + length (spell p)) ps) o
+
 -- the bytes of s from a to b are good text, made of these pieces
 pub record Text (s : List ℕ) (a b : ℕ) (ps : List Piece) : Type 0 where
   pub good : Each GoodPiece ps
   pub is : slice a b s ≡ spells ps
+
+-- `next_char`, called again and again from a up to b, tells these characters
+pub data Reads (s : List ℕ) : ℕ → ℕ → List Event → Type 0 where
+  over : {b : ℕ} → Reads s b b []
+  next : {a b : ℕ} {c : Char} {es : List Event}
+      → NextChar (drop a s) c → 0 < c .len → Reads s (a + c .len) b es → Reads s a b (char a (c .code) ∷ es)
 
 -- the cursor's answers at a place of s
 abbrev pub tokenIn : List ℕ → ℕ → Token

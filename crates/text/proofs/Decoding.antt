@@ -74,7 +74,7 @@ unfolding encode
 enc4 c h = rw (le-ltb c 0x80 (omega arith), le-ltb c 0x800 (omega arith), le-ltb c 0x10000 h)
 
 -- by its length, what holds of every encoding
-by-length : (P : List ℕ → Type 0) (c : ℕ)
+pub by-length : (P : List ℕ → Type 0) (c : ℕ)
     → (c < 0x80 → P (c ∷ []))
     → (0x80 ≤ c → c < 0x800 → P ((0xC0 + c / 64) ∷ (0x80 + c % 64) ∷ []))
     → (0x800 ≤ c → c < 0x10000 → P ((0xE0 + c / 4096) ∷ (0x80 + c / 64 % 64) ∷ (0x80 + c % 64) ∷ []))

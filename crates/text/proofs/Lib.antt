@@ -11,3 +11,11 @@ pub mod Chars
 pub mod Decoding
 -- the longest beginning that is UTF-8
 pub mod Longest
+-- the next character is read right, entities resolved
+pub mod Resolving
+-- the characters that a text spells, one after the other, and loops over them
+pub mod Spelling
+-- a list written into another
+pub mod Pasting
+-- numbers as big-endian bytes, and back
+pub mod Numbers

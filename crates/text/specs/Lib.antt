@@ -17,3 +17,9 @@ pub mod Words
 pub mod Chars
 -- a mirror: how a character is decoded
 pub mod Decoding
+-- a mirror: how the next character is read, entities resolved
+pub mod Resolving
+-- texts whose characters pass a test
+pub mod Passing
+-- a list written into another
+pub mod Pasting

@@ -14,7 +14,7 @@ pub struct Char {
     pub code: u32,
 }
 
-fn char_of(len: usize, code: u32) -> Char
+pub(crate) fn char_of(len: usize, code: u32) -> Char
     ensures { λ r. ⌜ r ≡ charOf len code ⌝ }
 {
     Char { len, code }
