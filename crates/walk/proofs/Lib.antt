@@ -19,3 +19,5 @@ pub mod Items
 pub mod Examples
 -- the tests of a tag over the tables, from what the code's calls told
 pub mod Says
+-- in sound tables the numbers and tests over cells are those over the list
+pub mod Sound

@@ -39,11 +39,11 @@ module _ (t : List ℕ) (lv : Level) where
     module _ (x : ℕ) (g : x ≡ cell t r 1) (f : k ≡ 1 → ⊥) where
       pub again-many : 1 < x → false ≡ againIn t lv r
       unfolding againIn
-      again-many h = rw (ne-eqb (cell t (lv .row) 2) 1 (λ z. f (e ∙ z)), lt-leb (cell t r 1) 1 (rw g at h))
+      again-many h = rw (ne-eqb (cell t (lv .row) 2) 1 (λ z. f (e ∙ z)), le-ltb (cell t r 1) 2 (rw g at h))
 
-      pub again-one : x ≤ 1 → eqb (lv .last) r ≡ againIn t lv r
+      pub again-one : x < 2 → eqb (lv .last) r ≡ againIn t lv r
       unfolding againIn
-      again-one h = rw (ne-eqb (cell t (lv .row) 2) 1 (λ z. f (e ∙ z)), le-leb (cell t r 1) 1 (rw g at h))
+      again-one h = rw (ne-eqb (cell t (lv .row) 2) 1 (λ z. f (e ∙ z)), lt-ltb (cell t r 1) 2 (rw g at h))
 
   -- ---- the opening tests, one after the other
 

@@ -15,6 +15,7 @@ use Rattle.list.specs.Sound.{Sound}
 use Rattle.list.specs.Sound.{firstOf as mate, secondOf as pair}
 use Rattle.list.specs.Lookup.{dueAfter}
 use Rattle.list.proofs.Along.{due-after}
+use Rattle.list.proofs.Codes.{single-is, choice-is, group-is}
 use Rattle.list.proofs.Rows.{size-is, kind-is, count-is}
 use Rattle.xml.specs.Message.{Attrs}
 use Rattle.walk.specs.declared.level.Level.{Level}
@@ -25,54 +26,12 @@ use Rattle.walk.specs.First.{kindOf as kindIn}
 use Rattle.walk.specs.Machine.{misses, fresh, advance, again, openTest, groupTest}
 use Rattle.walk.specs.Tables.{freshIn, nextIn, oddIn, advanceIn, says, nothing, isGroupIn, passedIn, againIn, openingIn, brokenIn, groupEndIn, foundOf}
 
--- ---- kinds and counts by their numbers
-
-pub choice-code : (c k : ℕ) (ws : List (List ℕ)) → isChoice (kindOf c k ws) ≡ eqb c 1
-choice-code zero k ws = refl
-choice-code (suc zero) k ws = refl
-choice-code (suc (suc zero)) k ws = refl
-choice-code (suc (suc (suc zero))) k ws = refl
-choice-code (suc (suc (suc (suc zero)))) k ws = refl
-choice-code (suc (suc (suc (suc (suc zero))))) k ws = refl
-choice-code (suc (suc (suc (suc (suc (suc zero)))))) k ws = refl
-choice-code (suc (suc (suc (suc (suc (suc (suc zero))))))) k ws = refl
-choice-code (suc (suc (suc (suc (suc (suc (suc (suc zero)))))))) k ws = refl
-choice-code (suc (suc (suc (suc (suc (suc (suc (suc (suc zero))))))))) k ws = refl
-choice-code (suc (suc (suc (suc (suc (suc (suc (suc (suc (suc zero)))))))))) k ws = refl
-choice-code (suc (suc (suc (suc (suc (suc (suc (suc (suc (suc (suc zero))))))))))) k ws = refl
-choice-code (suc (suc (suc (suc (suc (suc (suc (suc (suc (suc (suc (suc c)))))))))))) k ws = sym (ne-eqb _ 1 (omega arith))
-
-pub group-code : (c k : ℕ) (ws : List (List ℕ)) → isGroup (kindOf c k ws) ≡ isGroupIn c
-unfolding isGroupIn
-group-code zero k ws = refl
-group-code (suc zero) k ws = refl
-group-code (suc (suc zero)) k ws = refl
-group-code (suc (suc (suc zero))) k ws = refl
-group-code (suc (suc (suc (suc zero)))) k ws = refl
-group-code (suc (suc (suc (suc (suc zero))))) k ws = refl
-group-code (suc (suc (suc (suc (suc (suc zero)))))) k ws = refl
-group-code (suc (suc (suc (suc (suc (suc (suc zero))))))) k ws = refl
-group-code (suc (suc (suc (suc (suc (suc (suc (suc zero)))))))) k ws = refl
-group-code (suc (suc (suc (suc (suc (suc (suc (suc (suc zero))))))))) k ws = refl
-group-code (suc (suc (suc (suc (suc (suc (suc (suc (suc (suc zero)))))))))) k ws = refl
-group-code (suc (suc (suc (suc (suc (suc (suc (suc (suc (suc (suc zero))))))))))) k ws = refl
-group-code (suc (suc (suc (suc (suc (suc (suc (suc (suc (suc (suc (suc c)))))))))))) k ws =
-    sym (rw (le-leb 2 (12 + c) (omega arith), lt-leb (12 + c) 11 (omega arith)))
-
-pub single-code : (c : ℕ) → single (countOf c) ≡ leb c 1
-single-code zero = refl
-single-code (suc zero) = refl
-single-code (suc (suc zero)) = refl
-single-code (suc (suc (suc zero))) = refl
-single-code (suc (suc (suc (suc zero)))) = refl
-single-code (suc (suc (suc (suc (suc c))))) = sym (lt-leb _ 1 (omega arith))
-
 -- ---- the tests, whatever the cells
 
 -- four tests of which the first that passes says
 opening-found : (a b c d : Bool) (p r o : ℕ)
     → foundOf (cond a (says 5 p o) (cond b (says 6 r o) (cond c (says 7 r o) (cond (not d) (says 9 r o) nothing))))
-      ≡ firstOf (if a 5 p o ∷ if b 6 r o ∷ if c 7 r o ∷ if (not d) 9 r o ∷ [])
+    ≡ firstOf (if a 5 p o ∷ if b 6 r o ∷ if c 7 r o ∷ if (not d) 9 r o ∷ [])
 unfolding foundOf
 opening-found true b c d p r o = refl
 opening-found false true c d p r o = refl
@@ -114,16 +73,17 @@ module _ (t pool : List ℕ) (s : Sound t pool) where
       ap₂ (λ d b. record { row = lv .row; place = lv .place; last = r; due = d; odd = b })
       (ap (λ d. cond (eqb r (lv .due)) d (lv .due)) (due-after t pool s (lv .row) r (p .high) (inr c)))
       (ap₂ (λ a b. lv .odd || (not (eqb r (lv .last)) && (misses a (lv .last) || misses b r)))
-        (s .derived r (c .last) .mate) (s .derived (lv .last) (last-within lv p) .pair))
+      (s .derived r (c .last) .mate) (s .derived (lv .last) (last-within lv p) .pair))
 
   pub group-in : (r : ℕ) → 0 < r → r ≤ size l → isGroupIn (cell t r 2) ≡ isGroup (rowAt l r .kind)
-  group-in r a b = sym (ap isGroup (kind-is t pool r a (row-within r b)) ∙ group-code (cell t r 2) (cell t r 3) (wordsIn t pool r))
+  unfolding isGroupIn
+  group-in r a b = sym (ap isGroup (kind-is t pool r a (row-within r b)) ∙ group-is (cell t r 3) (wordsIn t pool r) (cell t r 2))
 
   choice-in : (r : ℕ) → 0 < r → r ≤ size l → eqb (cell t r 2) 1 ≡ isChoice (rowAt l r .kind)
-  choice-in r a b = sym (ap isChoice (kind-is t pool r a (row-within r b)) ∙ choice-code (cell t r 2) (cell t r 3) (wordsIn t pool r))
+  choice-in r a b = sym (ap isChoice (kind-is t pool r a (row-within r b)) ∙ choice-is (cell t r 3) (wordsIn t pool r) (cell t r 2))
 
-  single-in : (r : ℕ) → 0 < r → r ≤ size l → leb (cell t r 1) 1 ≡ single (rowAt l r .count)
-  single-in r a b = sym (ap single (count-is t pool r a (row-within r b)) ∙ single-code (cell t r 1))
+  single-in : (r : ℕ) → 0 < r → r ≤ size l → ltb (cell t r 1) 2 ≡ single (rowAt l r .count)
+  single-in r a b = sym (ap single (count-is t pool r a (row-within r b)) ∙ single-is (cell t r 1))
 
   again-kind : (k : Kind) (b : Bool) (last r : ℕ) → isGroup k ≡ true → b ≡ isChoice k → cond b (not (eqb last 0)) (single (rowAt l r .count) && eqb last r) ≡ again l k last r
   again-kind group b last r g e = rw e
@@ -154,4 +114,4 @@ module _ (t pool : List ℕ) (s : Sound t pool) where
     group-end-in lv p =
         ending-found (eqb (lv .last) 0) (ltb 0 (lv .due)) (lv .odd || not (eqb (cell t (lv .last) 13) 0)) (lv .due) (lv .row) (lv .place)
         ∙ ap (λ x. firstOf (if (eqb (lv .last) 0) 11 (lv .row) (lv .place) ∷ if (ltb 0 (lv .due)) 8 (lv .due) (lv .place) ∷ if (lv .odd || not (eqb x 0)) 13 (lv .row) (lv .place) ∷ []))
-            (s .derived (lv .last) (last-within lv p) .pair)
+        (s .derived (lv .last) (last-within lv p) .pair)

@@ -2,12 +2,14 @@
 use mathlib.Core.Bool.{Bool, true, false, cond, _&&_, _||_, not}
 use mathlib.Core.List.{List, [], _∷_}
 use Prim.Native.Nat.{ℕ, zero, suc, _+_, _*_}
-use lib.Dec.{eqb, ltb, leb}
+use lib.Dec.{eqb, ltb}
 use lib.ListN.{getD, set}
+use Rattle.text.specs.Bytes.{inRange}
 use Rattle.list.specs.Table.{cell}
 use Rattle.list.specs.Lookup.{dueAfter}
 use Rattle.walk.specs.declared.level.Level.{Level}
 use Rattle.walk.specs.declared.verdict.Verdict.{Verdict}
+use Rattle.walk.specs.First.{Found, fine, found}
 use Rattle.walk.specs.Machine.{misses}
 
 abbrev pub says : ℕ → ℕ → ℕ → Verdict
@@ -19,7 +21,7 @@ nothing = says 0 0 0
 
 -- a kind's number is no leaf's
 unfoldable pub isGroupIn : ℕ → Bool
-isGroupIn c = not (leb 2 c && leb c 11)
+isGroupIn c = not (inRange 2 11 c)
 
 module _ (t : List ℕ) where
   abbrev pub freshIn : ℕ → ℕ → Level
@@ -40,7 +42,7 @@ module _ (t : List ℕ) where
   passedIn lv r = not (eqb (cell t (lv .row) 2) 1) && ltb r (lv .last)
 
   unfoldable pub againIn : Level → ℕ → Bool
-  againIn lv r = cond (eqb (cell t (lv .row) 2) 1) (not (eqb (lv .last) 0)) (leb (cell t r 1) 1 && eqb (lv .last) r)
+  againIn lv r = cond (eqb (cell t (lv .row) 2) 1) (not (eqb (lv .last) 0)) (ltb (cell t r 1) 2 && eqb (lv .last) r)
 
   unfoldable pub openingIn : Level → ℕ → Bool → ℕ → Verdict
   openingIn lv r own o =
@@ -82,3 +84,8 @@ pushed a n lv =
 unfoldable pub levels : List ℕ → ℕ → List Level
 levels a zero = []
 levels a (suc n) = levelAt a n ∷ levels a n
+
+-- ---- what a verdict says
+
+unfoldable pub foundOf : Verdict → Found
+foundOf v = cond (eqb (v .code) 0) fine (found (v .code) (v .row) (v .place))
