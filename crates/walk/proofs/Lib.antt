@@ -21,3 +21,5 @@ pub mod Examples
 pub mod Says
 -- in sound tables the numbers and tests over cells are those over the list
 pub mod Sound
+-- one step over bytes and tables, from what the code's calls told
+pub mod Strides

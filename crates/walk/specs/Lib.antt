@@ -9,5 +9,7 @@ pub mod Denotes
 pub mod Machine
 -- a mirror: its numbers and tests over the cells of two tables
 pub mod Tables
+-- a mirror: one step over bytes and tables
+pub mod Stride
 -- messages against the house list, with their first violations
 pub mod Example
