@@ -17,9 +17,9 @@ use Rattle.xml.specs.House.{Blanks, SomeBlanks, IsName, Quote, single, double, 
 use Rattle.xml.proofs.Basics.{by-blank, blank-no-rest, blank-no-start}
 use Rattle.tags.specs.declared.attribute.Attribute.{Attribute}
 use Rattle.tags.specs.declared.attribute.Passed.{Passed}
-use Rattle.tags.specs.Passing.{but, noQuote, pass, one}
+use Rattle.tags.specs.Passing.{but, noQuote, pass}
 use Rattle.tags.specs.Attributes.{nowhere, valueAt, quoteAt, namedAt, attributeAt, isNone, counted, passedFrom, passedAt}
-use Rattle.tags.specs.Places.{nameOf, valueOf, attributeOf, firstOf}
+use Rattle.tags.specs.Places.{nameOf, attributeOf, firstOf}
 use Rattle.tags.proofs.Passing.{all-append, all-weaken, stops, pass-over, pass-any, one-le}
 use Rattle.tags.proofs.Avoid.{value-avoids}
 
@@ -75,7 +75,8 @@ fuel : (f g o : ℕ) (l : List ℕ) → length l < f → length l < g → passed
 unfolding passedFrom
 fuel zero g o l h k = absurd (omega arith)
 fuel (suc f) zero o l h k = absurd (omega arith)
-fuel (suc f) (suc g) o l h k = go (isNone (attributeAt o l)) refl (λ a b. fuel f g (attributeAt o l .end) (drop (attributeAt o l .end - o) l) a b)
+fuel (suc f) (suc g) o l h k =
+    go (isNone (attributeAt o l)) refl (λ a b. fuel f g (attributeAt o l .end) (drop (attributeAt o l .end - o) l) a b)
   where
     left : List ℕ
     left = drop (attributeAt o l .end - o) l
@@ -103,7 +104,8 @@ between-from (suc f) o l = go (isNone (attributeAt o l)) refl (between-from f (a
     left : List ℕ
     left = drop (attributeAt o l .end - o) l
 
-    go : (b : Bool) → isNone (attributeAt o l) ≡ b → Between (attributeAt o l .end) (attributeAt o l .end + length left) (passedFrom f (attributeAt o l .end) left)
+    go : (b : Bool) → isNone (attributeAt o l) ≡ b
+        → Between (attributeAt o l .end) (attributeAt o l .end + length left) (passedFrom f (attributeAt o l .end) left)
         → Between o (o + length l) (cond b (record { count = 0; end = attributeAt o l .name }) (counted (passedFrom f (attributeAt o l .end) left)))
     go true e ih =
         let h = attribute-lies o l in
@@ -122,7 +124,8 @@ pub passed-none : (o : ℕ) (l : List ℕ) → isNone (attributeAt o l) ≡ true
 unfolding passedAt passedFrom
 passed-none o l e = rw e
 
-pub passed-some : (o : ℕ) (l : List ℕ) → isNone (attributeAt o l) ≡ false → passedAt o l ≡ counted (passedAt (attributeAt o l .end) (drop (attributeAt o l .end - o) l))
+pub passed-some : (o : ℕ) (l : List ℕ) → isNone (attributeAt o l) ≡ false
+    → passedAt o l ≡ counted (passedAt (attributeAt o l .end) (drop (attributeAt o l .end - o) l))
 unfolding passedAt passedFrom
 passed-some o l e =
     let m = some-end o l e in
@@ -189,7 +192,8 @@ mark-quote double = refl
 
 equals-all : (b a : List ℕ) → Blanks b → Blanks a → All noQuote (b ++ (61 ∷ a))
 unfolding noQuote
-equals-all b a h k = all-append noQuote b (61 ∷ a) (all-weaken isBlank noQuote blank-no-quote b h) (refl, all-weaken isBlank noQuote blank-no-quote a k)
+equals-all b a h k =
+    all-append noQuote b (61 ∷ a) (all-weaken isBlank noQuote blank-no-quote b h) (refl, all-weaken isBlank noQuote blank-no-quote a k)
 
 equal-ends : (w : List ℕ) → span isNamePart (61 ∷ w) ≡ 0
 unfolding isNamePart
@@ -199,12 +203,14 @@ equal-ends w = stops isNamePart 61 w refl
 abbrev valued : ℕ → ℕ → ℕ → ℕ → Attribute
 valued a b n v = record { name = a; stop = b; value = v; quote = v + n; end = v + n + 1 }
 
-value-is : (a b o : ℕ) (q : Quote) (v : List Piece) (w : List ℕ) → GoodValue q v → valueAt a b o (mark q ∷ (spells v ++ (mark q ∷ w))) ≡ valued a b (length (spells v)) (o + 1)
+value-is : (a b o : ℕ) (q : Quote) (v : List Piece) (w : List ℕ) → GoodValue q v
+    → valueAt a b o (mark q ∷ (spells v ++ (mark q ∷ w))) ≡ valued a b (length (spells v)) (o + 1)
 unfolding valueAt
 value-is a b o q v w g =
     rw (span-of (but (mark q)) (spells v) (mark q ∷ w) (value-avoids q v g) (stops (but (mark q)) (mark q) w (ap not (eq-eqb (mark q) (mark q) refl))), drop-append-seam (spells v) (mark q ∷ w))
 
-pub attr-shape : (g n b c v u : List ℕ) (q : ℕ) → (g ++ (n ++ (b ++ (61 ∷ (c ++ (q ∷ (v ++ (q ∷ [])))))))) ++ u ≡ g ++ (n ++ ((b ++ (61 ∷ c)) ++ (q ∷ (v ++ (q ∷ u)))))
+pub attr-shape : (g n b c v u : List ℕ) (q : ℕ)
+    → (g ++ (n ++ (b ++ (61 ∷ (c ++ (q ∷ (v ++ (q ∷ [])))))))) ++ u ≡ g ++ (n ++ ((b ++ (61 ∷ c)) ++ (q ∷ (v ++ (q ∷ u)))))
 attr-shape g n b c v u q = simp append-assoc
 
 pub attribute-is : (o : ℕ) (a : Attr) (w : List ℕ) → GoodAttr a → attributeAt o (attr a ++ w) ≡ attributeOf o a
@@ -224,13 +230,15 @@ attribute-is o a w g =
     value = mark (a .quote) ∷ (spells (a .value) ++ (mark (a .quote) ∷ w))
 
 -- blanks, and then no name
-pub attribute-none : (o : ℕ) (g w : List ℕ) → Blanks g → span isBlank w ≡ 0 → span isNamePart w ≡ 0 → attributeAt o (g ++ w) ≡ nowhere (o + length g)
+pub attribute-none : (o : ℕ) (g w : List ℕ) → Blanks g → span isBlank w ≡ 0 → span isNamePart w ≡ 0
+    → attributeAt o (g ++ w) ≡ nowhere (o + length g)
 unfolding attributeAt namedAt
 attribute-none o g w b e f = pass-over isBlank namedAt o g w b e ∙ rw f refl
 
 -- ---- all attributes of a tree
 
-attr-lengths : (o : ℕ) (g n b c v : List ℕ) (q : ℕ) → o + length g + length n + (length b + length c + 2) + length v + 1 ≡ o + length (g ++ (n ++ (b ++ (61 ∷ (c ++ (q ∷ (v ++ (q ∷ []))))))))
+attr-lengths : (o : ℕ) (g n b c v : List ℕ) (q : ℕ)
+    → o + length g + length n + (length b + length c + 2) + length v + 1 ≡ o + length (g ++ (n ++ (b ++ (61 ∷ (c ++ (q ∷ (v ++ (q ∷ []))))))))
 attr-lengths o g n b c v q = simp length-append (omega arith)
 
 pub attribute-end : (o : ℕ) (a : Attr) → attributeOf o a .end ≡ o + length (attr a)
@@ -265,9 +273,11 @@ module _ (g w : List ℕ) (b : Blanks g) (e : span isBlank w ≡ 0) (f : span is
   count-le [] = omega arith
   count-le (a ∷ l) = omega (arith, attribute-end 0 a, length-append (attr a) (attrs l), count-le l)
 
-  pub passed-is : (o : ℕ) (l : List Attr) → GoodAttrs 4 [] l → passedAt o (attrs l ++ (g ++ w)) ≡ record { count = length l; end = o + length (attrs l) + length g }
+  pub passed-is : (o : ℕ) (l : List Attr) → GoodAttrs 4 [] l
+      → passedAt o (attrs l ++ (g ++ w)) ≡ record { count = length l; end = o + length (attrs l) + length g }
   unfolding passedAt
-  passed-is o l h = passed-from (suc (length (attrs l ++ (g ++ w)))) o 4 [] l h (omega (arith, length-append (attrs l) (g ++ w), count-le l))
+  passed-is o l h =
+      passed-from (suc (length (attrs l ++ (g ++ w)))) o 4 [] l h (omega (arith, length-append (attrs l) (g ++ w), count-le l))
 
   pub first-is : (o : ℕ) (l : List Attr) → GoodAttrs 4 [] l → attributeAt o (attrs l ++ (g ++ w)) ≡ firstOf o l g
   first-is o [] h = attribute-none o g w b e f

@@ -1,8 +1,8 @@
 -- A good piece spells no `<`, and none of a value's pieces spells the quote used. Assumes nothing.
-use mathlib.Core.Path.{_≡_, refl, sym, _∙_, ap}
+use mathlib.Core.Path.{_≡_, refl, ap}
 use mathlib.Core.Logic.{_≢_}
-use mathlib.Core.Bool.{Bool, true, false, _&&_}
-use mathlib.Core.List.{List, [], _∷_, _++_}
+use mathlib.Core.Bool.{Bool, true, _&&_}
+use mathlib.Core.List.{List, [], _∷_}
 use Prim.Native.Nat.{ℕ, _≤_, _<_}
 use native.Mathlib.Omega.{arith}
 use Rattle.text.specs.Lists.{All, Each}
@@ -62,4 +62,5 @@ text-avoids (p ∷ ps) g = all-append (but less) (spell p) (spells ps) (piece-av
 
 pub value-avoids : (q : Quote) (v : List Piece) → GoodValue q v → All (but (mark q)) (spells v)
 value-avoids q [] g = tt
-value-avoids q (p ∷ v) g = all-append (but (mark q)) (spell p) (spells v) (spell-avoids (mark q) p (mark-apart q) (g .1)) (value-avoids q v (g .2))
+value-avoids q (p ∷ v) g =
+    all-append (but (mark q)) (spell p) (spells v) (spell-avoids (mark q) p (mark-apart q) (g .1)) (value-avoids q v (g .2))

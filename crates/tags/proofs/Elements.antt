@@ -5,20 +5,22 @@ use Prim.Native.Nat.{ℕ, zero, suc, _+_}
 use native.Mathlib.Omega.{arith}
 use lib.ListN.{length, drop, length-append}
 use lib.Seq.{slice}
-use Rattle.text.specs.Lists.{Each}
+use Rattle.text.specs.Bytes.{isBlank, isNamePart}
+use Rattle.text.specs.Lists.{Each, span}
 use Rattle.text.specs.Pieces.{Piece, spell, spells, resolvedAll, GoodPiece, Spells}
 use Rattle.xml.specs.House.{Blanks, IsName, Quote, mark, GoodValue, Attr, attr, attrs, GoodAttrs, Tag, tag, GoodTag, Content, end, piece, empty, full, render}
-use Rattle.xml.specs.Message.{Attrs, attrsOf}
+use Rattle.xml.specs.Message.{attrsOf}
 use Rattle.xml.proofs.Lang.{endOn}
 use Rattle.tags.specs.declared.attribute.Attribute.{Attribute}
 use Rattle.tags.specs.declared.token.Kind.{Kind}
-use Rattle.tags.specs.declared.token.Kind.the-variants.{Open, Empty, Close, End}
+use Rattle.tags.specs.declared.token.Kind.the-variants.{Open, Empty, Close}
 use Rattle.tags.specs.Attributes.{attributeAt}
 use Rattle.tags.specs.Tokens.{bare, tokenAt}
 use Rattle.tags.specs.Places.{nameOf, valueOf, attributeOf, tagOf}
-use Rattle.tags.specs.Story.{tokenIn, attributeIn, Finds, Tagged}
+use Rattle.tags.specs.Story.{tokenIn, Finds, Tagged}
+use Rattle.tags.proofs.Passing.{stops}
 use Rattle.tags.proofs.Slices.{slice-is, drop-is}
-use Rattle.tags.proofs.Attributes.{attr-shape, attribute-is, attribute-end}
+use Rattle.tags.proofs.Attributes.{attr-shape, attribute-is, attribute-end, first-is}
 use Rattle.tags.proofs.Tokens.{token-text, token-open, token-empty, token-close}
 
 module _ (s : List ℕ) where
@@ -44,7 +46,8 @@ module _ (s : List ℕ) where
   value-good q [] g = tt
   value-good q (p ∷ v) g = (g .0, value-good q v (g .2))
 
-  pub finds : (l : List Attr) (k : ℕ) (ss : List (List ℕ)) (o : ℕ) (w : List ℕ) → GoodAttrs k ss l → drop o s ≡ attrs l ++ w → Finds s o (attrsOf l)
+  pub finds : (l : List Attr) (k : ℕ) (ss : List (List ℕ)) (o : ℕ) (w : List ℕ) → GoodAttrs k ss l → drop o s ≡ attrs l ++ w
+      → Finds s o (attrsOf l)
   finds [] k ss o w g e = tt
   finds (a ∷ l) zero ss o w g e = absurd g
   finds (a ∷ l) (suc k) ss o w g e =
@@ -64,14 +67,21 @@ module _ (s : List ℕ) where
 
   -- ---- tags
 
-  pub tagged : (k : Kind) (o : ℕ) (t : Tag) (z : ℕ) (w : List ℕ) → GoodTag t → drop o s ≡ 60 ∷ (tag t ++ w) → Tagged s (tagOf k o t z) (t .name) (attrsOf (t .attributes))
-  tagged k o t z w g e =
-      let d0 = drop-is o (o + 1) s (60 ∷ []) (t .name ++ ((attrs (t .attributes) ++ t .gap) ++ w)) (e ∙ ap (λ (l : List ℕ). 60 ∷ l) (append-assoc (t .name) (attrs (t .attributes) ++ t .gap) w)) refl in
+  tag-at : (k : Kind) (o : ℕ) (t : Tag) (z : ℕ) (w : List ℕ) → GoodTag t → span isBlank w ≡ 0 → span isNamePart w ≡ 0
+      → drop o s ≡ 60 ∷ (tag t ++ w) → Tagged s (tagOf k o t z) (t .name) (attrsOf (t .attributes))
+  tag-at k o t z w g b n e =
+      let shape = ap (λ (l : List ℕ). 60 ∷ l) (append-assoc (t .name) (attrs (t .attributes) ++ t .gap) w) in
+      let d0 = drop-is o (o + 1) s (60 ∷ []) (t .name ++ ((attrs (t .attributes) ++ t .gap) ++ w)) (e ∙ shape) refl in
       let d1 = drop-is (o + 1) (o + 1 + length (t .name)) s (t .name) _ d0 refl in
+      let d2 = d1 ∙ append-assoc (attrs (t .attributes)) (t .gap) w in
       record {
         name = slice-is (o + 1) _ s (t .name) _ d0 refl;
         count = count-is (t .attributes);
-        attributes = finds (t .attributes) 4 [] (o + 1 + length (t .name)) (t .gap ++ w) (g .attributes) (d1 ∙ append-assoc (attrs (t .attributes)) (t .gap) w);
+        attributes = finds (t .attributes) 4 [] (o + 1 + length (t .name)) (t .gap ++ w) (g .attributes) d2;
+        first =
+            sym
+            (ap (attributeAt (o + 1 + length (t .name))) d2
+            ∙ first-is (t .gap) w (g .gap) b n (o + 1 + length (t .name)) (t .attributes) (g .attributes));
       }
 
   -- ---- texts
@@ -82,7 +92,8 @@ module _ (s : List ℕ) where
     pub part : slice a b s ≡ spells ps
     pub behind : drop b s ≡ w
 
-  pub text-at : (a b : ℕ) (ps : List Piece) (w : List ℕ) → Each GoodPiece ps → drop a s ≡ spells ps ++ w → b ≡ a + length (spells ps) → TextAt a b ps w
+  pub text-at : (a b : ℕ) (ps : List Piece) (w : List ℕ) → Each GoodPiece ps → drop a s ≡ spells ps ++ w → b ≡ a + length (spells ps)
+      → TextAt a b ps w
   text-at a b ps w g e h =
       let d = drop-is a b s (spells ps) w e h in
       record {
@@ -95,35 +106,39 @@ module _ (s : List ℕ) where
 
   pub record EmptyAt (o : ℕ) (t : Tag) (w : List ℕ) : Type 0 where
     pub token : tokenIn s o ≡ tagOf Empty o t (o + length (render (empty t end)))
-    pub tagged : Tagged s (tokenIn s o) (t .name) (attrsOf (t .attributes))
+    pub tagged : Tagged s (tagOf Empty o t (o + length (render (empty t end)))) (t .name) (attrsOf (t .attributes))
     pub behind : drop (o + length (render (empty t end))) s ≡ w
 
   pub empty-at : (o : ℕ) (t : Tag) (w : List ℕ) → GoodTag t → drop o s ≡ 60 ∷ (tag t ++ (47 ∷ 62 ∷ w)) → EmptyAt o t w
+  unfolding isBlank isNamePart
   empty-at o t w g e =
       let n = length-append (tag t) (47 ∷ 62 ∷ []) in
       let m : o + (length (tag t) + 3) ≡ o + length (render (empty t end)) = omega arith in
       let r = ap (tokenAt o) e ∙ token-empty o t w g ∙ ap (tagOf Empty o t) m in
       record {
         token = r;
-        tagged = subst (λ z. Tagged s z (t .name) (attrsOf (t .attributes))) (sym r) (tagged Empty o t _ (47 ∷ 62 ∷ w) g e);
-        behind = drop-is o _ s (render (empty t end)) w (e ∙ ap (λ (l : List ℕ). 60 ∷ l) (sym (append-assoc (tag t) (47 ∷ 62 ∷ []) w))) refl;
+        tagged = tag-at Empty o t _ (47 ∷ 62 ∷ w) g (stops isBlank 47 (62 ∷ w) refl) (stops isNamePart 47 (62 ∷ w) refl) e;
+        behind =
+            drop-is o _ s (render (empty t end)) w (e ∙ ap (λ (l : List ℕ). 60 ∷ l) (sym (append-assoc (tag t) (47 ∷ 62 ∷ []) w))) refl;
       }
 
   -- ---- `<a ..>` and `</a>`
 
   pub record OpenAt (o : ℕ) (t : Tag) (w : List ℕ) : Type 0 where
     pub token : tokenIn s o ≡ tagOf Open o t (o + (length (tag t) + 2))
-    pub tagged : Tagged s (tokenIn s o) (t .name) (attrsOf (t .attributes))
+    pub tagged : Tagged s (tagOf Open o t (o + (length (tag t) + 2))) (t .name) (attrsOf (t .attributes))
     pub behind : drop (o + (length (tag t) + 2)) s ≡ w
 
   pub open-at : (o : ℕ) (t : Tag) (w : List ℕ) → GoodTag t → drop o s ≡ 60 ∷ (tag t ++ (62 ∷ w)) → OpenAt o t w
+  unfolding isBlank isNamePart
   open-at o t w g e =
       let n = length-append (tag t) (62 ∷ []) in
       let r = ap (tokenAt o) e ∙ token-open o t w g in
       record {
         token = r;
-        tagged = subst (λ z. Tagged s z (t .name) (attrsOf (t .attributes))) (sym r) (tagged Open o t _ (62 ∷ w) g e);
-        behind = drop-is o (o + (length (tag t) + 2)) s (60 ∷ (tag t ++ (62 ∷ []))) w (e ∙ ap (λ (l : List ℕ). 60 ∷ l) (sym (append-assoc (tag t) (62 ∷ []) w))) (omega arith);
+        tagged = tag-at Open o t _ (62 ∷ w) g (stops isBlank 62 w refl) (stops isNamePart 62 w refl) e;
+        behind =
+            drop-is o (o + (length (tag t) + 2)) s (60 ∷ (tag t ++ (62 ∷ []))) w (e ∙ ap (λ (l : List ℕ). 60 ∷ l) (sym (append-assoc (tag t) (62 ∷ []) w))) (omega arith);
       }
 
   pub record CloseAt (o : ℕ) (n g w : List ℕ) : Type 0 where
@@ -148,14 +163,16 @@ piece-shape p k u = append-assoc (spell p) (render k) u
 pub empty-shape : (t : Tag) (k : Content) (u : List ℕ) → render (empty t k) ++ u ≡ 60 ∷ (tag t ++ (47 ∷ 62 ∷ (render k ++ u)))
 empty-shape t k u = ap (λ (l : List ℕ). 60 ∷ l) (append-assoc (tag t) (47 ∷ 62 ∷ render k) u)
 
-spread : (t i n g k u : List ℕ) → (60 ∷ (t ++ (62 ∷ (i ++ (60 ∷ 47 ∷ (n ++ (g ++ (62 ∷ k)))))))) ++ u ≡ 60 ∷ (t ++ (62 ∷ (i ++ endOn n g (k ++ u))))
+spread : (t i n g k u : List ℕ)
+    → (60 ∷ (t ++ (62 ∷ (i ++ (60 ∷ 47 ∷ (n ++ (g ++ (62 ∷ k)))))))) ++ u ≡ 60 ∷ (t ++ (62 ∷ (i ++ endOn n g (k ++ u))))
 spread t i n g k u = simp append-assoc
 
 pub full-shape : (t : Tag) (i : Content) (g : List ℕ) (k : Content) (u : List ℕ)
     → render (full t i g k) ++ u ≡ 60 ∷ (tag t ++ (62 ∷ (render i ++ endOn (t .name) g (render k ++ u))))
 full-shape t i g k u = spread (tag t) (render i) (t .name) g (render k) u
 
-full-lengths : (t i n g k : List ℕ) → length (60 ∷ (t ++ (62 ∷ (i ++ (60 ∷ 47 ∷ (n ++ (g ++ (62 ∷ k)))))))) ≡ length t + 2 + length i + (length n + length g + 3) + length k
+full-lengths : (t i n g k : List ℕ)
+    → length (60 ∷ (t ++ (62 ∷ (i ++ (60 ∷ 47 ∷ (n ++ (g ++ (62 ∷ k)))))))) ≡ length t + 2 + length i + (length n + length g + 3) + length k
 full-lengths t i n g k = simp length-append (omega arith)
 
 -- how long an element and what follows it is

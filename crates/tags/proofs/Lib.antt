@@ -19,3 +19,5 @@ pub mod Elements
 pub mod Texts
 -- of a good tree's text the cursor tells its message
 pub mod Story
+-- only one message is told of a text
+pub mod One

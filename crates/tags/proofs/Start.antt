@@ -1,18 +1,15 @@
 -- Where the root begins. Assumes nothing.
 use mathlib.Core.Path.{_≡_, refl, sym, _∙_, ap}
-use mathlib.Core.Bool.{Bool, true, false, cond, _&&_, true≢false}
+use mathlib.Core.Bool.{Bool, true, false, true≢false}
 use mathlib.Core.List.{List, [], _∷_, _++_}
-use Prim.Native.Nat.{ℕ, zero, suc, _+_}
-use native.Mathlib.Omega.{arith}
-use lib.Dec.{eqb}
+use Prim.Native.Nat.{ℕ, _+_}
 use lib.ListN.{length, drop}
 use borrow.Author.Tests.{ne-eqb}
 use Rattle.text.specs.Bytes.{ascii, isBlank, isNameStart}
-use Rattle.text.specs.Lists.{All, span}
-use Rattle.text.specs.Pieces.{greater, less}
+use Rattle.text.specs.Pieces.{greater}
 use Rattle.text.proofs.Spans.{span-of}
 use Rattle.xml.specs.House.{Blanks, IsName, declaration}
-use Rattle.tags.specs.Passing.{but, pass, one, headIs}
+use Rattle.tags.specs.Passing.{but, one, headIs}
 use Rattle.tags.specs.Tokens.{rootFrom, startOf}
 use Rattle.tags.proofs.Passing.{stops, pass-over}
 use Rattle.tags.proofs.Avoid.{all-passed}
@@ -30,7 +27,8 @@ unfolding isNameStart
 name-no-question [] w i = absurd i
 name-no-question (x ∷ n) w i = ne-eqb x 63 (λ e. true≢false (sym (i .0) ∙ ap isNameStart e))
 
-pub start-is : (d : Bool) (b n w : List ℕ) → Blanks b → IsName n → startOf (declaration d ++ (b ++ (60 ∷ (n ++ w)))) ≡ length (declaration d) + length b
+pub start-is : (d : Bool) (b n w : List ℕ) → Blanks b → IsName n
+    → startOf (declaration d ++ (b ++ (60 ∷ (n ++ w)))) ≡ length (declaration d) + length b
 unfolding startOf declared isBlank
 start-is true b n w h i =
     pass-over (but greater) (λ o m. rootFrom (o + one m) (drop (one m) m)) 0 declared (62 ∷ (b ++ (60 ∷ (n ++ w)))) (all-passed (but greater) declared refl) (stops (but greater) 62 _ refl)

@@ -1,22 +1,20 @@
 -- The mirrors at a place of any text s, from what the code's calls told. Assumes nothing.
 use mathlib.Core.Path.{_≡_, refl, sym, _∙_, ap, subst}
-use mathlib.Core.Bool.{Bool, true, false, cond, _&&_}
-use mathlib.Core.List.{List, [], _∷_, _++_}
-use Prim.Native.Nat.{ℕ, zero, suc, _+_, _-_, _≤_, _<_}
+use mathlib.Core.Bool.{true, false}
+use mathlib.Core.List.{List, _∷_}
+use Prim.Native.Nat.{ℕ, _+_, _-_, _≤_, _<_}
 use native.Mathlib.Numerals.{add-one}
 use native.Mathlib.Omega.{arith}
-use lib.Dec.{eqb}
 use lib.ListN.{length, getD, drop, length-drop, drop-of-length-le}
 use lib.Seq.{drop-drop, drop-cons}
 use borrow.Author.Tests.{eq-eqb, ne-eqb}
 use Rattle.text.specs.Bytes.{isBlank, isNamePart}
 use Rattle.text.specs.Lists.{span}
-use Rattle.text.specs.Pieces.{less, greater, solidus}
+use Rattle.text.specs.Pieces.{less, greater}
 use Rattle.tags.specs.declared.attribute.Attribute.{Attribute}
 use Rattle.tags.specs.declared.attribute.Passed.{Passed}
 use Rattle.tags.specs.declared.token.Kind.the-variants.{Open, Empty, Close, End}
-use Rattle.tags.specs.declared.token.Token.{Token}
-use Rattle.tags.specs.Passing.{but, noQuote, pass, one, headIs, behind}
+use Rattle.tags.specs.Passing.{but, noQuote, one, headIs, behind}
 use Rattle.tags.specs.Attributes.{nowhere, valueAt, quoteAt, namedAt, attributeAt, isNone, counted, passedAt}
 use Rattle.tags.specs.Tokens.{bare, shutAt, tailAt, tagAt, tokenAt, rootFrom, isDeclared, startOf}
 use Rattle.tags.proofs.Passing.{pass-at}
@@ -40,7 +38,8 @@ module _ (s : List ℕ) where
         let z : span isNamePart (drop name s) ≡ 0 = omega arith in
         sym (pass-at isBlank namedAt s at name n ∙ rw z refl)
 
-    pub attribute-valued : (mark : ℕ) → (stop ≡ name → ⊥) → mark ≡ stop + span noQuote (drop stop s) → valueAt name stop mark (drop mark s) ≡ attributeAt at (drop at s)
+    pub attribute-valued : (mark : ℕ) → (stop ≡ name → ⊥) → mark ≡ stop + span noQuote (drop stop s)
+        → valueAt name stop mark (drop mark s) ≡ attributeAt at (drop at s)
     unfolding attributeAt namedAt
     attribute-valued mark e q =
         let z = ne-eqb (span isNamePart (drop name s)) 0 (λ w. e (omega arith)) in
@@ -49,7 +48,8 @@ module _ (s : List ℕ) where
         ∙ rw z (pass-at isNamePart (quoteAt name) s name stop p)
         ∙ pass-at noQuote (valueAt name stop) s stop mark q)
 
-  pub value-nowhere : (a b mark : ℕ) → length s ≤ mark → record { name = a; stop = b; value = mark; quote = mark; end = mark } ≡ valueAt a b mark (drop mark s)
+  pub value-nowhere : (a b mark : ℕ) → length s ≤ mark
+      → record { name = a; stop = b; value = mark; quote = mark; end = mark } ≡ valueAt a b mark (drop mark s)
   unfolding valueAt
   value-nowhere a b mark h = rw (drop-of-length-le s h)
 
@@ -73,7 +73,9 @@ module _ (s : List ℕ) where
       record {
         on = m;
         within = omega (arith, length-drop i s);
-        counts = passed-some i (drop i s) e ∙ ap (λ (l : List ℕ). counted (passedAt (attributeAt i (drop i s) .end) l)) (drop-to i (attributeAt i (drop i s) .end) (omega arith));
+        counts =
+            passed-some i (drop i s) e
+            ∙ ap (λ (l : List ℕ). counted (passedAt (attributeAt i (drop i s) .end) l)) (drop-to i (attributeAt i (drop i s) .end) (omega arith));
       }
 
   module _ (i : ℕ) (a : Attribute) (e : a ≡ attributeAt i (drop i s)) where
@@ -81,7 +83,9 @@ module _ (s : List ℕ) where
     one-more n = subst (λ (z : Attribute). Further i z) (sym e) (further i (ap isNone (sym e) ∙ ne-eqb (a .stop) (a .name) n))
 
     pub no-more : a .stop ≡ a .name → passedAt i (drop i s) ≡ record { count = 0; end = a .name }
-    no-more n = passed-none i (drop i s) (ap isNone (sym e) ∙ eq-eqb (a .stop) (a .name) n) ∙ ap (λ (z : Attribute). record { count = 0; end = z .name }) (sym e)
+    no-more n =
+        passed-none i (drop i s) (ap isNone (sym e) ∙ eq-eqb (a .stop) (a .name) n)
+        ∙ ap (λ (z : Attribute). record { count = 0; end = z .name }) (sym e)
 
   -- a loop that has come to i: what was counted, and what is still to come
   pub record Counted (at count i : ℕ) : Type 0 where
@@ -90,7 +94,8 @@ module _ (s : List ℕ) where
     pub is : record { count = count + passedAt i (drop i s) .count; end = passedAt i (drop i s) .end } ≡ passedAt at (drop at s)
 
   pub begin : (at : ℕ) → Counted at 0 at
-  begin at = record { within = omega arith; behind = omega arith; is = ap (λ (n : ℕ). record { count = n; end = passedAt at (drop at s) .end }) (omega arith) }
+  begin at =
+      record { within = omega arith; behind = omega arith; is = ap (λ (n : ℕ). record { count = n; end = passedAt at (drop at s) .end }) (omega arith) }
 
   module _ (at count i : ℕ) (a : Attribute) (w : Counted at count i) (e : a ≡ attributeAt i (drop i s)) where
     pub again : (a .stop ≡ a .name → ⊥) → Counted at (count + 1) (a .end)
@@ -155,7 +160,8 @@ module _ (s : List ℕ) where
     next-end g = sym (pass-at (but less) tagAt s at o h ∙ ap (tagAt o) (drop-of-length-le s g))
 
     module _ (g : o < length s) where
-      pub next-close : (q end : ℕ) → headIs 47 (drop (o + 1) s) ≡ true → q ≡ o + 1 + span (but greater) (drop (o + 1) s) → end ≡ q + one (drop q s)
+      pub next-close : (q end : ℕ) → headIs 47 (drop (o + 1) s) ≡ true → q ≡ o + 1 + span (but greater) (drop (o + 1) s)
+          → end ≡ q + one (drop q s)
           → bare Close o end ≡ tokenAt at (drop at s)
       unfolding tokenAt tagAt behind
       next-close q end b e f =
@@ -181,10 +187,12 @@ module _ (s : List ℕ) where
   pub declared-no : headIs 60 (drop 0 s) ≡ false → false ≡ isDeclared s
   declared-no e = rw e
 
-  pub start-declared : (q e r : ℕ) → isDeclared s ≡ true → q ≡ 0 + span (but greater) (drop 0 s) → e ≡ q + one (drop q s) → r ≡ e + span isBlank (drop e s) → r ≡ startOf s
+  pub start-declared : (q e r : ℕ) → isDeclared s ≡ true → q ≡ 0 + span (but greater) (drop 0 s) → e ≡ q + one (drop q s)
+      → r ≡ e + span isBlank (drop e s) → r ≡ startOf s
   unfolding startOf rootFrom
   start-declared q e r d g h k =
-      k ∙ sym (rw d (pass-at (but greater) (λ o m. rootFrom (o + one m) (drop (one m) m)) s 0 q g ∙ rw (drop-drop (one (drop q s)) q s, ← h)))
+      k
+      ∙ sym (rw d (pass-at (but greater) (λ o m. rootFrom (o + one m) (drop (one m) m)) s 0 q g ∙ rw (drop-drop (one (drop q s)) q s, ← h)))
 
   pub start-plain : (r : ℕ) → isDeclared s ≡ false → r ≡ 0 + span isBlank (drop 0 s) → r ≡ startOf s
   unfolding startOf rootFrom

@@ -11,17 +11,16 @@ use Rattle.text.specs.Pieces.{less, Piece, spell, spells, resolved, GoodPiece}
 use Rattle.xml.specs.House.{Blanks, IsName, attrs, Tag, tag, GoodTag, Content, end, piece, empty, full, render, Good, OneElement, declaration, Tree, whole, GoodTree}
 use Rattle.xml.specs.Message.{Attrs, attrsOf, partsOf, rootAt, messageOf}
 use Rattle.xml.proofs.Lang.{endOn}
-use Rattle.tags.specs.declared.token.Kind.the-variants.{Open, Empty, Close, End}
+use Rattle.tags.specs.declared.token.Kind.the-variants.{Open, Empty, Close}
 use Rattle.tags.specs.declared.token.Token.{Token}
 use Rattle.tags.specs.Passing.{but}
-use Rattle.tags.specs.Tokens.{bare, tokenAt, startOf}
-use Rattle.tags.specs.Places.{tagOf}
+use Rattle.tags.specs.Tokens.{tokenAt, startOf}
 use Rattle.tags.specs.Story.{Event, char, enter, leave, events, chars, Text, tokenIn, Tagged, Tells, enters, passes, leaves, ends}
 use Rattle.tags.proofs.Passing.{all-weaken, but-by}
 use Rattle.tags.proofs.Slices.{drop-is}
 use Rattle.tags.proofs.Tokens.{token-end}
 use Rattle.tags.proofs.Start.{start-is}
-use Rattle.tags.proofs.Elements.{tagged, text-at, empty-at, open-at, close-at, piece-shape, empty-shape, full-shape, full-length, empty-length}
+use Rattle.tags.proofs.Elements.{text-at, empty-at, open-at, close-at, piece-shape, empty-shape, full-shape, full-length, empty-length}
 
 -- ---- a text with one piece more
 
@@ -33,30 +32,37 @@ spells-snoc (q ∷ ps) p w =
     ∙ sym (append-assoc (spell q) (spells (ps ++ (p ∷ []))) w)
 
 snoc-length : (ps : List Piece) (p : Piece) → length (spells (ps ++ (p ∷ []))) ≡ length (spells ps) + length (spell p)
-snoc-length ps p = ap length (sym (append-nil (spells (ps ++ (p ∷ [])))) ∙ sym (spells-snoc ps p [])) ∙ ap (λ (l : List ℕ). length (spells ps ++ l)) (append-nil (spell p)) ∙ length-append (spells ps) (spell p)
+snoc-length ps p =
+    ap length (sym (append-nil (spells (ps ++ (p ∷ [])))) ∙ sym (spells-snoc ps p []))
+    ∙ ap (λ (l : List ℕ). length (spells ps ++ l)) (append-nil (spell p)) ∙ length-append (spells ps) (spell p)
 
 good-snoc : (ps : List Piece) (p : Piece) → Each GoodPiece ps → GoodPiece p → Each GoodPiece (ps ++ (p ∷ []))
 good-snoc [] p h g = (g, tt)
 good-snoc (q ∷ ps) p h g = (h .0, good-snoc ps p (h .1) g)
 
-chars-snoc : (ps : List Piece) (p : Piece) (a o : ℕ) (more : List Event) → o ≡ a + length (spells ps) → chars a (ps ++ (p ∷ [])) more ≡ chars a ps (char o (resolved p) ∷ more)
+chars-snoc : (ps : List Piece) (p : Piece) (a o : ℕ) (more : List Event) → o ≡ a + length (spells ps)
+    → chars a (ps ++ (p ∷ [])) more ≡ chars a ps (char o (resolved p) ∷ more)
 chars-snoc [] p a o more e = ap (λ (n : ℕ). char n (resolved p) ∷ more) (omega arith)
-chars-snoc (q ∷ ps) p a o more e = ap (λ (l : List Event). char a (resolved q) ∷ l) (chars-snoc ps p (a + length (spell q)) o more (omega (arith, length-append (spell q) (spells ps))))
+chars-snoc (q ∷ ps) p a o more e =
+    ap (λ (l : List Event). char a (resolved q) ∷ l) (chars-snoc ps p (a + length (spell q)) o more (omega (arith, length-append (spell q) (spells ps))))
 
 module _ (s : List ℕ) where
   -- ---- from a token that is known
 
   module _ (o : ℕ) (ps : List Piece) (more : List Event) (r : Token) (e : tokenIn s o ≡ r) where
-    enters-by : {n : List ℕ} {ats : Attrs} → r .kind ≡ Open → Text s o (r .less) ps → Tagged s r n ats → Tells s (r .end) more → Tells s o (chars o ps (enter (r .less) n ats ∷ more))
+    enters-by : {n : List ℕ} {ats : Attrs} → r .kind ≡ Open → Text s o (r .less) ps → Tagged s r n ats → Tells s (r .end) more
+        → Tells s o (chars o ps (enter (r .less) n ats ∷ more))
     enters-by {n} {ats} =
         subst (λ (z : Token). z .kind ≡ Open → Text s o (z .less) ps → Tagged s z n ats → Tells s (z .end) more → Tells s o (chars o ps (enter (z .less) n ats ∷ more))) e enters
 
-    passes-by : {n : List ℕ} {ats : Attrs} → r .kind ≡ Empty → Text s o (r .less) ps → Tagged s r n ats → Tells s (r .end) more → Tells s o (chars o ps (enter (r .less) n ats ∷ leave ∷ more))
+    passes-by : {n : List ℕ} {ats : Attrs} → r .kind ≡ Empty → Text s o (r .less) ps → Tagged s r n ats → Tells s (r .end) more
+        → Tells s o (chars o ps (enter (r .less) n ats ∷ leave ∷ more))
     passes-by {n} {ats} =
         subst (λ (z : Token). z .kind ≡ Empty → Text s o (z .less) ps → Tagged s z n ats → Tells s (z .end) more → Tells s o (chars o ps (enter (z .less) n ats ∷ leave ∷ more))) e passes
 
     leaves-by : r .kind ≡ Close → Text s o (r .less) ps → Tells s (r .end) more → Tells s o (chars o ps (leave ∷ more))
-    leaves-by = subst (λ (z : Token). z .kind ≡ Close → Text s o (z .less) ps → Tells s (z .end) more → Tells s o (chars o ps (leave ∷ more))) e leaves
+    leaves-by =
+        subst (λ (z : Token). z .kind ≡ Close → Text s o (z .less) ps → Tells s (z .end) more → Tells s o (chars o ps (leave ∷ more))) e leaves
 
   -- ---- an element behind a text
 
@@ -67,7 +73,7 @@ module _ (s : List ℕ) where
     empty-told t w more g e k =
         let x = text-at s a o ps _ h e at in
         let y = empty-at s o t w g (x .behind) in
-        passes-by a ps more _ (x .token ∙ y .token) refl (record { good = h; is = x .part }) (tagged s Empty o t _ (47 ∷ 62 ∷ w) g (x .behind)) k
+        passes-by a ps more _ (x .token ∙ y .token) refl (record { good = h; is = x .part }) (y .tagged) k
 
     open-told : (t : Tag) (w : List ℕ) (more : List Event) → GoodTag t → drop a s ≡ spells ps ++ (60 ∷ (tag t ++ (62 ∷ w)))
         → Tells s (o + (length (tag t) + 2)) more
@@ -75,7 +81,7 @@ module _ (s : List ℕ) where
     open-told t w more g e k =
         let x = text-at s a o ps _ h e at in
         let y = open-at s o t w g (x .behind) in
-        enters-by a ps more _ (x .token ∙ y .token) refl (record { good = h; is = x .part }) (tagged s Open o t _ (62 ∷ w) g (x .behind)) k
+        enters-by a ps more _ (x .token ∙ y .token) refl (record { good = h; is = x .part }) (y .tagged) k
 
     close-told : (n g w : List ℕ) (more : List Event) → IsName n → Blanks g → drop a s ≡ spells ps ++ endOn n g w
         → Tells s (o + (length n + length g + 3)) more
@@ -123,9 +129,11 @@ module _ (s : List ℕ) where
 
   blanks-told : (o : ℕ) (l : List ℕ) → Blanks l → drop o s ≡ l → Tells s o []
   unfolding isBlank
-  blanks-told o l b e = ends (ap (λ (w : List ℕ). tokenAt o w .kind) e ∙ ap (λ (t : Token). t .kind) (token-end o l (all-weaken isBlank (but less) (but-by isBlank less refl) l b)))
+  blanks-told o l b e =
+      ends (ap (λ (w : List ℕ). tokenAt o w .kind) e ∙ ap (λ (t : Token). t .kind) (token-end o l (all-weaken isBlank (but less) (but-by isBlank less refl) l b)))
 
-  root-told : (c : Content) (o : ℕ) (u : List ℕ) → OneElement c → Good 16 c → Blanks u → drop o s ≡ render c ++ u → Tells s o (events (partsOf o c) [])
+  root-told : (c : Content) (o : ℕ) (u : List ℕ) → OneElement c → Good 16 c → Blanks u → drop o s ≡ render c ++ u
+      → Tells s o (events (partsOf o c) [])
   root-told end o u one g b e = absurd one
   root-told (piece p c) o u one g b e = absurd one
   root-told (empty t c) o u one g b e =
@@ -150,14 +158,17 @@ module _ (s : List ℕ) where
 root-shape : (c : Content) (u : List ℕ) → OneElement c → Good 16 c → (n w : List ℕ) × IsName n × (render c ++ u ≡ 60 ∷ (n ++ w))
 root-shape end u one g = absurd one
 root-shape (piece p c) u one g = absurd one
-root-shape (empty t c) u one g = (t .name, _, g .0 .name, empty-shape t c u ∙ ap (λ (l : List ℕ). 60 ∷ l) (append-assoc (t .name) (attrs (t .attributes) ++ t .gap) _))
-root-shape (full t j q c) u one g = (t .name, _, g .0 .name, full-shape t j q c u ∙ ap (λ (l : List ℕ). 60 ∷ l) (append-assoc (t .name) (attrs (t .attributes) ++ t .gap) _))
+root-shape (empty t c) u one g =
+    (t .name, _, g .0 .name, empty-shape t c u ∙ ap (λ (l : List ℕ). 60 ∷ l) (append-assoc (t .name) (attrs (t .attributes) ++ t .gap) _))
+root-shape (full t j q c) u one g =
+    (t .name, _, g .0 .name, full-shape t j q c u ∙ ap (λ (l : List ℕ). 60 ∷ l) (append-assoc (t .name) (attrs (t .attributes) ++ t .gap) _))
 
 -- the cursor begins at the root
 pub start-root : (t : Tree) → GoodTree t → startOf (whole t) ≡ rootAt t
 start-root t g =
     let r = root-shape (t .root) (t .after) (g .one) (g .root) in
-    ap (λ (l : List ℕ). startOf (declaration (t .declared) ++ (t .before ++ l))) (r .3) ∙ start-is (t .declared) (t .before) (r .0) (r .1) (g .before) (r .2)
+    ap (λ (l : List ℕ). startOf (declaration (t .declared) ++ (t .before ++ l))) (r .3)
+    ∙ start-is (t .declared) (t .before) (r .0) (r .1) (g .before) (r .2)
 
 pub root-drop : (t : Tree) → drop (rootAt t) (whole t) ≡ render (t .root) ++ t .after
 root-drop t =

@@ -2,7 +2,7 @@
 use mathlib.Core.Path.{_≡_, refl, sym, _∙_, ap, ap₂, subst}
 use mathlib.Core.Bool.{Bool, true, false, cond, true≢false}
 use mathlib.Core.List.{List, [], _∷_, _++_, append-assoc}
-use Prim.Native.Nat.{ℕ, zero, suc, _+_, _≤_, _<_, min}
+use Prim.Native.Nat.{ℕ, suc, _+_, _≤_, _<_, min}
 use native.Mathlib.Nat.{min-eq-left, min-eq-right}
 use native.Mathlib.Omega.{arith}
 use native.Mathlib.Decide.{decLt}
@@ -11,7 +11,7 @@ use lib.Seq.{slice}
 use Rattle.text.specs.Bytes.{isBlank}
 use Rattle.text.specs.Lists.{Each, span}
 use Rattle.text.specs.Utf8.{encode}
-use Rattle.text.specs.Pieces.{Entity, amp, lt, gt, quot, apos, word, stands, Piece, char, entity, spell, spells, resolved, resolvedAll, GoodPiece, Spells}
+use Rattle.text.specs.Pieces.{Entity, amp, lt, gt, quot, apos, word, Piece, char, entity, spell, spells, resolved, resolvedAll, GoodPiece, Spells}
 use Rattle.text.specs.Chars.{charOf, NextChar}
 use Rattle.text.specs.Resolving.{charAt}
 use Rattle.text.specs.declared.utf8.Char.{Char}
@@ -19,7 +19,7 @@ use Rattle.text.proofs.Classes as classes
 use Rattle.text.proofs.Resolving.{Head, head-of, complete, next-of, next-one, piece-some}
 use Rattle.xml.proofs.Basics.{by-blank}
 use Rattle.tags.specs.Tokens.{inkIn}
-use Rattle.tags.specs.Story.{Event, chars, inkOf, Text, Reads, over, next}
+use Rattle.tags.specs.Story.{chars, inkOf, Text, Reads, over, next}
 use Rattle.tags.proofs.Passing.{stops, span-append}
 use Rattle.tags.proofs.Slices.{drop-is, slice-drop, slice-end}
 
@@ -29,10 +29,12 @@ pub text-spells : (s : List ℕ) (a b : ℕ) (ps : List Piece) → Text s a b ps
 text-spells s a b ps t = record { pieces = ps; good = t .good; is = t .is; chars = refl }
 
 -- where a piece stands, `next_char` answers with its length and its character
-pub char-is : (p : Piece) (l w : List ℕ) (c : Char) → GoodPiece p → l ≡ spell p ++ w → NextChar l c → c ≡ charOf (length (spell p)) (resolved p)
+pub char-is : (p : Piece) (l w : List ℕ) (c : Char) → GoodPiece p → l ≡ spell p ++ w → NextChar l c
+    → c ≡ charOf (length (spell p)) (resolved p)
 char-is p l w c g e n = next-one l c n ∙ ap charAt e ∙ complete p w g
 
-reads-from : (s : List ℕ) (ps : List Piece) (a b : ℕ) (w : List ℕ) → Each GoodPiece ps → drop a s ≡ spells ps ++ w → b ≡ a + length (spells ps) → Reads s a b (chars a ps [])
+reads-from : (s : List ℕ) (ps : List Piece) (a b : ℕ) (w : List ℕ) → Each GoodPiece ps → drop a s ≡ spells ps ++ w
+    → b ≡ a + length (spells ps) → Reads s a b (chars a ps [])
 reads-from s [] a b w g e h = subst (λ (n : ℕ). Reads s a n []) (let z : a ≡ b = omega arith in z) over
 reads-from s (p ∷ ps) a b w g e h =
     let d = e ∙ append-assoc (spell p) (spells ps) w in
@@ -79,7 +81,8 @@ ink-from : (ps : List Piece) (o : ℕ) (w : List ℕ) → min (o + span isBlank 
 ink-from [] o w = let h : o + 0 ≤ o + span isBlank w = omega arith in min-eq-right h ∙ omega arith
 ink-from (p ∷ ps) o w = go (isBlank (resolved p)) refl (ink-from ps)
   where
-    go : (b : Bool) → isBlank (resolved p) ≡ b → ((n : ℕ) (u : List ℕ) → min (n + span isBlank (spells ps ++ u)) (n + length (spells ps)) ≡ inkOf n ps)
+    go : (b : Bool) → isBlank (resolved p) ≡ b
+        → ((n : ℕ) (u : List ℕ) → min (n + span isBlank (spells ps ++ u)) (n + length (spells ps)) ≡ inkOf n ps)
         → min (o + span isBlank ((spell p ++ spells ps) ++ w)) (o + length (spell p ++ spells ps)) ≡ cond b (inkOf (o + length (spell p)) ps) o
     go true e ih =
         let x = resolved p in

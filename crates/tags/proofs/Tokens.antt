@@ -1,20 +1,19 @@
 -- What the cursor answers at a text and at a tag of a tree. Assumes nothing.
-use mathlib.Core.Path.{_≡_, refl, sym, _∙_, ap, ap₂}
+use mathlib.Core.Path.{_≡_, refl, sym, _∙_, ap}
 use mathlib.Core.Logic.{_≢_}
-use mathlib.Core.Bool.{Bool, true, false, not, cond, true≢false}
+use mathlib.Core.Bool.{Bool, true, false, cond, true≢false}
 use mathlib.Core.List.{List, [], _∷_, _++_, append-assoc, append-nil}
-use Prim.Native.Nat.{ℕ, zero, suc, _+_, _-_, _≤_, _<_}
+use Prim.Native.Nat.{ℕ, suc, _+_, _-_, _≤_, _<_}
 use native.Mathlib.Omega.{arith}
 use lib.Dec.{eqb}
 use lib.ListN.{length, drop, length-drop, length-append}
 use lib.Seq.{drop-append-seam}
-use borrow.Author.Tests.{eqb-true, eq-eqb, ne-eqb}
+use borrow.Author.Tests.{ne-eqb}
 use Rattle.text.specs.Bytes.{isBlank, isNamePart, isNameStart}
 use Rattle.text.specs.Lists.{All, Each, span}
 use Rattle.text.specs.Pieces.{less, greater, solidus, Piece, spell, spells, GoodPiece}
 use Rattle.xml.specs.House.{Blanks, IsName, attrs, Tag, tag, GoodTag}
 use Rattle.tags.specs.declared.attribute.Attribute.{Attribute}
-use Rattle.tags.specs.declared.token.Kind.{Kind}
 use Rattle.tags.specs.declared.token.Kind.the-variants.{Open, Empty, Close, End}
 use Rattle.tags.specs.declared.token.Token.{Token}
 use Rattle.tags.specs.Passing.{but, pass, one, headIs, behind}
@@ -76,7 +75,8 @@ token-ahead o l =
 
 -- at a place of s: no place past its end
 pub token-within : (s : List ℕ) (o : ℕ) → o ≤ length s → Ahead o (length s) (tokenAt o (drop o s))
-token-within s o h = ahead-to o (o + length (drop o s)) (length s) (tokenAt o (drop o s)) (omega (arith, length-drop o s)) (token-ahead o (drop o s))
+token-within s o h =
+    ahead-to o (o + length (drop o s)) (length s) (tokenAt o (drop o s)) (omega (arith, length-drop o s)) (token-ahead o (drop o s))
 
 -- ---- texts
 
@@ -85,7 +85,8 @@ pub token-piece : (o : ℕ) (p : Piece) (w : List ℕ) → GoodPiece p → token
 unfolding tokenAt
 token-piece o p w g = pass-skip (but less) tagAt o (spell p) w (piece-avoids p g)
 
-pub token-text : (o : ℕ) (ps : List Piece) (w : List ℕ) → Each GoodPiece ps → tokenAt o (spells ps ++ w) ≡ tokenAt (o + length (spells ps)) w
+pub token-text : (o : ℕ) (ps : List Piece) (w : List ℕ) → Each GoodPiece ps
+    → tokenAt o (spells ps ++ w) ≡ tokenAt (o + length (spells ps)) w
 unfolding tokenAt
 token-text o ps w g = pass-skip (but less) tagAt o (spells ps) w (text-avoids ps g)
 
@@ -130,17 +131,22 @@ tag-is o t w g b n =
     rest = attrs (t .attributes) ++ (t .gap ++ w)
 
     shape : tag t ++ w ≡ t .name ++ rest
-    shape = append-assoc (t .name) (attrs (t .attributes) ++ t .gap) w ∙ ap (λ (l : List ℕ). t .name ++ l) (append-assoc (attrs (t .attributes)) (t .gap) w)
+    shape =
+        append-assoc (t .name) (attrs (t .attributes) ++ t .gap) w
+        ∙ ap (λ (l : List ℕ). t .name ++ l) (append-assoc (attrs (t .attributes)) (t .gap) w)
 
 -- `<a ..>`
-pub token-open : (o : ℕ) (t : Tag) (w : List ℕ) → GoodTag t → tokenAt o (60 ∷ (tag t ++ (62 ∷ w))) ≡ tagOf Open o t (o + (length (tag t) + 2))
+pub token-open : (o : ℕ) (t : Tag) (w : List ℕ) → GoodTag t
+    → tokenAt o (60 ∷ (tag t ++ (62 ∷ w))) ≡ tagOf Open o t (o + (length (tag t) + 2))
 unfolding shutAt isBlank isNamePart
 token-open o t w g = tag-is o t (62 ∷ w) g (stops isBlank 62 w refl) (stops isNamePart 62 w refl) ∙ ap (tagOf Open o t) (omega arith)
 
 -- `<a ../>`
-pub token-empty : (o : ℕ) (t : Tag) (w : List ℕ) → GoodTag t → tokenAt o (60 ∷ (tag t ++ (47 ∷ 62 ∷ w))) ≡ tagOf Empty o t (o + (length (tag t) + 3))
+pub token-empty : (o : ℕ) (t : Tag) (w : List ℕ) → GoodTag t
+    → tokenAt o (60 ∷ (tag t ++ (47 ∷ 62 ∷ w))) ≡ tagOf Empty o t (o + (length (tag t) + 3))
 unfolding shutAt isBlank isNamePart
-token-empty o t w g = tag-is o t (47 ∷ 62 ∷ w) g (stops isBlank 47 (62 ∷ w) refl) (stops isNamePart 47 (62 ∷ w) refl) ∙ ap (tagOf Empty o t) (omega arith)
+token-empty o t w g =
+    tag-is o t (47 ∷ 62 ∷ w) g (stops isBlank 47 (62 ∷ w) refl) (stops isNamePart 47 (62 ∷ w) refl) ∙ ap (tagOf Empty o t) (omega arith)
 
 -- ---- end tags
 
@@ -150,7 +156,8 @@ close-all n g i b =
     (refl, all-append (but greater) n g (all-weaken isNamePart (but greater) (but-by isNamePart greater refl) n (name-all n i)) (all-weaken isBlank (but greater) (but-by isBlank greater refl) g b))
 
 -- `</a>`
-pub token-close : (o : ℕ) (n g w : List ℕ) → IsName n → Blanks g → tokenAt o (60 ∷ 47 ∷ (n ++ (g ++ (62 ∷ w)))) ≡ bare Close o (o + (length n + length g + 3))
+pub token-close : (o : ℕ) (n g w : List ℕ) → IsName n → Blanks g
+    → tokenAt o (60 ∷ 47 ∷ (n ++ (g ++ (62 ∷ w)))) ≡ bare Close o (o + (length n + length g + 3))
 unfolding tagAt behind
 token-close o n g w i b =
     less-stops o (47 ∷ (n ++ (g ++ (62 ∷ w))))

@@ -1,5 +1,5 @@
 -- A mirror: how the cursor passes bytes. What stands at a place o and behind it is given as o and the list of those bytes. Assumes nothing.
-use mathlib.Core.Bool.{Bool, true, false, not, _||_}
+use mathlib.Core.Bool.{Bool, false, not, _||_}
 use mathlib.Core.List.{List, [], _∷_}
 use Prim.Native.Nat.{ℕ, _+_}
 use lib.Dec.{eqb}

@@ -67,11 +67,12 @@ Finds s o (a ∷ more) =
     × Spells (slice (attributeIn s o .value) (attributeIn s o .quote) s) (a .1)
     × Finds s (attributeIn s o .end) more
 
--- the tag of a token: its name, its attributes and how many they are
+-- the tag of a token: its name, its attributes and how many they are; the first of them is found already
 pub record Tagged (s : List ℕ) (t : Token) (n : List ℕ) (ats : Attrs) : Type 0 where
   pub name : slice (t .less + 1) (t .stop) s ≡ n
   pub count : t .attributes ≡ length ats
   pub attributes : Finds s (t .stop) ats
+  pub first : t .first ≡ attributeIn s (t .stop)
 
 -- called again and again from o on until the bytes end, the cursor tells these events
 pub data Tells (s : List ℕ) : ℕ → List Event → Type 0 where

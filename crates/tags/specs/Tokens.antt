@@ -1,8 +1,7 @@
 -- A mirror: how the cursor passes a text and the tag behind it. Assumes nothing.
-use mathlib.Core.Bool.{Bool, true, false, cond, _&&_}
+use mathlib.Core.Bool.{Bool, cond, _&&_}
 use mathlib.Core.List.{List, [], _∷_}
 use Prim.Native.Nat.{ℕ, _+_, _-_, min}
-use lib.Dec.{eqb}
 use lib.ListN.{drop}
 use Rattle.text.specs.Bytes.{isBlank, isNamePart}
 use Rattle.text.specs.Lists.{span}

@@ -20,7 +20,8 @@ module _ {A : Type 0} (Good : A → Type 0) (bytes : A → List ℕ) (stood : A 
 
   pub rest-is : (s : List ℕ) (r : Char) (b : Begun Good bytes stood s r) → drop (r .len) s ≡ b .rest
   rest-is s r b =
-      ap (λ (x : Char). drop (x .len) s) (b .found) ∙ ap (drop (length (bytes (b .sign)))) (b .is) ∙ drop-append-seam (bytes (b .sign)) (b .rest)
+      ap (λ (x : Char). drop (x .len) s) (b .found) ∙ ap (drop (length (bytes (b .sign)))) (b .is)
+      ∙ drop-append-seam (bytes (b .sign)) (b .rest)
 
   pub begun-len : (s : List ℕ) (r : Char) (b : Begun Good bytes stood s r) → r .len ≡ length (bytes (b .sign))
   begun-len s r b = ap (λ (x : Char). x .len) (b .found)

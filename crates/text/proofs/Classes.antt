@@ -1,12 +1,14 @@
 -- A class of numbers, made of single numbers and ranges: its test, and what the test says of a number. Assumes nothing.
 use mathlib.Core.Path.{_≡_, refl, sym, _∙_, ap}
-use mathlib.Core.Bool.{Bool, true, false, _&&_, _||_, true≢false}
+use mathlib.Core.Bool.{Bool, true, false, _&&_, _||_, not, true≢false, or-false}
+use mathlib.Core.List.{List, [], _∷_}
 use mathlib.Core.Logic.{_⊎_, inl, inr, _≢_}
 use Prim.Native.Nat.{ℕ, zero, suc, _+_, _≤_, _<_}
 use native.Mathlib.Omega.{arith}
 use native.Mathlib.Decide.{ℕ-discrete}
 use lib.Dec.{leb, eqb}
-use borrow.Author.Tests.{le-leb, eq-eqb, ne-eqb, leb-true, eqb-true, eqb-false}
+use types.Run.{OneOf}
+use borrow.Author.Tests.{not-true, le-leb, eq-eqb, ne-eqb, leb-true, eqb-true, eqb-false}
 use Rattle.text.specs.Bytes.{inRange, isBlank, isCapital, isLetter, isDigit, isNameStart, isNamePart}
 use Rattle.text.specs.Plain.{isPlain}
 
@@ -106,6 +108,34 @@ passes p a (suc n) e x h k =
     go (yes d) f g = rw d f
     go (no d) f g = g (omega arith) (omega arith)
 
+-- ---- the keys of a `match`, and a range but for its keys, computed
+
+abbrev pub allOf : (ℕ → Bool) → List ℕ → Bool
+allOf p [] = true
+allOf p (k ∷ ks) = p k && allOf p ks
+
+abbrev pub elem : List ℕ → ℕ → Bool
+elem [] x = false
+elem (k ∷ ks) x = eqb x k || elem ks x
+
+key-passes : (p : ℕ → Bool) (ks : List ℕ) → allOf p ks ≡ true → (x : ℕ) → OneOf ks x → p x ≡ true
+key-passes p (k ∷ []) e x h = rw h (and-is (p k) true e .0)
+key-passes p (k ∷ j ∷ ks) e x (inl h) = rw h (and-is (p k) (allOf p (j ∷ ks)) e .0)
+key-passes p (k ∷ j ∷ ks) e x (inr h) = key-passes p (j ∷ ks) (and-is (p k) (allOf p (j ∷ ks)) e .1) x h
+
+elem-key : (ks : List ℕ) (x : ℕ) → elem ks x ≡ true → OneOf ks x
+elem-key [] x e = absurd (true≢false (sym e))
+elem-key (k ∷ []) x e = go (or-is (eqb x k) false e)
+  where
+    go : (eqb x k ≡ true) ⊎ (false ≡ true) → x ≡ k
+    go (inl h) = eqb-true x k h
+    go (inr h) = absurd (true≢false (sym h))
+elem-key (k ∷ j ∷ ks) x e = go (or-is (eqb x k) (elem (j ∷ ks) x) e) (elem-key (j ∷ ks) x)
+  where
+    go : (eqb x k ≡ true) ⊎ (elem (j ∷ ks) x ≡ true) → (elem (j ∷ ks) x ≡ true → OneOf (j ∷ ks) x) → (x ≡ k) ⊎ OneOf (j ∷ ks) x
+    go (inl h) f = inl (eqb-true x k h)
+    go (inr h) f = inr (f h)
+
 -- ---- a test of the definitions with its class
 
 pub record Named (f : ℕ → Bool) (p : Class) : Type 0 where
@@ -117,6 +147,21 @@ module _ {f : ℕ → Bool} {p : Class} (d : Named f p) where
 
   pub yes-in : {x : ℕ} → Within p x → true ≡ f x
   yes-in {x} h = sym (d .is x ∙ within p x h)
+
+  pub yes-key : (ks : List ℕ) → allOf (test p) ks ≡ true → {x : ℕ} → OneOf ks x → true ≡ f x
+  yes-key ks e {x} h = sym (d .is x ∙ key-passes (test p) ks e x h)
+
+  pub no-key : (ks : List ℕ) → allOf (λ (y : ℕ). not (test p y)) ks ≡ true → {x : ℕ} → OneOf ks x → false ≡ f x
+  no-key ks e {x} h = sym (d .is x ∙ not-true (test p x) (key-passes (λ (y : ℕ). not (test p y)) ks e x h))
+
+  -- n numbers from a on, but for the keys of two rows
+  pub yes-but : (a n : ℕ) (ks ls : List ℕ) → every (λ (y : ℕ). test p y || elem ks y || elem ls y) a n ≡ true
+      → {x : ℕ} → a ≤ x → x < a + n → (OneOf ks x → ⊥) → (OneOf ls x → ⊥) → true ≡ f x
+  yes-but a n ks ls e {x} h k u v =
+      let m : (test p x || elem ks x || elem ls x) ≡ true = passes (λ (y : ℕ). test p y || elem ks y || elem ls y) a n e x h k in
+      let i : elem ks x ≡ false = not-so (elem ks x) (λ z. u (elem-key ks x z)) in
+      let j : elem ls x ≡ false = not-so (elem ls x) (λ z. v (elem-key ls x z)) in
+      sym (d .is x ∙ (rw (i, j, or-false, or-false) at m))
 
   pub no : {x : ℕ} → Outside p x → false ≡ f x
   no {x} h = sym (d .is x ∙ outside p x h)

@@ -4,17 +4,20 @@ use mathlib.Core.Bool.{Bool, true, false, cond, _&&_, and-false}
 use mathlib.Core.List.{List, [], _∷_, _++_}
 use mathlib.Core.Logic.{_⊎_, inl, inr, ⊎-elim}
 use Prim.Native.Nat.{ℕ, zero, suc, _+_, _*_, _-_, _/_, _%_, _≤_, _<_, zero-le, suc-le-suc}
+use native.Mathlib.Nat.{add-zero}
 use native.Mathlib.Omega.{arith}
 use native.Mathlib.Decide.{decLt}
 use lib.Dec.{ltb, leb}
 use lib.ListN.{length, drop, getD, drop-of-length-le, List·getD-eq-default}
 use lib.Seq.{drop-cons, drop-append-seam}
 use borrow.Author.Tests.{lt-ltb, le-ltb, le-leb, ltb-true, ltb-false, leb-true}
+use Rattle.text.specs.Lists.{span}
 use Rattle.text.specs.Utf8.{Scalar, encode}
 use Rattle.text.specs.Chars.{charOf, Begun, Decoded}
 use Rattle.text.specs.Decoding.{isAscii, isTail, isScalar, kept, two, three, four, byFirst, decoded}
 use Rattle.text.specs.declared.utf8.Char.{Char}
 use Rattle.text.proofs.Classes.{Named, from, _or_, within, is-in, and-is}
+use Rattle.text.proofs.Spans.{span-jump}
 use Rattle.text.proofs.Chars as chars
 
 -- ---- the classes
@@ -35,6 +38,36 @@ pub no-ascii : (x : ℕ) → 0x80 ≤ x → false ≡ isAscii x
 unfolding isAscii
 no-ascii x h = sym (le-ltb x 0x80 h)
 
+-- eight bytes without a top bit are ASCII
+top-none : (x t : ℕ) → t ≡ x / 128 → t ≡ 0 → isAscii x ≡ true
+top-none x t e z = sym (is-ascii x (omega arith))
+
+pub record Tops (s : List ℕ) (i a b c d e f g h : ℕ) : Type 0 where
+  pub t0 : a ≡ getD s i 0 / 128
+  pub t1 : b ≡ getD s (i + 1) 0 / 128
+  pub t2 : c ≡ getD s (i + 2) 0 / 128
+  pub t3 : d ≡ getD s (i + 3) 0 / 128
+  pub t4 : e ≡ getD s (i + 4) 0 / 128
+  pub t5 : f ≡ getD s (i + 5) 0 / 128
+  pub t6 : g ≡ getD s (i + 6) 0 / 128
+  pub t7 : h ≡ getD s (i + 7) 0 / 128
+
+pub ascii-eight : (s : List ℕ) (i a b c d e f g h : ℕ) → i + 8 ≤ length s → Tops s i a b c d e f g h
+    → a + b + c + d + (e + f + g + h) ≡ 0
+    → i + 8 + span isAscii (drop (i + 8) s) ≡ i + span isAscii (drop i s)
+ascii-eight s i a b c d e f g h room w z = span-jump isAscii 8 s i room each
+  where
+    each : (k : ℕ) → k < 8 → isAscii (getD s (i + k) 0) ≡ true
+    each zero j = rw add-zero (top-none (getD s i 0) a (w .t0) (omega arith))
+    each (suc zero) j = top-none (getD s (i + 1) 0) b (w .t1) (omega arith)
+    each (suc (suc zero)) j = top-none (getD s (i + 2) 0) c (w .t2) (omega arith)
+    each (suc (suc (suc zero))) j = top-none (getD s (i + 3) 0) d (w .t3) (omega arith)
+    each (suc (suc (suc (suc zero)))) j = top-none (getD s (i + 4) 0) e (w .t4) (omega arith)
+    each (suc (suc (suc (suc (suc zero))))) j = top-none (getD s (i + 5) 0) f (w .t5) (omega arith)
+    each (suc (suc (suc (suc (suc (suc zero)))))) j = top-none (getD s (i + 6) 0) g (w .t6) (omega arith)
+    each (suc (suc (suc (suc (suc (suc (suc zero))))))) j = top-none (getD s (i + 7) 0) h (w .t7) (omega arith)
+    each (suc (suc (suc (suc (suc (suc (suc (suc k)))))))) j = absurd (omega arith)
+
 -- a scalar value lies below the surrogates or above them
 pub sides : (c : ℕ) → Scalar c → (c < 0xD800) ⊎ (0xE000 ≤ c)
 sides c sc = go (decLt c 0xD800) (decLt 0xDFFF c)
@@ -46,11 +79,14 @@ sides c sc = go (decLt c 0xD800) (decLt 0xDFFF c)
 
 pub scalar-yes : (c : ℕ) → Scalar c → isScalar c ≡ true
 scalar-yes c sc =
-    scalar .is c ∙ within (from 0 0xD7FF or from 0xE000 0x10FFFF) c (⊎-elim (λ h. inl (zero-le, omega arith)) (λ h. inr (h, omega (arith, sc .below))) (sides c sc))
+    scalar .is c
+    ∙ within (from 0 0xD7FF or from 0xE000 0x10FFFF) c
+    (⊎-elim (λ h. inl (zero-le, omega arith)) (λ h. inr (h, omega (arith, sc .below))) (sides c sc))
 
 pub scalar-is : (c : ℕ) → isScalar c ≡ true → Scalar c
 scalar-is c e =
-    ⊎-elim (λ h. let k = h .1 in record { below = omega arith; outside = omega arith }) (λ h. let k = h .0 in let l = h .1 in record { below = omega arith; outside = omega arith }) (is-in scalar c e)
+    ⊎-elim (λ h. let k = h .1 in record { below = omega arith; outside = omega arith })
+    (λ h. let k = h .0 in let l = h .1 in record { below = omega arith; outside = omega arith }) (is-in scalar c e)
 
 tail-yes : (x : ℕ) → isTail (0x80 + x % 64) ≡ true
 tail-yes x = tail .is (0x80 + x % 64) ∙ within (from 128 191) (0x80 + x % 64) (omega arith, omega arith)
@@ -90,7 +126,8 @@ by-length P c f g h k = go (decLt c 0x80) (decLt c 0x800) (decLt c 0x10000)
 
 pub encode-some : (c : ℕ) → 0 < length (encode c)
 encode-some c =
-    by-length (λ (l : List ℕ). 0 < length l) c (λ h. suc-le-suc zero-le) (λ h k. suc-le-suc zero-le) (λ h k. suc-le-suc zero-le) (λ h. suc-le-suc zero-le)
+    by-length (λ (l : List ℕ). 0 < length l) c (λ h. suc-le-suc zero-le) (λ h k. suc-le-suc zero-le) (λ h k. suc-le-suc zero-le)
+    (λ h. suc-le-suc zero-le)
 
 -- ---- every encoding is found
 
@@ -108,10 +145,12 @@ back3 c h = omega arith
 digit64 : (a : ℕ) → (0x80 + a % 64) % 64 ≡ a % 64
 digit64 a = omega arith
 
-back4 : (c : ℕ) → c < 0x110000 → (0xF0 + c / 262144) % 8 * 262144 + (0x80 + c / 4096 % 64) % 64 * 4096 + (0x80 + c / 64 % 64) % 64 * 64 + (0x80 + c % 64) % 64 ≡ c
+back4 : (c : ℕ) → c < 0x110000
+    → (0xF0 + c / 262144) % 8 * 262144 + (0x80 + c / 4096 % 64) % 64 * 4096 + (0x80 + c / 64 % 64) % 64 * 64 + (0x80 + c % 64) % 64 ≡ c
 back4 c h =
     let t : (0xF0 + c / 262144) % 8 ≡ c / 262144 = omega arith in
-    rw (t, digit64 (c / 4096), digit64 (c / 64), digit64 c) (sums (c / 262144) (c / 4096 % 64) (c / 64 % 64) (c % 64) (c / 4096) (c % 4096) c (omega arith) (omega arith) (omega arith))
+    rw (t, digit64 (c / 4096), digit64 (c / 64), digit64 c)
+    (sums (c / 262144) (c / 4096 % 64) (c / 64 % 64) (c % 64) (c / 4096) (c % 4096) c (omega arith) (omega arith) (omega arith))
   where
     sums : (a b d e f g c : ℕ) → a * 64 + b ≡ f → d * 64 + e ≡ g → f * 4096 + g ≡ c → a * 262144 + b * 4096 + d * 64 + e ≡ c
     sums a b d e f g c p q r = omega arith
@@ -143,7 +182,8 @@ complete c t sc =
 kept-by : (P : Char → Type 0) (n low c : ℕ) → (low ≤ c → Scalar c → P (charOf n c)) → P (charOf 0 0) → P (kept n low c)
 unfolding kept
 kept-by P n low c f z =
-    chars.choose P (leb low c && isScalar c) (charOf n c) (charOf 0 0) (λ e. let w = and-is (leb low c) (isScalar c) e in f (leb-true low c (w .0)) (scalar-is c (w .1))) (λ e. z)
+    chars.choose P (leb low c && isScalar c) (charOf n c) (charOf 0 0)
+    (λ e. let w = and-is (leb low c) (isScalar c) e in f (leb-true low c (w .0)) (scalar-is c (w .1))) (λ e. z)
 
 abbrev Begins : List ℕ → Char → Type 0
 Begins = Begun Scalar encode (λ (c : ℕ). c)
@@ -160,7 +200,8 @@ module _ (x y : ℕ) (hy : isTail y ≡ true) where
       let q : 0x80 + c % 64 ≡ y = omega arith in
       made c (x ∷ y ∷ []) t sc (enc2 c h (omega arith) ∙ rw (p, q))
 
-  made3 : (z : ℕ) → isTail z ≡ true → (t : List ℕ) → 0xE0 ≤ x → x < 0xF0 → (c : ℕ) → c ≡ x % 16 * 4096 + y % 64 * 64 + z % 64 → 0x800 ≤ c → Scalar c → Begins (x ∷ y ∷ z ∷ t) (charOf 3 c)
+  made3 : (z : ℕ) → isTail z ≡ true → (t : List ℕ) → 0xE0 ≤ x → x < 0xF0 → (c : ℕ) → c ≡ x % 16 * 4096 + y % 64 * 64 + z % 64
+      → 0x800 ≤ c → Scalar c → Begins (x ∷ y ∷ z ∷ t) (charOf 3 c)
   made3 z hz t a b c e h sc =
       let v = is-in tail y hy in
       let u = is-in tail z hz in
@@ -169,7 +210,8 @@ module _ (x y : ℕ) (hy : isTail y ≡ true) where
       let r : 0x80 + c % 64 ≡ z = omega arith in
       made c (x ∷ y ∷ z ∷ []) t sc (enc3 c h (omega arith) ∙ rw (p, q, r))
 
-  made4 : (z w : ℕ) → isTail z ≡ true → isTail w ≡ true → (t : List ℕ) → 0xF0 ≤ x → x < 0xF8 → (c : ℕ) → c ≡ x % 8 * 262144 + y % 64 * 4096 + z % 64 * 64 + w % 64 → 0x10000 ≤ c → Scalar c → Begins (x ∷ y ∷ z ∷ w ∷ t) (charOf 4 c)
+  made4 : (z w : ℕ) → isTail z ≡ true → isTail w ≡ true → (t : List ℕ) → 0xF0 ≤ x → x < 0xF8 → (c : ℕ)
+      → c ≡ x % 8 * 262144 + y % 64 * 4096 + z % 64 * 64 + w % 64 → 0x10000 ≤ c → Scalar c → Begins (x ∷ y ∷ z ∷ w ∷ t) (charOf 4 c)
   made4 z w hz hw t a b c e h sc =
       let v = is-in tail y hy in
       let u = is-in tail z hz in
@@ -219,7 +261,8 @@ four-sound x (y ∷ z ∷ w ∷ t) a b =
     (λ e.
     let u = and-is (isTail y && isTail z) (isTail w) e in
     let v = and-is (isTail y) (isTail z) (u .0) in
-    kept-by P 4 0x10000 (x % 8 * 262144 + y % 64 * 4096 + z % 64 * 64 + w % 64) (λ h sc. inr (made4 x y (v .0) z w (v .1) (u .1) t a b _ refl h sc)) (inl refl))
+    kept-by P 4 0x10000 (x % 8 * 262144 + y % 64 * 4096 + z % 64 * 64 + w % 64)
+    (λ h sc. inr (made4 x y (v .0) z w (v .1) (u .1) t a b _ refl h sc)) (inl refl))
     (λ e. inl refl)
 
 one-sound : (x : ℕ) (t : List ℕ) → x < 0x80 → Found (x ∷ t) (charOf 1 x)
@@ -297,6 +340,7 @@ module _ (s : List ℕ) (i : ℕ) (h : i < length s) (r : Char) where
       decoded-three a b f =
           at-first (f ∙ rw (ey, ez) (sym (first3 (getD s i 0) (getD (drop i s) 1 0) (getD (drop i s) 2 0) _ a b)))
 
-      pub decoded-four : (w : ℕ) → w ≡ getD (drop i s) 3 0 → 0xF0 ≤ getD s i 0 → getD s i 0 < 0xF8 → r ≡ four (getD s i 0) y z w → Decoded (drop i s) r
+      pub decoded-four : (w : ℕ) → w ≡ getD (drop i s) 3 0 → 0xF0 ≤ getD s i 0 → getD s i 0 < 0xF8 → r ≡ four (getD s i 0) y z w
+          → Decoded (drop i s) r
       decoded-four w ew a b f =
           at-first (f ∙ rw (ey, ez, ew) (sym (first4 (getD s i 0) (getD (drop i s) 1 0) (getD (drop i s) 2 0) (getD (drop i s) 3 0) a b)))

@@ -44,10 +44,14 @@ module _ (l : List ℕ) (k : ℕ) (h : k ≤ length l) where
   by-first : (cs : List ℕ) → Each Scalar cs → take k l ≡ encodeAll cs → (k ≡ 0) ⊎ Next l k (decoded l .len)
   by-first [] sc e = inl (sym (length-take-le k l h) ∙ ap length e)
   by-first (c ∷ cs) sc e =
-      let whole : l ≡ encode c ++ (encodeAll cs ++ drop k l) = sym (take-append-drop k l) ∙ ap (λ (u : List ℕ). u ++ drop k l) e ∙ append-assoc (encode c) (encodeAll cs) (drop k l) in
-      let n : decoded l .len ≡ length (encode c) = ap (λ (u : List ℕ). decoded u .len) whole ∙ ap (λ (r : Char). r .len) (complete c (encodeAll cs ++ drop k l) (sc .0)) in
-      let lk : k ≡ length (encode c) + length (encodeAll cs) = sym (length-take-le k l h) ∙ ap length e ∙ length-append (encode c) (encodeAll cs) in
-      let d : drop (decoded l .len) l ≡ encodeAll cs ++ drop k l = ap (λ (m : ℕ). drop m l) n ∙ ap (drop (length (encode c))) whole ∙ drop-append-seam (encode c) (encodeAll cs ++ drop k l) in
+      let whole : l ≡ encode c ++ (encodeAll cs ++ drop k l) =
+      sym (take-append-drop k l) ∙ ap (λ (u : List ℕ). u ++ drop k l) e ∙ append-assoc (encode c) (encodeAll cs) (drop k l) in
+      let n : decoded l .len ≡ length (encode c) =
+      ap (λ (u : List ℕ). decoded u .len) whole ∙ ap (λ (r : Char). r .len) (complete c (encodeAll cs ++ drop k l) (sc .0)) in
+      let lk : k ≡ length (encode c) + length (encodeAll cs) =
+      sym (length-take-le k l h) ∙ ap length e ∙ length-append (encode c) (encodeAll cs) in
+      let d : drop (decoded l .len) l ≡ encodeAll cs ++ drop k l =
+      ap (λ (m : ℕ). drop m l) n ∙ ap (drop (length (encode c))) whole ∙ drop-append-seam (encode c) (encodeAll cs ++ drop k l) in
       let j : k - decoded l .len ≡ length (encodeAll cs) = omega arith in
       inr (record { some = rw n (encode-some c); within = omega arith; rest = record { chars = cs; scalars = sc .1; is = rw (j, d) (take-append-seam (encodeAll cs) (drop k l)) } })
 
@@ -72,8 +76,12 @@ more l m p o =
     let t : take (decoded l .len) l ≡ encode (b .sign) = ap₂ take n (b .is) ∙ take-append-seam (encode (b .sign)) (b .rest) in
     record {
       within = omega (arith, o .within, length-drop (decoded l .len) l, chars.begun-within Scalar encode (λ (c : ℕ). c) l (decoded l) b);
-      begins = record { chars = b .sign ∷ o .begins .chars; scalars = (b .good, o .begins .scalars); is = take-add (decoded l .len) m l ∙ ap₂ _++_ t (o .begins .is) };
-      most = λ k h u. ⊎-elim (λ z. omega arith) (λ w. omega (arith, w .within, o .most (k - decoded l .len) (omega (arith, length-drop (decoded l .len) l)) (w .rest))) (next-of l k h u);
+      begins =
+          record { chars = b .sign ∷ o .begins .chars; scalars = (b .good, o .begins .scalars); is = take-add (decoded l .len) m l ∙ ap₂ _++_ t (o .begins .is) };
+      most =
+          λ k h u. ⊎-elim (λ z. omega arith)
+          (λ w. omega (arith, w .within, o .most (k - decoded l .len) (omega (arith, length-drop (decoded l .len) l)) (w .rest)))
+          (next-of l k h u);
     }
 
 ascii-one : (x : ℕ) (l : List ℕ) (n : ℕ) → isAscii x ≡ true → LongestUtf8 l n → LongestUtf8 (x ∷ l) (suc n)
@@ -124,7 +132,9 @@ module _ (s : List ℕ) (i : ℕ) (w : Left s i) where
     left-char h =
         record {
           within = left-room h;
-          then = λ m o. rw (len-is, add-assoc) (w .then (decoded (drop i s) .len + m) (more (drop i s) m (omega (arith, len-is)) (rw drop-drop (rw len-is at o))));
+          then =
+              λ m o. rw (len-is, add-assoc)
+              (w .then (decoded (drop i s) .len + m) (more (drop i s) m (omega (arith, len-is)) (rw drop-drop (rw len-is at o))));
         }
 
     pub left-stop : r .len ≡ 0 → LongestUtf8 s i

@@ -28,7 +28,8 @@ by-last P none more s = go (length s) s refl
     go : (n : ℕ) (s : List ℕ) → length s ≡ n → P s
     go zero s e = none-of s e
     go (suc n) s e =
-        subst P (sym (take-suc s n 0 (omega arith)) ∙ take-all (suc n) s (omega arith)) (more (take n s) (getD s n 0) (go n (take n s) (length-take-le n s (omega arith))))
+        subst P (sym (take-suc s n 0 (omega arith)) ∙ take-all (suc n) s (omega arith))
+        (more (take n s) (getD s n 0) (go n (take n s) (length-take-le n s (omega arith))))
 
 pub each-last : (P : ℕ → Type 0) (u : List ℕ) (x : ℕ) → Each P (u ++ (x ∷ [])) → Each P u × P x
 each-last P [] x h = (tt, h .0)
@@ -99,7 +100,8 @@ big-inj w m n p q e = sym (number-big w m p) ∙ ap number e ∙ number-big w n 
 
 pub big-prefix : (w m n : ℕ) (t u : List ℕ) → m < 256 ^ w → n < 256 ^ w → bigEndian w m ++ t ≡ bigEndian w n ++ u → (m ≡ n) × (t ≡ u)
 big-prefix w m n t u p q e =
-    let a : bigEndian w m ≡ bigEndian w n = sym (take-at (bigEndian w m) t w (big-length w m)) ∙ ap (take w) e ∙ take-at (bigEndian w n) u w (big-length w n) in
+    let a : bigEndian w m ≡ bigEndian w n =
+    sym (take-at (bigEndian w m) t w (big-length w m)) ∙ ap (take w) e ∙ take-at (bigEndian w n) u w (big-length w n) in
     let b : t ≡ u = sym (drop-at (bigEndian w m) t w (big-length w m)) ∙ ap (drop w) e ∙ drop-at (bigEndian w n) u w (big-length w n) in
     (big-inj w m n p q a, b)
 
@@ -176,7 +178,9 @@ module _ (s : List ℕ) (at w n : ℕ) where
         ap (numberFrom r) (sym (drop-of-length-le (take w (drop at s)) l)) ∙ g .here
 
     pub get-below : r < 256 ^ w
-    get-below = let i : k ≤ w = omega (arith, g .upto, width) in let q : 256 ^ k ≤ 256 ^ w = pow-le-pow-right (omega arith) i in omega (arith, g .below)
+    get-below =
+        let i : k ≤ w =
+        omega (arith, g .upto, width) in let q : 256 ^ k ≤ 256 ^ w = pow-le-pow-right (omega arith) i in omega (arith, g .below)
 
     module _ (h : k < n) where
       pub get-room : at + k < length s
@@ -184,7 +188,8 @@ module _ (s : List ℕ) (at w n : ℕ) where
 
       -- the next one fits in 64 bits
       pub get-fits : w ≤ 8 → r < 256 ^ 7
-      get-fits b = let i : k ≤ 7 = omega (arith, width) in let q : 256 ^ k ≤ 256 ^ 7 = pow-le-pow-right (omega arith) i in omega (arith, g .below)
+      get-fits b =
+          let i : k ≤ 7 = omega (arith, width) in let q : 256 ^ k ≤ 256 ^ 7 = pow-le-pow-right (omega arith) i in omega (arith, g .below)
 
       pub get-again : (x : ℕ) → x ≡ getD s (at + k) 0 → x < 256 → Getting s at w n (r * 256 + x) (k + 1)
       unfolding numberFrom
@@ -192,7 +197,8 @@ module _ (s : List ℕ) (at w n : ℕ) where
           let l : k < length (take w (drop at s)) = omega (arith, g .count) in
           let i : k < w = omega (arith, width) in
           let y : getD (take w (drop at s)) k 0 ≡ x = getD-take w (drop at s) k 0 i ∙ getD-drop at s k 0 ∙ sym e in
-          let c : drop k (take w (drop at s)) ≡ getD (take w (drop at s)) k 0 ∷ drop (k + 1) (take w (drop at s)) = rw (add-one k) (drop-cons (take w (drop at s)) k 0 l) in
+          let c : drop k (take w (drop at s)) ≡ getD (take w (drop at s)) k 0 ∷ drop (k + 1) (take w (drop at s)) =
+          rw (add-one k) (drop-cons (take w (drop at s)) k 0 l) in
           let p : 256 ^ (k + 1) ≡ 256 ^ k * 256 = ap (λ (m : ℕ). 256 ^ m) (add-one k) ∙ pow-suc 256 k in
           record {
             count = g .count;

@@ -135,7 +135,9 @@ module _ (s : List ℕ) (a b : ℕ) (t : List ℕ) (c d n : ℕ) where
             left = w .left;
             right = w .right;
             upto = omega arith;
-            here = w .here ∙ same-go (slice a b s) (slice c d t) k in-left in-right (part-at a b k s in-left ∙ e ∙ sym (part-at c d k t in-right));
+            here =
+                w .here
+                ∙ same-go (slice a b s) (slice c d t) k in-left in-right (part-at a b k s in-left ∙ e ∙ sym (part-at c d k t in-right));
           }
 
 -- ---- a word at a place, by the part that is as long

@@ -45,11 +45,13 @@ module _ (d : List ℕ) (at : ℕ) (vs : List ℕ) where
 
     pub slice-pasted : slice at (at + length vs) (pasted d at vs) ≡ vs
     slice-pasted =
-        part-take at (length vs) (pasted d at vs) ∙ ap (take (length vs)) rest-pasted ∙ take-at vs (drop (at + length vs) d) (length vs) refl
+        part-take at (length vs) (pasted d at vs) ∙ ap (take (length vs)) rest-pasted
+        ∙ take-at vs (drop (at + length vs) d) (length vs) refl
 
     pub drop-pasted : drop (at + length vs) (pasted d at vs) ≡ drop (at + length vs) d
     drop-pasted =
-        sym (drop-drop (length vs) at (pasted d at vs)) ∙ ap (drop (length vs)) rest-pasted ∙ drop-at vs (drop (at + length vs) d) (length vs) refl
+        sym (drop-drop (length vs) at (pasted d at vs)) ∙ ap (drop (length vs)) rest-pasted
+        ∙ drop-at vs (drop (at + length vs) d) (length vs) refl
 
     pub head-pasted : take (at + length vs) (pasted d at vs) ≡ take at d ++ vs
     head-pasted =
@@ -64,11 +66,13 @@ module _ (d : List ℕ) (at : ℕ) (vs : List ℕ) (i : ℕ) (h : at + length vs
 
   pub getD-in : i < length vs → getD (pasted d at vs) (at + i) 0 ≡ getD vs i 0
   getD-in k =
-      sym (getD-drop at (pasted d at vs) i 0) ∙ ap (λ (l : List ℕ). getD l i 0) (rest-pasted d at vs h) ∙ List·getD-append vs (drop (at + length vs) d) 0 i k
+      sym (getD-drop at (pasted d at vs) i 0) ∙ ap (λ (l : List ℕ). getD l i 0) (rest-pasted d at vs h)
+      ∙ List·getD-append vs (drop (at + length vs) d) 0 i k
 
   pub getD-behind : getD (pasted d at vs) (at + length vs + i) 0 ≡ getD d (at + length vs + i) 0
   getD-behind =
-      sym (getD-drop (at + length vs) (pasted d at vs) i 0) ∙ ap (λ (l : List ℕ). getD l i 0) (drop-pasted d at vs h) ∙ getD-drop (at + length vs) d i 0
+      sym (getD-drop (at + length vs) (pasted d at vs) i 0) ∙ ap (λ (l : List ℕ). getD l i 0) (drop-pasted d at vs h)
+      ∙ getD-drop (at + length vs) d i 0
 
 -- ---- nothing, one element, and two lists
 
@@ -115,10 +119,12 @@ module _ (d : List ℕ) (at : ℕ) (u v : List ℕ) (h : at + (length u + length
 
 -- ---- an element at a time
 
-pub pasted-first : (d : List ℕ) (at x : ℕ) (u : List ℕ) → at + (1 + length u) ≤ length d → pasted (set d at x) (at + 1) u ≡ pasted d at (x ∷ u)
+pub pasted-first : (d : List ℕ) (at x : ℕ) (u : List ℕ) → at + (1 + length u) ≤ length d
+    → pasted (set d at x) (at + 1) u ≡ pasted d at (x ∷ u)
 pasted-first d at x u h = rw (← pasted-one d at x (omega arith)) (pasted-then d at (x ∷ []) u h)
 
-pub pasted-last : (d : List ℕ) (at : ℕ) (u : List ℕ) (x : ℕ) → at + (length u + 1) ≤ length d → pasted (set d (at + length u) x) at u ≡ pasted d at (u ++ (x ∷ []))
+pub pasted-last : (d : List ℕ) (at : ℕ) (u : List ℕ) (x : ℕ) → at + (length u + 1) ≤ length d
+    → pasted (set d (at + length u) x) at u ≡ pasted d at (u ++ (x ∷ []))
 pasted-last d at u x h = rw (← pasted-one d (at + length u) x (omega arith)) (pasted-before d at u (x ∷ []) h)
 
 -- ---- a loop that has copied k elements of a part

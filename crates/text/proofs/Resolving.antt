@@ -39,7 +39,8 @@ xml-char-yes c (high h k) = sym (yes-in xml-char (inr (h, k)))
 
 pub xml-char-is : (c : ℕ) → isXmlChar c ≡ true → XmlChar c
 xml-char-is c e =
-    ⊎-elim (⊎-elim (⊎-elim (⊎-elim (⊎-elim tab line) return) (λ w. low (w .0) (w .1))) (λ w. middle (w .0) (w .1))) (λ w. high (w .0) (w .1)) (is-in xml-char c e)
+    ⊎-elim (⊎-elim (⊎-elim (⊎-elim (⊎-elim tab line) return) (λ w. low (w .0) (w .1))) (λ w. middle (w .0) (w .1)))
+    (λ w. high (w .0) (w .1)) (is-in xml-char c e)
 
 pub xml-scalar : (c : ℕ) → XmlChar c → Scalar c
 xml-scalar c (tab e) = record { below = omega arith; outside = omega arith }
@@ -97,7 +98,8 @@ char-complete c t x p q =
     let w = head-of c in
     let e : w .first ∷ (w .more ++ t) ≡ encode c ++ t = sym (ap (λ (l : List ℕ). l ++ t) (w .is)) in
     sym (ap charAt e)
-    ∙ char-plain (w .first) (w .more ++ t) (λ z. q (head-ascii c (w .first) (w .more ++ t) t (omega arith) e ∙ z)) (λ z. p (head-ascii c (w .first) (w .more ++ t) t (omega arith) e ∙ z))
+    ∙ char-plain (w .first) (w .more ++ t) (λ z. q (head-ascii c (w .first) (w .more ++ t) t (omega arith) e ∙ z))
+    (λ z. p (head-ascii c (w .first) (w .more ++ t) t (omega arith) e ∙ z))
     ∙ plain-yes (decoded (w .first ∷ (w .more ++ t))) (length (encode c)) c (ap decoded e ∙ decoding.complete c t (xml-scalar c x)) x
 
 pub complete : (p : Piece) (t : List ℕ) → GoodPiece p → charAt (spell p ++ t) ≡ charOf (length (spell p)) (resolved p)
@@ -143,15 +145,18 @@ zero-no e = true≢false (sym e)
 plain-found : (x : ℕ) (t : List ℕ) → x ≢ ampersand → x ≢ less → Found (x ∷ t) (plainAt (decoded (x ∷ t)))
 unfolding plainAt
 plain-found x t p q =
-    chars.choose (Found (x ∷ t)) (isXmlChar (decoded (x ∷ t) .code)) (decoded (x ∷ t)) (charOf 0 0) (λ e. inr (go e (decoding.sound (x ∷ t)))) (λ e. inl refl)
+    chars.choose (Found (x ∷ t)) (isXmlChar (decoded (x ∷ t) .code)) (decoded (x ∷ t)) (charOf 0 0)
+    (λ e. inr (go e (decoding.sound (x ∷ t)))) (λ e. inl refl)
   where
-    go : isXmlChar (decoded (x ∷ t) .code) ≡ true → (decoded (x ∷ t) ≡ charOf 0 0) ⊎ Begun Scalar encode (λ (c : ℕ). c) (x ∷ t) (decoded (x ∷ t)) → Begins (x ∷ t) (decoded (x ∷ t))
+    go : isXmlChar (decoded (x ∷ t) .code) ≡ true
+        → (decoded (x ∷ t) ≡ charOf 0 0) ⊎ Begun Scalar encode (λ (c : ℕ). c) (x ∷ t) (decoded (x ∷ t)) → Begins (x ∷ t) (decoded (x ∷ t))
     go e (inl z) = absurd (zero-no (ap (λ (r : Char). isXmlChar (r .code)) (sym z) ∙ e))
     go e (inr b) =
         let k : decoded (x ∷ t) .code ≡ b .sign = ap (λ (r : Char). r .code) (b .found) in
         record {
           sign = char (b .sign);
-          good = (xml-char-is (b .sign) (ap isXmlChar (sym k) ∙ e), first-not (b .sign) (b .rest) (b .is) less (omega arith) q, first-not (b .sign) (b .rest) (b .is) ampersand (omega arith) p);
+          good =
+              (xml-char-is (b .sign) (ap isXmlChar (sym k) ∙ e), first-not (b .sign) (b .rest) (b .is) less (omega arith) q, first-not (b .sign) (b .rest) (b .is) ampersand (omega arith) p);
           rest = b .rest;
           is = b .is;
           found = b .found;
@@ -203,6 +208,10 @@ module _ (s : List ℕ) (i : ℕ) (h : i < length s) (r : Char) where
     next-plain f =
         next-of (drop i s) r (f ∙ rw (drop-cons s i 0, ne-eqb (getD s i 0) ampersand p, ne-eqb (getD s i 0) less q))
 
+    pub next-low : getD s i 0 < 0x80 → r ≡ plainAt (charOf 1 (getD s i 0)) → NextChar (drop i s) r
+    next-low b f =
+        next-plain (f ∙ ap plainAt (sym (ap decoded (drop-cons s i 0 h) ∙ decoding.decoded-ascii (getD s i 0) (drop (suc i) s) b)))
+
     module _ (c : Char) (d : Decoded (drop i s) c) where
       pub next-char : isXmlChar (c .code) ≡ true → r ≡ c → NextChar (drop i s) r
       unfolding plainAt
@@ -213,7 +222,8 @@ module _ (s : List ℕ) (i : ℕ) (h : i < length s) (r : Char) where
       next-none x f = next-plain (f ∙ rw (← decoding.decoded-one (drop i s) c d, x))
 
   -- a byte of ASCII that stands for itself
-  pub next-ascii : 0x20 ≤ getD s i 0 → getD s i 0 < 0x80 → getD s i 0 ≢ ampersand → getD s i 0 ≢ less → r ≡ charOf 1 (getD s i 0) → NextChar (drop i s) r
+  pub next-ascii : 0x20 ≤ getD s i 0 → getD s i 0 < 0x80 → getD s i 0 ≢ ampersand → getD s i 0 ≢ less → r ≡ charOf 1 (getD s i 0)
+      → NextChar (drop i s) r
   next-ascii a b p q f =
       next-plain p q
       (f

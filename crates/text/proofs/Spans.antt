@@ -3,10 +3,11 @@ use mathlib.Core.Path.{_≡_, refl, sym, _∙_, ap}
 use mathlib.Core.Bool.{Bool, true, false, cond, not}
 use mathlib.Core.List.{List, [], _∷_, _++_}
 use Prim.Native.Nat.{ℕ, zero, suc, _+_, _≤_, _<_, zero-le, suc-le-suc}
+use native.Mathlib.Nat.{zero-add, suc-add}
 use native.Mathlib.Numerals.{add-one, one-add}
 use native.Mathlib.Omega.{arith}
-use lib.ListN.{length, getD, take, drop, drop-of-length-le}
-use lib.Seq.{drop-cons}
+use lib.ListN.{length, getD, take, drop, drop-of-length-le, length-drop}
+use lib.Seq.{drop-cons, drop-drop, getD-drop}
 use borrow.Author.Tests.{not-true, not-false}
 use Rattle.text.specs.Lists.{All, span}
 
@@ -50,7 +51,8 @@ module _ (p : ℕ → Bool) where
   span-next [] h = absurd (omega arith)
   span-next (x ∷ s) h = go (p x) refl (span-next s) h
     where
-      go : (b : Bool) → p x ≡ b → (span p s < length s → p (getD s (span p s) 0) ≡ false) → cond b (suc (span p s)) zero < suc (length s) → p (getD (x ∷ s) (cond b (suc (span p s)) zero) 0) ≡ false
+      go : (b : Bool) → p x ≡ b → (span p s < length s → p (getD s (span p s) 0) ≡ false)
+          → cond b (suc (span p s)) zero < suc (length s) → p (getD (x ∷ s) (cond b (suc (span p s)) zero) 0) ≡ false
       go true e f k = f (omega arith)
       go false e f k = e
 
@@ -59,6 +61,20 @@ module _ (p : ℕ → Bool) where
   unfolding span
   span-of [] t h e = e
   span-of (x ∷ a) t h e = rw (h .0) (ap suc (span-of a t (h .1) e))
+
+  -- n that pass, one after the other
+  pub span-many : (n : ℕ) (l : List ℕ) → n ≤ length l → ((k : ℕ) → k < n → p (getD l k 0) ≡ true) → span p l ≡ n + span p (drop n l)
+  unfolding span
+  span-many zero l h f = sym (zero-add (span p l))
+  span-many (suc n) [] h f = absurd (omega arith)
+  span-many (suc n) (x ∷ l) h f =
+      rw (f 0 (suc-le-suc zero-le), suc-add) (ap suc (span-many n l (omega arith) (λ k j. f (suc k) (suc-le-suc j))))
+
+  pub span-jump : (n : ℕ) (s : List ℕ) (i : ℕ) → i + n ≤ length s → ((k : ℕ) → k < n → p (getD s (i + k) 0) ≡ true)
+      → i + n + span p (drop (i + n) s) ≡ i + span p (drop i s)
+  span-jump n s i h f =
+      omega
+      (arith, span-many n (drop i s) (omega (arith, length-drop i s)) (λ k j. rw (getD-drop i s k 0) (f k j)), ap (span p) (drop-drop n i s))
 
   -- ---- a loop that has come to i: what is still to come makes up the answer n
 

@@ -44,12 +44,14 @@ pub record Leads (l cs : List ℕ) (r : Char) : Type 0 where
   pub spells : Spells (drop (r .len) l) rest
   pub some : 0 < r .len
 
-leads-go : (l cs : List ℕ) (ps : List Piece) → Each GoodPiece ps → l ≡ spells ps → cs ≡ resolvedAll ps → 0 < length l → Leads l cs (charAt l)
+leads-go : (l cs : List ℕ) (ps : List Piece) → Each GoodPiece ps → l ≡ spells ps → cs ≡ resolvedAll ps → 0 < length l
+    → Leads l cs (charAt l)
 leads-go l cs [] g e f h = absurd (omega (arith, ap length e))
 leads-go l cs (p ∷ ps) g e f h =
     let a : charAt l ≡ charOf (length (spell p)) (resolved p) = ap charAt e ∙ complete p (spells ps) (g .0) in
     let d : drop (length (spell p)) l ≡ spells ps = ap (drop (length (spell p))) e ∙ drop-append-seam (spell p) (spells ps) in
-    subst (Leads l cs) (sym a) (record { rest = resolvedAll ps; is = f; spells = record { pieces = ps; good = g .1; is = d; chars = refl }; some = piece-some p })
+    subst (Leads l cs) (sym a)
+    (record { rest = resolvedAll ps; is = f; spells = record { pieces = ps; good = g .1; is = d; chars = refl }; some = piece-some p })
 
 pub leads : (l cs : List ℕ) (r : Char) → NextChar l r → Spells l cs → 0 < length l → Leads l cs r
 leads l cs r n w h = subst (Leads l cs) (sym (next-one l r n)) (leads-go l cs (w .pieces) (w .good) (w .is) (w .chars) h)
@@ -80,14 +82,16 @@ spells-append s cs t ds v w = go (v .pieces) (v .good) s cs (v .is) (v .chars)
 
 -- ---- a text spells one list of characters
 
-one-step : (l cs ds : List ℕ) → ((k cs′ ds′ : List ℕ) → length k < length l → Spells k cs′ → Spells k ds′ → cs′ ≡ ds′) → Spells l cs → Spells l ds → cs ≡ ds
+one-step : (l cs ds : List ℕ) → ((k cs′ ds′ : List ℕ) → length k < length l → Spells k cs′ → Spells k ds′ → cs′ ≡ ds′)
+    → Spells l cs → Spells l ds → cs ≡ ds
 one-step [] cs ds f v w = none-spells cs v ∙ sym (none-spells ds w)
 one-step (x ∷ l) cs ds f v w =
     let r : Char = charAt (x ∷ l) in
     let a = leads (x ∷ l) cs r (next-is (x ∷ l)) v (suc-le-suc zero-le) in
     let b = leads (x ∷ l) ds r (next-is (x ∷ l)) w (suc-le-suc zero-le) in
     a .is
-    ∙ ap (λ (u : List ℕ). r .code ∷ u) (f (drop (r .len) (x ∷ l)) (a .rest) (b .rest) (omega (arith, length-drop (r .len) (x ∷ l), a .some)) (a .spells) (b .spells))
+    ∙ ap (λ (u : List ℕ). r .code ∷ u)
+    (f (drop (r .len) (x ∷ l)) (a .rest) (b .rest) (omega (arith, length-drop (r .len) (x ∷ l), a .some)) (a .spells) (b .spells))
     ∙ sym (b .is)
 
 one-go : (n : ℕ) (l cs ds : List ℕ) → length l < n → Spells l cs → Spells l ds → cs ≡ ds
@@ -142,7 +146,8 @@ module _ (g₀ : List ℕ → Bool) (s : List ℕ) (i : ℕ) (g : List ℕ → B
           record { chars = f .rest; spells = f .spells; passes = sym (b (f .rest)) ∙ ap g (sym (f .is)) ∙ o .passes }
 
 -- the end
-pub here-end : (g₀ : List ℕ → Bool) (s : List ℕ) (i : ℕ) (g : List ℕ → Bool) (r : Bool) → Here g₀ s i g → length s ≤ i → g [] ≡ r → (r ≡ true → Passes g₀ s) × (Passes g₀ s → r ≡ true)
+pub here-end : (g₀ : List ℕ → Bool) (s : List ℕ) (i : ℕ) (g : List ℕ → Bool) (r : Bool) → Here g₀ s i g → length s ≤ i → g [] ≡ r
+    → (r ≡ true → Passes g₀ s) × (Passes g₀ s → r ≡ true)
 here-end g₀ s i g r w h e =
     let d : drop i s ≡ [] = drop-of-length-le s h in (
       λ t. w .to (rw d (record { chars = []; spells = spells-none; passes = e ∙ t })),

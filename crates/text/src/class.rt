@@ -1,4 +1,5 @@
-// Bytes by class: ranges, tested in the order in which a compiler makes the fewest branches of them.
+// Bytes by class. Where a span of text runs over a class, a range comes with the bytes it lacks, no two neighbours in one row: such
+// rows become one test of a mask, and a row of neighbours, or a second range, would be one more branch for each byte.
 
 ghost use mathlib.Core.Path.{_≡_};
 ghost use Rattle.text.specs.Bytes.{isBlank, isCapital, isLetter, isDigit, isNameStart, isNamePart};
@@ -8,9 +9,8 @@ pub fn is_blank(b: u8) -> bool
     ensures { λ r. ⌜ r ≡ isBlank b ⌝ }
 {
     match b {
-        9..=10 => true,
-        13 => true,
-        32 => true,
+        9 | 13 | 32 => true,
+        10 => true,
         _ => false,
     }
 }
@@ -58,11 +58,9 @@ pub fn is_name_part(b: u8) -> bool
     ensures { λ r. ⌜ r ≡ isNamePart b ⌝ }
 {
     match b {
-        45..=46 => true,
-        48..=57 => true,
-        65..=90 => true,
-        95 => true,
-        97..=122 => true,
+        47 | 58 | 60 | 62 | 64 | 91 | 93 | 96 => false,
+        59 | 61 | 63 | 92 | 94 => false,
+        45..=122 => true,
         _ => false,
     }
 }
@@ -72,11 +70,8 @@ pub fn is_plain(b: u8) -> bool
     ensures { λ r. ⌜ r ≡ isPlain b ⌝ }
 {
     match b {
-        32..=37 => true,
-        39..=59 => true,
-        61 => true,
-        63..=92 => true,
-        94..=127 => true,
+        38 | 60 | 62 | 93 => false,
+        32..=127 => true,
         _ => false,
     }
 }

@@ -4,10 +4,11 @@ use crate::part::begins;
 use crate::utf8::Char;
 use crate::utf8::char_of;
 use crate::utf8::decode;
+use crate::utf8::wide;
 ghost use mathlib.Core.Path.{_≡_};
 ghost use lib.ListN.{drop};
-ghost use Rattle.text.specs.Chars.{NextChar};
-ghost use Rattle.text.specs.Resolving.{isXmlChar, entityAt};
+ghost use Rattle.text.specs.Chars.{charOf, NextChar};
+ghost use Rattle.text.specs.Resolving.{isXmlChar, entityAt, plainAt};
 
 fn is_xml_char(c: u32) -> bool
     ensures { λ r. ⌜ r ≡ isXmlChar c ⌝ }
@@ -20,6 +21,17 @@ fn is_xml_char(c: u32) -> bool
         0x10000..=0x10FFFF => true,
         _ => false,
     }
+}
+
+// Most characters are a byte of ASCII: they need no call.
+fn ascii_char(x: u8) -> Char
+    ensures { λ r. ⌜ r ≡ plainAt (charOf 1 x) ⌝ }
+{
+    let c = wide(x);
+    if is_xml_char(c) {
+        return char_of(1, c);
+    }
+    char_of(0, 0)
 }
 
 fn entity(s: &[u8], at: usize) -> Char
@@ -56,6 +68,9 @@ pub fn next_char(s: &[u8], at: usize) -> Char
     }
     if x == 60 {
         return char_of(0, 0);
+    }
+    if x < 0x80 {
+        return ascii_char(x);
     }
     let c = decode(s, at);
     if is_xml_char(c.code) {

@@ -1,7 +1,7 @@
 // UTF-8: one character at a place, and the longest beginning of a text that is UTF-8.
 
 ghost use mathlib.Core.Path.{_≡_};
-ghost use Prim.Native.Nat.{_+_};
+ghost use Prim.Native.Nat.{_+_, _/_, _≤_};
 ghost use lib.ListN.{drop, getD};
 ghost use Rattle.text.specs.Chars.{charOf, Decoded};
 ghost use Rattle.text.specs.Decoding.{isAscii, isTail, isScalar, kept, two, three, four};
@@ -20,7 +20,7 @@ pub(crate) fn char_of(len: usize, code: u32) -> Char
     Char { len, code }
 }
 
-fn wide(x: u8) -> u32
+pub(crate) fn wide(x: u8) -> u32
     ensures { λ r. ⌜ r ≡ x ⌝ }
 {
     x as u32
@@ -142,10 +142,35 @@ pub fn decode(s: &[u8], at: usize) -> Char
     char_of(0, 0)
 }
 
+fn top_bit(b: u8) -> u8
+    ensures { λ r. ⌜ (r ≡ b / 128) × (r ≤ 1) ⌝ }
+{
+    b / 128
+}
+
+// As far as eight bytes of ASCII follow, and eight more: eight loads and one test, which become one load and one test.
+fn ascii_eights(s: &[u8], at: usize) -> usize
+    ensures { λ r. ⌜ r + span isAscii (drop r (now (s .entry))) ≡ at + span isAscii (drop at (now (s .entry))) ⌝ }
+{
+    let mut i = at;
+    while i < s.len() {
+        if s.len() - i < 8 {
+            return i;
+        }
+        let low = top_bit(s[i]) + top_bit(s[i + 1]) + top_bit(s[i + 2]) + top_bit(s[i + 3]);
+        let high = top_bit(s[i + 4]) + top_bit(s[i + 5]) + top_bit(s[i + 6]) + top_bit(s[i + 7]);
+        if low + high != 0 {
+            return i;
+        }
+        i += 8;
+    }
+    i
+}
+
 fn ascii_end(s: &[u8], at: usize) -> usize
     ensures { λ r. ⌜ r ≡ at + span isAscii (drop at (now (s .entry))) ⌝ }
 {
-    let mut i = at;
+    let mut i = ascii_eights(s, at);
     while i < s.len() {
         if 0x80 <= s[i] {
             return i;

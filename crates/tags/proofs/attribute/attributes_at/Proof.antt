@@ -1,11 +1,9 @@
 -- `attribute::attributes_at` meets its contract: what was counted, and what is still to come from `i`, make up the answer from `at`.
 -- Assumes nothing.
-use mathlib.Core.Path.{_≡_, refl}
-use Prim.Native.Nat.{_+_, _-_, _≤_}
+use Prim.Native.Nat.{_-_}
 use native.Mathlib.Omega.{arith}
-use lib.ListN.{length, drop}
+use lib.ListN.{length}
 use borrow.Author.Needs.{needs}
-use Rattle.tags.specs.Attributes.{passedAt}
 use Rattle.tags.proofs.Steps.{Counted, begin, again, stopped, one-more}
 use Rattle.tags.proofs.attribute.attributes_at.Statement.{statement}
 use Rattle.tags.proofs.attribute.attributes_at.Tie as tie

@@ -1,7 +1,7 @@
 -- `piece::next_char` meets its contract. Assumes nothing.
 use mathlib.Core.Path.{refl, sym, _∙_}
 use borrow.Author.Needs.{needs}
-use Rattle.text.proofs.Resolving.{next-end, next-entity, next-less, next-char, next-none}
+use Rattle.text.proofs.Resolving.{next-end, next-entity, next-less, next-low, next-char, next-none}
 use Rattle.text.proofs.piece.next_char.Statement.{statement}
 use Rattle.text.proofs.piece.next_char.Tie as tie
 
@@ -27,22 +27,29 @@ returns-3 : tie.Need-returns-3
 returns-3 c =
     next-less _ _ (c .before .before .before .before .if1 .left) _ (c .before .if3 .taken) (c .char-of2 .ensures)
 
+ascii-char-requires : tie.Need-ascii-char-requires
+ascii-char-requires c κs = search needs
+
+returns-4 : tie.Need-returns-4
+returns-4 c =
+    next-low _ _ (c .before .before .before .before .before .if1 .left) _ (c .before .before .before .if2 .left) (c .before .before .if3 .left) (c .before .if4 .taken) (c .ascii-char .ensures)
+
 decode-requires : tie.Need-decode-requires
 decode-requires c κs = search needs
 
 is-xml-char-requires : tie.Need-is-xml-char-requires
 is-xml-char-requires c κs = search needs
 
-returns-4 : tie.Need-returns-4
-returns-4 c =
-    next-char _ _ (c .before .before .before .before .before .before .if1 .left) _ (c .before .before .before .before .if2 .left) (c .before .before .before .if3 .left) _ (c .before .before .decode .ensures) (sym (c .before .is-xml-char .ensures) ∙ c .if4 .taken) refl
+returns-5 : tie.Need-returns-5
+returns-5 c =
+    next-char _ _ (c .before .before .before .before .before .before .before .if1 .left) _ (c .before .before .before .before .before .if2 .left) (c .before .before .before .before .if3 .left) _ (c .before .before .decode .ensures) (sym (c .before .is-xml-char .ensures) ∙ c .if5 .taken) refl
 
 char-of-requires-3 : tie.Need-char-of-requires-3
 char-of-requires-3 c κs = search needs
 
-returns-5 : tie.Need-returns-5
-returns-5 c =
-    next-none _ _ (c .before .before .before .before .before .before .before .if1 .left) _ (c .before .before .before .before .before .if2 .left) (c .before .before .before .before .if3 .left) _ (c .before .before .before .decode .ensures) (sym (c .before .before .is-xml-char .ensures) ∙ c .before .if4 .left) (c .char-of3 .ensures)
+returns-6 : tie.Need-returns-6
+returns-6 c =
+    next-none _ _ (c .before .before .before .before .before .before .before .before .if1 .left) _ (c .before .before .before .before .before .before .if2 .left) (c .before .before .before .before .before .if3 .left) _ (c .before .before .before .decode .ensures) (sym (c .before .before .is-xml-char .ensures) ∙ c .before .if5 .left) (c .char-of3 .ensures)
 
 pub next-char-spec : {M : Type 1} → statement M
 next-char-spec =
@@ -55,8 +62,10 @@ next-char-spec =
     returns-2
     char-of-requires-2
     returns-3
+    ascii-char-requires
+    returns-4
     decode-requires
     is-xml-char-requires
-    returns-4
+    returns-5
     char-of-requires-3
-    returns-5)
+    returns-6)

@@ -16,8 +16,11 @@ Inv-loop s at i₀ i = i + span isAscii (drop i s) ≡ at + span isAscii (drop a
 abbrev μ-loop : tie.MeasureT-loop
 μ-loop s at i₀ i = length s - i
 
+ascii-eights-requires : tie.Need-ascii-eights-requires Inv-loop μ-loop
+ascii-eights-requires c κs = search needs
+
 loop-holds : tie.Need-loop-holds Inv-loop μ-loop
-loop-holds c = refl
+loop-holds c = c .ascii-eights .ensures
 
 shared-slice-read-if1 : tie.Need-shared-slice-read-if1 Inv-loop μ-loop
 shared-slice-read-if1 c = search needs
@@ -45,6 +48,7 @@ ascii-end-spec =
     (tie.spec
     Inv-loop
     μ-loop
+    ascii-eights-requires
     loop-holds
     shared-slice-read-if1
     returns
