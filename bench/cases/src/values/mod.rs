@@ -1,6 +1,7 @@
 //! Texts of leaves, kind by kind, up to each boundary.
 
 mod chosen;
+pub mod made;
 
 use independent::content::value_bytes;
 use independent::house::resolve;

@@ -5,6 +5,7 @@ use std::fs;
 use std::path::Path;
 use std::process::ExitCode;
 
+use cases::feed::{hexadecimal, Case};
 use independent::house;
 
 /// A feed and the lines expected.
@@ -29,6 +30,8 @@ fn main() -> ExitCode {
     let set = match arguments.first().map(String::as_str) {
         Some("xml") => xml(),
         Some("values") => values(),
+        Some("runs") => replayed(cases::runs::fixed_set()),
+        Some("checks") => replayed(cases::checks::fixed_set()),
         _ => return usage(),
     };
     let [kind, folder] = &arguments[..] else {
@@ -76,10 +79,19 @@ fn values() -> Set {
     let mut set = Set::default();
     for case in cases::values::fixed_set() {
         let line = match case.answer() {
-            Some(bytes) => bytes.iter().map(|byte| format!("{byte:02x}")).collect(),
+            Some(bytes) => hexadecimal(&bytes),
             None => "refused".to_string(),
         };
         set.add(&case.feed(), &line);
+    }
+    set
+}
+
+/// For each case of a feed for `replay` its line, `CODE ROW PLACE HEX`.
+fn replayed(cases: Vec<Case>) -> Set {
+    let mut set = Set::default();
+    for case in cases {
+        set.add(&case.feed(), &case.line());
     }
     set
 }
