@@ -4,6 +4,7 @@
 //!
 //! | File | Holds |
 //! |---|---|
+//! | [`any`] | cases of every class from a seed |
 //! | [`random`] | numbers from a seed |
 //! | [`feed`] | the questions as `replay` takes them, and the lines it answers |
 //! | [`xml`] | texts for house XML alone: whole ones, chosen ones, damaged ones |
@@ -12,6 +13,7 @@
 //! | [`checks`] | chosen files for every code and the order of the codes |
 //! | [`runs`] | runs of images: chosen, joined, damaged |
 
+pub mod any;
 pub mod checks;
 pub mod feed;
 pub mod message;

@@ -62,8 +62,8 @@ fn times(row: &Row, random: &mut Random, size: Size) -> usize {
     match (row.count.repeats, size) {
         (false, _) => least.max(usize::from(chosen(random, size))),
         (true, Size::Small) => least.max(usize::from(random.once_in(2))),
-        (true, Size::Medium) => least.max(random.below(4)),
-        (true, Size::Large) => least.max(random.below(12)),
+        (true, Size::Medium) => least.max(random.below(3)),
+        (true, Size::Large) => least.max(random.below(6)),
     }
 }
 
