@@ -10,7 +10,7 @@ fn stops(text: impl AsRef<[u8]>) -> Option<usize> {
     independent::house::parse(text.as_ref()).err()
 }
 
-/// 1. "Code 2's place is the length of the longest prefix that is well-formed UTF-8."
+/// Point 1: "Code 2's place is the length of the longest prefix that is well-formed UTF-8."
 #[test]
 fn point_1_not_utf8() {
     let good = whole_example();
@@ -34,7 +34,7 @@ fn point_1_not_utf8() {
     assert_eq!(judge(vec![0xff; LIMIT]), (2, 0, 0));
 }
 
-/// 2. "Code 3's place counts bytes, and may fall inside a character, a name, an entity, the declaration. .. An unfinished
+/// Point 2: "Code 3's place counts bytes, and may fall inside a character, a name, an entity, the declaration. .. An unfinished
 /// text answers its own length."
 #[test]
 fn point_2_places_count_bytes() {
@@ -50,7 +50,7 @@ fn point_2_places_count_bytes() {
     assert_eq!(judge(format!("<a>{}", " ".repeat(LIMIT - 3))), (3, 0, LIMIT), "the continuation may be longer");
 }
 
-/// 3. "What follows from 2".
+/// Point 3: "What follows from 2".
 #[test]
 fn point_3_what_follows() {
     for c in ['\u{fffe}', '\u{ffff}'] {
@@ -82,7 +82,7 @@ fn point_3_what_follows() {
     assert_eq!(stops("<a b=''c=''/>"), Some(7), "no blank between two attributes, at the second's name");
 }
 
-/// 4. "`]]>` is forbidden literally and within one run of text only .. Blanks may stand in `</a >`, not behind `<` or `</`,
+/// Point 4: "`]]>` is forbidden literally and within one run of text only .. Blanks may stand in `</a >`, not behind `<` or `</`,
 /// and not inside `/>`."
 #[test]
 fn point_4_brackets_and_blanks() {
@@ -94,7 +94,7 @@ fn point_4_brackets_and_blanks() {
     }
 }
 
-/// 5. "XML's line-end and attribute normalisation change no answer and are left out": line ends are blanks or bad values
+/// Point 5: "XML's line-end and attribute normalisation change no answer and are left out": line ends are blanks or bad values
 /// in either form.
 #[test]
 fn point_5_line_ends() {
@@ -104,7 +104,7 @@ fn point_5_line_ends() {
     assert_eq!(judge(amount_element("<Amt Ccy='EUR\t'>5</Amt>")).0, 9);
 }
 
-/// 6. "Code 4 also for a root with no attribute, or with two or more. The namespace is compared as written."
+/// Point 6: "Code 4 also for a root with no attribute, or with two or more. The namespace is compared as written."
 #[test]
 fn point_6_root() {
     let namespace = "urn:iso:std:iso:20022:tech:xsd:camt.053.001.08";
@@ -123,7 +123,7 @@ fn point_6_root() {
     assert_eq!(judge(format!("<Document  xmlns = '{namespace}' />")), (11, 1, 0));
 }
 
-/// 7. "An element inside a leaf is 5 with the leaf's row, at its opening tag, before anything is said of the leaf's text."
+/// Point 7: "An element inside a leaf is 5 with the leaf's row, at its opening tag, before anything is said of the leaf's text."
 #[test]
 fn point_7_element_in_leaf() {
     let start = place(&whole_example(), "<MsgId>") + "<MsgId>".len();
@@ -133,7 +133,7 @@ fn point_7_element_in_leaf() {
     }
 }
 
-/// 8. "A row that comes again behind a later sibling is 6, not 7. In a choice an unknown child is 5, any second child 7, and
+/// Point 8: "A row that comes again behind a later sibling is 6, not 7. In a choice an unknown child is 5, any second child 7, and
 /// 8 never arises: an empty choice is 11."
 #[test]
 fn point_8_siblings() {
@@ -157,7 +157,7 @@ fn point_8_siblings() {
     assert_eq!(judge(&empty), (11, 10, place(&empty, "<Id></Id>")));
 }
 
-/// 9. "Code 8 is seen at the parent's end only, so a violation inside a later sibling wins over it."
+/// Point 9: "Code 8 is seen at the parent's end only, so a violation inside a later sibling wins over it."
 #[test]
 fn point_9_required() {
     let absent = whole_example().replace("<Id>S1</Id>", "");
@@ -168,7 +168,7 @@ fn point_9_required() {
     assert_eq!(judge(&lowest), (8, 7, place(&lowest, "<Stmt>")));
 }
 
-/// 10. "Code 10: the first byte of the first character that is no blank; of an entity that is its `&`. U+00A0 is no blank."
+/// Point 10: "Code 10: the first byte of the first character that is no blank; of an entity that is its `&`. U+00A0 is no blank."
 #[test]
 fn point_10_text_in_group() {
     for (text, offset) in [("x", 0), (" \t\r\nx", 4), ("\n€", 1), (" &amp;", 1), ("\u{a0}", 0)] {
@@ -183,7 +183,7 @@ fn point_10_text_in_group() {
     assert_eq!(judge(&no_child).0, 10, "before 11");
 }
 
-/// 11. "Code 11 for a leaf means no character at all. A leaf of blanks only has characters: 12."
+/// Point 11: "Code 11 for a leaf means no character at all. A leaf of blanks only has characters: 12."
 #[test]
 fn point_11_empty() {
     let at = place(&whole_example(), "<MsgId>");
@@ -196,7 +196,7 @@ fn point_11_empty() {
     assert_eq!(judge(&blank_group), (11, 10, place(&blank_group, "<Id> <")));
 }
 
-/// 12. "For codes 11, 8, 12 and 13 'its `<`' is the `<` of the element's opening tag."
+/// Point 12: "For codes 11, 8, 12 and 13 'its `<`' is the `<` of the element's opening tag."
 #[test]
 fn point_12_opening_tags() {
     let file = transaction("<Amt Ccy='EUR'>1</Amt>");
@@ -210,7 +210,7 @@ fn point_12_opening_tags() {
     assert_eq!(judge(&file), (11, 44, place(&file, "<Refs>")));
 }
 
-/// 13. "Code 9: any attribute on an element that is no AMT (xmlns too); an AMT without, or with more than, the one attribute
+/// Point 13: "Code 9: any attribute on an element that is no AMT (xmlns too); an AMT without, or with more than, the one attribute
 /// Ccy; Ccy not three capitals. Ccy is not trimmed."
 #[test]
 fn point_13_attributes() {
@@ -228,7 +228,7 @@ fn point_13_attributes() {
     }
 }
 
-/// 14. "REF, TXT, IBAN, CCY and ENUM lose no blanks .. Entities are resolved before a value is judged."
+/// Point 14: "REF, TXT, IBAN, CCY and ENUM lose no blanks .. Entities are resolved before a value is judged."
 #[test]
 fn point_14_no_blanks_lost() {
     assert_eq!(image(message_id(" /A/ "))[11..16], *b" /A/ ");
@@ -247,7 +247,7 @@ fn point_14_no_blanks_lost() {
     assert_eq!(judge(currency("EUR ")).0, 12);
 }
 
-/// 15. "TXT is exactly 104 characters .. Only the composed forms." (All code points are tried in `types::text`.)
+/// Point 15: "TXT is exactly 104 characters .. Only the composed forms." (All code points are tried in `types::text`.)
 #[test]
 fn point_15_text_characters() {
     assert_eq!(judge(debtor("äöüßÄÖÜ€§°")).0, 0);
@@ -257,7 +257,7 @@ fn point_15_text_characters() {
     }
 }
 
-/// 16. "NUM: leading zeros count among the 18 digits. AMT: leading zeros and trailing zeros of the fraction are free, in any
+/// Point 16: "NUM: leading zeros count among the 18 digits. AMT: leading zeros and trailing zeros of the fraction are free, in any
 /// number."
 #[test]
 fn point_16_zeros() {
@@ -270,7 +270,7 @@ fn point_16_zeros() {
     assert_eq!(judge(amount(&format!("5.{zeros}1"))).0, 12);
 }
 
-/// 17. "DTM: the zone is required; 24:00:00 and second 60 are refused; the fraction has three or six digits; the offset is
+/// Point 17: "DTM: the zone is required; 24:00:00 and second 60 are refused; the fraction has three or six digits; the offset is
 /// -14:00 to +14:00."
 #[test]
 fn point_17_times() {
@@ -300,7 +300,7 @@ fn point_17_times() {
     }
 }
 
-/// 18. "IBAN: small letters are allowed behind the first four characters."
+/// Point 18: "IBAN: small letters are allowed behind the first four characters."
 #[test]
 fn point_18_ibans() {
     let account =
@@ -310,7 +310,7 @@ fn point_18_ibans() {
     assert_eq!(account("AT6aabc"), 12);
 }
 
-/// 19. "Well-formedness asks k from 1 to 140": TXT0 would have no value.
+/// Point 19: "Well-formedness asks k from 1 to 140": TXT0 would have no value.
 #[test]
 fn point_19_no_empty_type() {
     for text in ["", "a", " "] {
@@ -326,7 +326,7 @@ fn items(image: &[u8]) -> Vec<Vec<u8>> {
     places.windows(2).map(|pair| image[pair[0]..pair[1]].to_vec()).collect()
 }
 
-/// 20. "Code 17's place: the most whole items such that SOME image of a rule-meeting content begins with exactly those
+/// Point 20: "Code 17's place: the most whole items such that SOME image of a rule-meeting content begins with exactly those
 /// items."
 #[test]
 fn point_20_most_whole_items() {
@@ -380,7 +380,7 @@ fn point_20_headers() {
     assert_eq!(numbers(read(&vec![0; LIMIT])), (15, 0, 0));
 }
 
-/// 21. "'Content that meets the same rules' knows no file size": an image whose file would be over the limit is read.
+/// Point 21: "'Content that meets the same rules' knows no file size": an image whose file would be over the limit is read.
 #[test]
 fn point_21_no_file_size() {
     let mut items = items(&image(transaction("<RmtInf><Ustrd>x</Ustrd></RmtInf>")));
@@ -391,7 +391,7 @@ fn point_21_no_file_size() {
     assert_eq!(numbers(read(&run)), (0, 0, run.len()));
 }
 
-/// 22. "The picker judges the whole first image before it answers; then a row that is no leaf (0, 58 and 300 among them) or
+/// Point 22: "The picker judges the whole first image before it answers; then a row that is no leaf (0, 58 and 300 among them) or
 /// has no n-th item is 18. Places count from the start of the run. AMT's part is 12 bytes, texts begin behind their length."
 #[test]
 fn point_22_picks() {
@@ -420,7 +420,7 @@ fn point_22_picks() {
     assert!(std::ptr::eq(part, &image[11..13]), "a part of the lent image itself");
 }
 
-/// 23. "The held reader: the size limit is judged on the rest of the run. A place at the end or past it answers 15 for reading
+/// Point 23: "The held reader: the size limit is judged on the rest of the run. A place at the end or past it answers 15 for reading
 /// and for picking."
 #[test]
 fn point_23_held() {
@@ -445,7 +445,7 @@ fn point_23_held() {
     assert_eq!(numbers(Held::new(&long, 10).read()), (0, 0, 67), "the rest is within the limit");
 }
 
-/// 24. "Code 14 cannot arise in [the program]: an image of the house list is never longer than its file."
+/// Point 24: "Code 14 cannot arise in [the program]: an image of the house list is never longer than its file."
 #[test]
 fn point_24_images_are_no_longer_than_files() {
     for file in [whole_example(), debtor("€"), amount("5"), transaction("<Refs><EndToEndId>E</EndToEndId></Refs>")] {

@@ -10,10 +10,10 @@ use crate::values;
 pub fn damage(draft: &mut Draft, random: &mut Random) {
     let paths = draft.paths();
     let path = &paths[random.below(paths.len())];
-    match random.below(16) {
+    match random.below(18) {
         0 => leave_out(draft, path),
         1 => double(draft, path),
-        2 => swap(draft, path, random),
+        2 => swap(draft, &paths, random),
         3 => rename(draft.at(path), random),
         4 => add_child(draft.at(path), random),
         5 => move_in(draft, &paths, path, random),
@@ -22,9 +22,9 @@ pub fn damage(draft: &mut Draft, random: &mut Random) {
         8 => text_in(draft.at(path), random),
         9 => empty(draft.at(path), random),
         10 | 11 => bad_value(draft, &paths, random),
-        12 => break_rule(draft, &paths, random),
-        13 => second_choice(draft, &paths, random),
-        14 if random.once_in(3) => root(draft, random),
+        12..=14 => break_rule(draft, &paths, random),
+        15 => second_choice(draft, &paths, random),
+        16 if random.once_in(3) => root(draft, random),
         _ => leave_out_required(draft, &paths, random),
     }
 }
@@ -44,12 +44,22 @@ fn double(draft: &mut Draft, path: &Path) {
     }
 }
 
-/// Code 6.
-fn swap(draft: &mut Draft, path: &Path, random: &mut Random) {
-    if let Some((parts, index)) = draft.around(path) {
-        let other = random.below(parts.len());
-        parts.swap(index, other);
+/// Code 6: two siblings of different names change places.
+fn swap(draft: &mut Draft, paths: &[Path], random: &mut Random) {
+    let mixed = |element: &Draft| names(element).any(|name| Some(name) != names(element).next());
+    if let Some(path) = some_path(draft, paths, random, mixed) {
+        let parts = &mut draft.at(&path).parts;
+        let (one, other) = (random.below(parts.len()), random.below(parts.len()));
+        parts.swap(one, other);
     }
+}
+
+/// The names of an element's children.
+fn names(element: &Draft) -> impl Iterator<Item = &str> {
+    element.parts.iter().filter_map(|part| match part {
+        Part::Child(child) => Some(child.name.as_str()),
+        Part::Text(_) => None,
+    })
 }
 
 /// Codes 5, 6 and 7.
@@ -116,16 +126,26 @@ fn bad_value(draft: &mut Draft, paths: &[Path], random: &mut Random) {
     let Some(path) = some_path(draft, paths, random, Draft::is_leaf) else {
         return;
     };
-    if let Some(row) = row_at(draft, &path) {
+    if let Some(row) = row_at(draft, &path).filter(|row| row.kind.is_leaf()) {
         draft.at(&path).parts = vec![Part::Text(values::made::doubtful(row.kind, random))];
     }
 }
 
-/// Code 13.
+/// Code 13: one of the two left out, or put in where there is none.
 fn break_rule(draft: &mut Draft, paths: &[Path], random: &mut Random) {
-    if let Some(path) = some_path(draft, paths, random, |element| element.name == "TxDtls") {
-        let left_out = random.one_of(&["Amt", "CdtDbtInd"]);
-        draft.at(&path).parts.retain(|part| !matches!(part, Part::Child(child) if child.name == *left_out));
+    let Some(path) = some_path(draft, paths, random, |element| element.name == "TxDtls") else {
+        return leave_out_required(draft, paths, random);
+    };
+    let details = draft.at(&path);
+    let first = random.once_in(2);
+    if names(details).any(|name| name == "Amt") {
+        let left_out = if first { "Amt" } else { "CdtDbtInd" };
+        details.parts.retain(|part| !matches!(part, Part::Child(child) if child.name == left_out));
+    } else {
+        let alone =
+            if first { Draft::leaf("Amt", "1").attribute("Ccy", "EUR") } else { Draft::leaf("CdtDbtInd", "CRDT") };
+        let behind_references = usize::from(names(details).next() == Some("Refs"));
+        details.parts.insert(behind_references, Part::Child(alone));
     }
 }
 

@@ -61,7 +61,7 @@ fn times(row: &Row, random: &mut Random, size: Size) -> usize {
     let least = usize::from(row.count.required);
     match (row.count.repeats, size) {
         (false, _) => least.max(usize::from(chosen(random, size))),
-        (true, Size::Small) => least.max(usize::from(random.once_in(2))),
+        (true, Size::Small) => least.max(usize::from(!random.once_in(3))),
         (true, Size::Medium) => least.max(random.below(3)),
         (true, Size::Large) => least.max(random.below(6)),
     }
