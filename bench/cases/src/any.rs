@@ -4,6 +4,7 @@ use independent::list::ROWS;
 use independent::LIMIT;
 
 use crate::feed::Case;
+use crate::message::chosen::EVERY_ROW;
 use crate::message::{damage, valid, Draft, Size, Style};
 use crate::random::Random;
 use crate::runs::{damaged, image_of};
@@ -224,19 +225,36 @@ fn xml_alone(random: &mut Random) -> Vec<u8> {
     }
 }
 
-/// A valid file filled up with blanks, or an image with bytes behind it, to the limit, one byte less or one more.
+/// A file or an image filled up to the limit, to one byte less or one more; or a file full of entries.
 fn at_the_limit(random: &mut Random) -> Case {
     let length = LIMIT - 1 + random.below(3);
-    let mut bytes = if random.once_in(2) { file(random) } else { image(random) };
-    let is_file = !bytes.starts_with(b"KTO");
-    bytes.resize(length, b' ');
-    if is_file {
-        Case::check(ROOMY, bytes)
-    } else if random.once_in(2) {
-        Case::read(bytes)
-    } else {
-        pick(bytes, random)
+    match random.below(4) {
+        0 => Case::check(ROOMY, full_of_entries(random)),
+        1 => Case::check(ROOMY, filled(file(random), length)),
+        2 => Case::read(filled(image(random), length)),
+        _ => {
+            let run = filled(image(random), length);
+            pick(run, random)
+        }
     }
+}
+
+fn filled(mut bytes: Vec<u8>, length: usize) -> Vec<u8> {
+    bytes.resize(length, b' ');
+    bytes
+}
+
+/// The message with every row and its entry as often as the limit allows, now and then with a byte changed.
+fn full_of_entries(random: &mut Random) -> Vec<u8> {
+    let start = EVERY_ROW.find("<Ntry>").expect("an entry");
+    let end = EVERY_ROW.find("</Stmt>").expect("the end of its statement");
+    let entry = &EVERY_ROW[start..end];
+    let times = (LIMIT - EVERY_ROW.len()) / entry.len();
+    let mut file = [&EVERY_ROW[..end], &entry.repeat(times), &EVERY_ROW[end..]].concat().into_bytes();
+    if random.once_in(2) {
+        xml::mutate(&mut file, random);
+    }
+    file
 }
 
 fn image(random: &mut Random) -> Vec<u8> {

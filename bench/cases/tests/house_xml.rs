@@ -174,7 +174,7 @@ fn tag_ends(cut: &Cut) -> Vec<String> {
         // What is left over may be a piece of this element's end tag.
         let end_tag = format!("</{name}>");
         let typed = cut.left.rfind('<').map_or("", |start| cut.left[start..].trim_end_matches(BLANKS));
-        let mut closed = if end_tag.starts_with(typed) { end_tag[typed.len()..].to_string() } else { end_tag };
+        let mut closed = end_tag.strip_prefix(typed).unwrap_or(&end_tag).to_string();
         closed += &close(&cut.open[..cut.open.len() - 1]);
         ends.push(closed);
     }

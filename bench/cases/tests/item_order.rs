@@ -7,7 +7,9 @@
 
 use std::rc::Rc;
 
+use cases::message::chosen::EVERY_ROW;
 use cases::random::Random;
+use cases::runs::{image_of, take_apart};
 use independent::list::{children, find, Kind, Row, ROWS, RULE_FIRST, RULE_SECOND};
 use independent::order::Order;
 
@@ -101,6 +103,69 @@ fn counted(row: &Row) -> Rows {
         (false, false) => either(Empty, one),
         (true, true) => then(one.clone(), Repeated(one.into())),
         (false, true) => Repeated(one.into()),
+    }
+}
+
+impl Rows {
+    /// A shortest sequence of these, if there is one.
+    fn shortest(&self) -> Option<Vec<u8>> {
+        match self {
+            Nothing => None,
+            Empty | Repeated(_) => Some(Vec::new()),
+            One(row) => Some(vec![*row]),
+            Then(first, second) => Some([first.shortest()?, second.shortest()?].concat()),
+            Either(first, second) => {
+                [first.shortest(), second.shortest()].into_iter().flatten().min_by_key(|rows| rows.len())
+            }
+            // A group whose children are all optional: any of them will do.
+            NotEmpty(rows) => rows.shortest().filter(|shortest| !shortest.is_empty()).or_else(|| {
+                let begins = |row: &Row| Some([vec![row.number], rows.after(row.number).shortest()?].concat());
+                ROWS.iter().filter_map(begins).min_by_key(|rows| rows.len())
+            }),
+        }
+    }
+}
+
+/// Some item of each row, by row.
+fn some_items() -> Vec<Vec<u8>> {
+    let items = take_apart(&image_of(EVERY_ROW.as_bytes()));
+    let item = |row: &Row| items.iter().find(|item| item[0] == row.number).unwrap().clone();
+    ROWS.iter().map(item).collect()
+}
+
+/// "the most whole items that begin some image": every beginning is completed by the expression, and read; and every row
+/// that can't come next stops the reader there.
+#[test]
+fn beginnings_are_completed_and_nothing_else_is_taken() {
+    let items = some_items();
+    let bytes = |rows: &[u8]| rows.iter().flat_map(|row| items[usize::from(*row) - 1].clone()).collect::<Vec<u8>>();
+    let run = |rows: &[u8]| [b"KTO\0\x01", &bytes(rows)[..], b"\0"].concat();
+    let mut random = Random::new(18);
+    for _ in 0..150 {
+        let mut rows = element(find(1).unwrap());
+        let mut taken = Vec::new();
+        for _ in 0..random.between(1, 60) {
+            let next: Vec<&Row> = ROWS.iter().filter(|row| rows.after(row.number) != Nothing).collect();
+            if next.is_empty() {
+                break;
+            }
+            let row = next[random.below(next.len())];
+            rows = rows.after(row.number);
+            taken.push(row.number);
+        }
+        let whole = run(&[&taken[..], &rows.shortest().expect("a completion")].concat());
+        let answer = independent::read(&whole);
+        assert_eq!((answer.code.number(), answer.place), (0, whole.len()), "{taken:?}");
+        for row in &ROWS {
+            let answer = independent::read(&run(&[&taken[..], &[row.number]].concat()));
+            if rows.after(row.number) == Nothing {
+                let expected = (17, 5 + bytes(&taken).len());
+                // The closing 0 isn't reached: the reader stops at the item before it.
+                assert_eq!((answer.code.number(), answer.place), expected, "{taken:?} {}", row.number);
+            } else {
+                assert!(answer.place > 5 + bytes(&taken).len(), "{taken:?} {}", row.number);
+            }
+        }
     }
 }
 

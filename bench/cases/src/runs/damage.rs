@@ -1,6 +1,6 @@
 //! Damage to runs, from a seed.
 
-use independent::list::find;
+use independent::list::{find, RULE_FIRST, RULE_ROW, RULE_SECOND};
 
 use super::chosen::odd_values;
 use super::{put_together, take_apart};
@@ -30,7 +30,7 @@ fn change_items(items: &mut Vec<Vec<u8>>, random: &mut Random) {
     }
     let index = random.below(items.len());
     let other = random.below(items.len());
-    match random.below(8) {
+    match random.below(9) {
         0 => drop(items.remove(index)),
         1 => items.insert(index, items[other].clone()),
         2 => items.swap(index, other),
@@ -38,7 +38,19 @@ fn change_items(items: &mut Vec<Vec<u8>>, random: &mut Random) {
         4 => items.truncate(index),
         5 => items[index][0] = random.below(60) as u8,
         6 => items.insert(index, vec![random.below(256) as u8]),
+        7 => break_rule(items, random),
         _ => odd_value(&mut items[index], random),
+    }
+}
+
+/// Leaves out an amount or an indicator of a TxDtls, or puts one in behind its beginning.
+fn break_rule(items: &mut Vec<Vec<u8>>, random: &mut Random) {
+    let of_rule: Vec<usize> =
+        (0..items.len()).filter(|at| [RULE_FIRST, RULE_SECOND].contains(&items[*at][0])).collect();
+    if !of_rule.is_empty() && random.once_in(2) {
+        items.remove(of_rule[random.below(of_rule.len())]);
+    } else if let Some(details) = items.iter().rposition(|item| item[0] == RULE_ROW) {
+        items.insert(details + 1, vec![RULE_SECOND, 1]);
     }
 }
 
