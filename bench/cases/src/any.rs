@@ -174,16 +174,8 @@ fn tight_room(random: &mut Random) -> Case {
 
 fn not_utf8(random: &mut Random) -> Vec<u8> {
     let sequences: [&[u8]; 10] = [
-        b"\x80",
-        b"\xc0\xaf",
-        b"\xc3",
-        b"\xe0\x80\x80",
-        b"\xe2\x82",
-        b"\xed\xa0\x80",
-        b"\xf0\x9d\x84",
-        b"\xf4\x90\x80\x80",
-        b"\xf5",
-        b"\xff",
+        b"\x80", b"\xc0\xaf", b"\xc3", b"\xe0\x80\x80", b"\xe2\x82", b"\xed\xa0\x80", b"\xf0\x9d\x84",
+        b"\xf4\x90\x80\x80", b"\xf5", b"\xff",
     ];
     let mut file = if random.once_in(2) { file(random) } else { faulty(random, 1) };
     for _ in 0..random.between(1, 2) {

@@ -15,15 +15,8 @@ fn stops(text: impl AsRef<[u8]>) -> Option<usize> {
 fn point_1_not_utf8() {
     let good = whole_example();
     let sequences: [&[u8]; 9] = [
-        b"\x80",
-        b"\xc0\x80",
-        b"\xe2\x82",
-        b"\xe0\x80\x80",
-        b"\xed\xa0\x80",
-        b"\xf4\x90\x80\x80",
-        b"\xf0\x9d\x84",
-        b"\xff",
-        b"\xf8\x88\x80\x80\x80",
+        b"\x80", b"\xc0\x80", b"\xe2\x82", b"\xe0\x80\x80", b"\xed\xa0\x80", b"\xf4\x90\x80\x80", b"\xf0\x9d\x84",
+        b"\xff", b"\xf8\x88\x80\x80\x80",
     ];
     for sequence in sequences {
         assert_eq!(judge([good.as_bytes(), sequence].concat()), (2, 0, good.len()));
@@ -276,20 +269,13 @@ fn point_16_zeros() {
 fn point_17_times() {
     let time = |text: &str| judge(whole_example().replace("2024-03-01T06:00:00Z", text)).0;
     for good in [
-        "2024-03-01T23:59:59.123Z",
-        "2024-03-01T06:00:00.123456+14:00",
-        "2024-03-01T06:00:00-14:00",
+        "2024-03-01T23:59:59.123Z", "2024-03-01T06:00:00.123456+14:00", "2024-03-01T06:00:00-14:00",
         " 2024-03-01T06:00:00Z\n",
     ] {
         assert_eq!(time(good), 0, "{good}");
     }
     let bad = [
-        "T06:00:00",
-        "T24:00:00Z",
-        "T23:59:60Z",
-        "T06:00:00.12Z",
-        "T06:00:00.1234Z",
-        "T06:00:00+14:01",
+        "T06:00:00", "T24:00:00Z", "T23:59:60Z", "T06:00:00.12Z", "T06:00:00.1234Z", "T06:00:00+14:01",
         "T06:00:00-14:01",
     ];
     for rest in bad {

@@ -57,8 +57,7 @@ const FAULTS: &[Fault] = &[
     ("house/recogniser.rs", "pub const MOST_LEVELS: usize = 16;", "pub const MOST_LEVELS: usize = 15;"),
     // A single `]` in front of a `>` refused.
     (
-        "house/recogniser.rs",
-        "self.text[start..self.at].ends_with(b\"]]\")",
+        "house/recogniser.rs", "self.text[start..self.at].ends_with(b\"]]\")",
         "self.text[start..self.at].ends_with(b\"]\")",
     ),
     // U+FFFF taken.

@@ -242,18 +242,8 @@ fn replaced(text: &str, pairs: &[(&str, &str)]) -> Vec<u8> {
 /// Code 2, "start of first bad sequence", before 3 and all the rest.
 fn not_utf8() -> Vec<Vec<u8>> {
     let sequences: [&[u8]; 12] = [
-        b"\x80",
-        b"\xbf",
-        b"\xc0\xaf",
-        b"\xc3",
-        b"\xe0\x80\xaf",
-        b"\xe2\x82",
-        b"\xed\xa0\x80",
-        b"\xf0\x80\x80\x80",
-        b"\xf0\x9d\x84",
-        b"\xf4\x90\x80\x80",
-        b"\xf5\x80\x80\x80",
-        b"\xff",
+        b"\x80", b"\xbf", b"\xc0\xaf", b"\xc3", b"\xe0\x80\xaf", b"\xe2\x82", b"\xed\xa0\x80", b"\xf0\x80\x80\x80",
+        b"\xf0\x9d\x84", b"\xf4\x90\x80\x80", b"\xf5\x80\x80\x80", b"\xff",
     ];
     let mut files = Vec::new();
     for (index, sequence) in sequences.iter().enumerate() {

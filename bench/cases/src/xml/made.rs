@@ -82,24 +82,8 @@ const TELLING: &[u8] =
 
 /// Pieces that mean something when they stand in the wrong place.
 const TELLING_PIECES: &[&str] = &[
-    "]]>",
-    "<!--",
-    "-->",
-    "<![CDATA[",
-    "<?",
-    "?>",
-    "&#65;",
-    "&amp;",
-    "&am",
-    "</",
-    "/>",
-    "<a>",
-    "<a ",
-    "\u{ffff}",
-    "\u{feff}",
-    " a=\"\"",
-    " a='' a=''",
-    " b='1' c='2' d='3' e='4' f='5'",
+    "]]>", "<!--", "-->", "<![CDATA[", "<?", "?>", "&#65;", "&amp;", "&am", "</", "/>", "<a>", "<a ", "\u{ffff}",
+    "\u{feff}", " a=\"\"", " a='' a=''", " b='1' c='2' d='3' e='4' f='5'",
 ];
 
 /// Changes a text in one place: a byte or a piece put in, left out, replaced, doubled, swapped, or the end cut off.

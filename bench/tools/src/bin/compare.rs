@@ -1,6 +1,8 @@
-//! `compare [--seed S] [--cases N] [--first I] [--replay PATH | --independent]`: has the unit and the independent program answer
-//! the same cases, and shows the first difference. Exit status: 0 none, 1 a difference, 2 a fault of its own.
+//! `compare [--seed S] [--cases N] ..`: has the unit and the independent program answer the same cases, and shows the first
+//! difference. Exit status: 0 none, 1 a difference, 2 a fault of its own.
 
+use std::fs;
+use std::path::PathBuf;
 use std::process::ExitCode;
 use std::time::{Instant, SystemTime, UNIX_EPOCH};
 
@@ -11,26 +13,29 @@ struct Options {
     seed: u64,
     cases: u64,
     first: u64,
+    keep: Option<PathBuf>,
     unit: Unit,
 }
 
-const USAGE: &str = "usage: compare [--seed S] [--cases N] [--first I] [--replay PATH | --independent]
+const USAGE: &str = "usage: compare [--seed S] [--cases N] [--first I] [--keep FILE] [--replay PATH | --independent]
   --seed S       the seed of the cases (a fresh one without it)
   --cases N      how many (20000)
   --first I      the number of the first case (0)
+  --keep FILE    where to write the bytes of a case that differs
   --replay PATH  the proved program replay (target/bin/replay, or what REPLAY names)
   --independent  the independent program in place of the unit, to try compare itself";
 
 fn options() -> Option<Options> {
     let fresh = SystemTime::now().duration_since(UNIX_EPOCH).map_or(1, |time| time.as_nanos() as u64 % 1_000_000_000);
     let path = std::env::var("REPLAY").unwrap_or("target/bin/replay".to_string());
-    let mut options = Options { seed: fresh, cases: 20_000, first: 0, unit: Unit::Replay(path.into()) };
+    let mut options = Options { seed: fresh, cases: 20_000, first: 0, keep: None, unit: Unit::Replay(path.into()) };
     let mut words = std::env::args().skip(1);
     while let Some(word) = words.next() {
         match word.as_str() {
             "--seed" => options.seed = words.next()?.parse().ok()?,
             "--cases" => options.cases = words.next()?.parse().ok()?,
             "--first" => options.first = words.next()?.parse().ok()?,
+            "--keep" => options.keep = Some(words.next()?.into()),
             "--replay" => options.unit = Unit::Replay(words.next()?.into()),
             "--independent" => options.unit = Unit::Independent,
             _ => return None,
@@ -73,6 +78,12 @@ fn main() -> ExitCode {
             print!("{difference}");
             let again = format!("--seed {} --first {} --cases 1", options.seed, difference.number);
             println!("  again: compare {again}");
+            if let Some(path) = &options.keep {
+                match fs::write(path, &difference.case.bytes) {
+                    Ok(()) => println!("  its bytes are in {}", path.display()),
+                    Err(error) => eprintln!("compare: {}: {error}", path.display()),
+                }
+            }
             ExitCode::FAILURE
         }
     }

@@ -68,8 +68,10 @@ fn grade_all(options: &Options) -> io::Result<u8> {
     if found.files.len() > 1 {
         println!("{}", tally.summary());
     }
-    if found.left_aside > 0 {
-        println!("{} files without .xml in their names were left aside; name one to have it judged", found.left_aside);
+    match found.left_aside {
+        0 => {}
+        1 => println!("1 file whose name doesn't end in .xml was left aside; name it to have it judged"),
+        many => println!("{many} files whose names don't end in .xml were left aside; name one to have it judged"),
     }
     Ok(match (tally.unreadable, tally.refused()) {
         (0, 0) => 0,
