@@ -7,9 +7,9 @@
 //! An image doesn't say where a group ends. But every row has one parent, so the row of the next item does: the item
 //! stands in the open group that is its parent, and all groups opened since are closed by it. It can be taken if
 //!
-//! * its parent is open, and each group that it closes is complete as it stands ([`Open::is_complete`]), for
+//! * its parent is open, and each group that it closes is complete as it stands (`Open::is_complete`), for
 //!   nothing can be put into them any more; and
-//! * the parent can have it next ([`Open::admits`]).
+//! * the parent can have it next (`Open::admits`).
 //!
 //! That is needed, and it is enough: open groups can always be completed. Going from the innermost outwards, give each
 //! the required children that it lacks, all of which come after its last child (those before it were asked for when the

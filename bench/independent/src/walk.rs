@@ -67,11 +67,9 @@ fn child_of_group(parent: &Row, last: Option<u8>, child: &Element) -> Result<Con
 /// last one is later, and this row was seen exactly if the last one has it.
 fn opening(parent: &Row, last: Option<u8>, child: &Element) -> Result<&'static Row, Answer> {
     // 5: "not a child of its parent", with the parent's row.
-    let row = children(parent.number).find(|row| row.name.as_bytes() == child.name).ok_or(Answer::new(
-        Code::NotAChild,
-        parent.number,
-        child.at,
-    ))?;
+    let not_a_child = Answer::new(Code::NotAChild, parent.number, child.at);
+    let named_so = |row: &&Row| row.name.as_bytes() == child.name;
+    let row = children(parent.number).find(named_so).ok_or(not_a_child)?;
     let Some(last) = last else {
         return Ok(row);
     };

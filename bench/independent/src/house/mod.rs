@@ -4,7 +4,7 @@
 //! some house XML text. So it needs no other notion of failure than standing still: where the next byte is missing or
 //! can't be taken, the bytes taken so far are "most leading bytes that still begin some house XML text".
 //!
-//! Two things have to be seen for that, and each function in [`recogniser`] says why they hold for it:
+//! Two things have to be seen for that, and each function in `recogniser.rs` says why they hold for it:
 //!
 //! * whatever was taken can be finished (open names, quotes, entities and elements can always be closed), and
 //! * a byte that isn't taken could not be followed by anything.
