@@ -2,7 +2,7 @@
 //!
 //! | File | Holds |
 //! |---|---|
-//! | [`unit`] | the unit, asked through the program `replay` |
+//! | [`unit`](mod@unit) | the unit, asked through the program `replay` |
 //! | [`difference`] | two answers to one case, shown as a person wants to see them |
 //! | [`grade`] | files judged for the technician, images shown |
 //! | [`compare`](mod@compare) | the unit and the independent program over many cases |
