@@ -1,0 +1,329 @@
+//! Cases of every class, from a seed: the n-th case of a seed is always the same.
+
+use independent::list::ROWS;
+use independent::LIMIT;
+
+use crate::feed::Case;
+use crate::message::chosen::EVERY_ROW;
+use crate::message::{damage, valid, Draft, Size, Style};
+use crate::random::Random;
+use crate::runs::{damaged, image_of};
+use crate::xml;
+
+/// What a case is for.
+#[derive(Clone, Copy, PartialEq, Eq, PartialOrd, Ord, Debug, Hash)]
+pub enum Class {
+    ValidMessage,
+    TightRoom,
+    OneFault,
+    SeveralFaults,
+    BytesChanged,
+    FaultsAndBytesChanged,
+    NotUtf8,
+    BrokenXml,
+    XmlAlone,
+    AtTheLimit,
+    Run,
+    JoinedRun,
+    DamagedRun,
+    Pick,
+    PickFromDamaged,
+}
+
+impl Class {
+    /// All classes, each with how often it comes among a thousand cases.
+    pub const ALL: [(Class, usize); 15] = [
+        (Class::ValidMessage, 80),
+        (Class::TightRoom, 60),
+        (Class::OneFault, 170),
+        (Class::SeveralFaults, 120),
+        (Class::BytesChanged, 60),
+        (Class::FaultsAndBytesChanged, 40),
+        (Class::NotUtf8, 30),
+        (Class::BrokenXml, 70),
+        (Class::XmlAlone, 90),
+        (Class::AtTheLimit, 1),
+        (Class::Run, 30),
+        (Class::JoinedRun, 20),
+        (Class::DamagedRun, 140),
+        (Class::Pick, 60),
+        (Class::PickFromDamaged, 29),
+    ];
+
+    pub fn name(self) -> &'static str {
+        match self {
+            Class::ValidMessage => "valid message",
+            Class::TightRoom => "valid message, tight room",
+            Class::OneFault => "message with one fault",
+            Class::SeveralFaults => "message with several faults",
+            Class::BytesChanged => "message with bytes changed",
+            Class::FaultsAndBytesChanged => "message with faults and bytes changed",
+            Class::NotUtf8 => "message with bytes that are not UTF-8",
+            Class::BrokenXml => "message that stops to be house XML",
+            Class::XmlAlone => "text for house XML alone",
+            Class::AtTheLimit => "file or run at the size limit",
+            Class::Run => "image",
+            Class::JoinedRun => "joined images",
+            Class::DamagedRun => "damaged image",
+            Class::Pick => "pick from an image",
+            Class::PickFromDamaged => "pick from a damaged image",
+        }
+    }
+}
+
+/// Room for the image of any file that is not at the limit on purpose.
+const ROOMY: usize = LIMIT;
+
+/// The case of this number, from 0, that the seed gives.
+pub fn case(seed: u64, number: u64) -> (Class, Case) {
+    let mut random = Random::new(seed ^ number.wrapping_mul(0xd134_2543_de82_ef95));
+    let class = class(&mut random);
+    (class, make(class, &mut random))
+}
+
+fn class(random: &mut Random) -> Class {
+    let total: usize = Class::ALL.iter().map(|(_, share)| share).sum();
+    let mut left = random.below(total);
+    for (class, share) in Class::ALL {
+        if left < share {
+            return class;
+        }
+        left -= share;
+    }
+    unreachable!("the shares add up to the total")
+}
+
+fn make(class: Class, random: &mut Random) -> Case {
+    match class {
+        Class::ValidMessage => Case::check(ROOMY, file(random)),
+        Class::TightRoom => tight_room(random),
+        Class::OneFault => Case::check(any_room(random), faulty(random, 1)),
+        Class::SeveralFaults => {
+            let faults = random.between(2, 5);
+            Case::check(any_room(random), faulty(random, faults))
+        }
+        Class::BytesChanged => Case::check(ROOMY, bytes_changed(file(random), random)),
+        Class::FaultsAndBytesChanged => Case::check(ROOMY, bytes_changed(faulty(random, 2), random)),
+        Class::NotUtf8 => Case::check(ROOMY, not_utf8(random)),
+        Class::BrokenXml => Case::check(ROOMY, broken_xml(random)),
+        Class::XmlAlone => Case::check(ROOMY, xml_alone(random)),
+        Class::AtTheLimit => at_the_limit(random),
+        Class::Run => Case::read(image(random)),
+        Class::JoinedRun => Case::read(joined(random)),
+        Class::DamagedRun => Case::read(damaged(&image(random), random)),
+        Class::Pick => {
+            let run = if random.once_in(3) { joined(random) } else { image(random) };
+            pick(run, random)
+        }
+        Class::PickFromDamaged => {
+            let run = damaged(&image(random), random);
+            pick(run, random)
+        }
+    }
+}
+
+fn draft(random: &mut Random) -> Draft {
+    let size = match random.below(40) {
+        0 => Size::Large,
+        1..=9 => Size::Medium,
+        _ => Size::Small,
+    };
+    valid(random, size)
+}
+
+fn file(random: &mut Random) -> Vec<u8> {
+    let draft = draft(random);
+    Style::any(random).write(&draft).into_bytes()
+}
+
+fn faulty(random: &mut Random, faults: usize) -> Vec<u8> {
+    let mut draft = draft(random);
+    (0..faults).for_each(|_| damage(&mut draft, random));
+    Style::any(random).write(&draft).into_bytes()
+}
+
+fn bytes_changed(mut file: Vec<u8>, random: &mut Random) -> Vec<u8> {
+    (0..random.between(1, 3)).for_each(|_| xml::mutate(&mut file, random));
+    file
+}
+
+/// Mostly enough, now and then very little.
+fn any_room(random: &mut Random) -> usize {
+    if random.once_in(5) {
+        random.below(200)
+    } else {
+        ROOMY
+    }
+}
+
+/// Room for the image exactly, or for a little more or less.
+fn tight_room(random: &mut Random) -> Case {
+    let file = file(random);
+    let needed = match independent::check::content(&file) {
+        Ok(content) => independent::content::image(&content).len(),
+        Err(_) => 0,
+    };
+    let room = match random.below(6) {
+        0 | 1 => needed,
+        2 | 3 => needed.saturating_sub(1),
+        4 => needed + 1,
+        _ => random.below(needed + 1),
+    };
+    Case::check(room, file)
+}
+
+fn not_utf8(random: &mut Random) -> Vec<u8> {
+    let sequences: [&[u8]; 10] = [
+        b"\x80", b"\xc0\xaf", b"\xc3", b"\xe0\x80\x80", b"\xe2\x82", b"\xed\xa0\x80", b"\xf0\x9d\x84",
+        b"\xf4\x90\x80\x80", b"\xf5", b"\xff",
+    ];
+    let mut file = if random.once_in(2) { file(random) } else { faulty(random, 1) };
+    for _ in 0..random.between(1, 2) {
+        let at = random.below(file.len() + 1);
+        file.splice(at..at, random.one_of(&sequences).iter().copied());
+    }
+    file
+}
+
+/// A message with a piece of a chosen text put in, or cut off, or with one piece of markup changed.
+fn broken_xml(random: &mut Random) -> Vec<u8> {
+    let mut file = if random.once_in(2) { file(random) } else { faulty(random, 1) };
+    match random.below(3) {
+        0 => file.truncate(random.below(file.len() + 1)),
+        1 => {
+            let marks: Vec<usize> = (0..file.len()).filter(|at| b"<>/=\"'&;".contains(&file[*at])).collect();
+            let at = marks[random.below(marks.len())] + random.below(2);
+            let new = random.one_of(&["<", ">", "/", " ", "]]>", "&", "x", "<!--", "\u{1}", "\u{fffe}"]);
+            file.splice(at..at, new.bytes());
+        }
+        _ => {
+            let chosen = xml::chosen();
+            let at = random.below(file.len() + 1);
+            let piece = chosen[random.below(chosen.len())].clone();
+            file.splice(at..at, piece);
+        }
+    }
+    file
+}
+
+fn xml_alone(random: &mut Random) -> Vec<u8> {
+    match random.below(4) {
+        0 => xml::whole(random),
+        1 => {
+            let chosen = xml::chosen();
+            chosen[random.below(chosen.len())].clone()
+        }
+        _ => xml::damaged(random),
+    }
+}
+
+/// A file or an image filled up to the limit, to one byte less or one more; or a file full of entries.
+fn at_the_limit(random: &mut Random) -> Case {
+    let length = LIMIT - 1 + random.below(3);
+    match random.below(4) {
+        0 => Case::check(ROOMY, full_of_entries(random)),
+        1 => Case::check(ROOMY, filled(file(random), length)),
+        2 => Case::read(filled(image(random), length)),
+        _ => {
+            let run = filled(image(random), length);
+            pick(run, random)
+        }
+    }
+}
+
+fn filled(mut bytes: Vec<u8>, length: usize) -> Vec<u8> {
+    bytes.resize(length, b' ');
+    bytes
+}
+
+/// The message with every row and its entry as often as the limit allows, now and then with a byte changed.
+fn full_of_entries(random: &mut Random) -> Vec<u8> {
+    let start = EVERY_ROW.find("<Ntry>").expect("an entry");
+    let end = EVERY_ROW.find("</Stmt>").expect("the end of its statement");
+    let entry = &EVERY_ROW[start..end];
+    let times = (LIMIT - EVERY_ROW.len()) / entry.len();
+    let mut file = [&EVERY_ROW[..end], &entry.repeat(times), &EVERY_ROW[end..]].concat().into_bytes();
+    if random.once_in(2) {
+        xml::mutate(&mut file, random);
+    }
+    file
+}
+
+fn image(random: &mut Random) -> Vec<u8> {
+    let draft = draft(random);
+    let file = Style::DENSE.write(&draft).into_bytes();
+    if file.len() > LIMIT {
+        return image(random);
+    }
+    image_of(&file)
+}
+
+fn joined(random: &mut Random) -> Vec<u8> {
+    let count = random.between(2, 3);
+    let mut run: Vec<u8> = (0..count).flat_map(|_| image(random)).collect();
+    if random.once_in(3) {
+        run.truncate(random.below(run.len() + 1));
+    }
+    run
+}
+
+fn pick(run: Vec<u8>, random: &mut Random) -> Case {
+    let row = match random.below(10) {
+        0 => random.one_of(&[&0, &58, &255, &256, &260, &300, &65_540, &u32::MAX]).to_owned(),
+        1 | 2 => random.below(60) as u32,
+        _ => {
+            let leaves: Vec<u8> = ROWS.iter().filter(|row| row.kind.is_leaf()).map(|row| row.number).collect();
+            leaves[random.below(leaves.len())].into()
+        }
+    };
+    let n = match random.below(10) {
+        0 => random.below(1000) as u32,
+        1 => u32::MAX,
+        2..=4 => random.below(4) as u32,
+        _ => 0,
+    };
+    Case::pick(row, n, run)
+}
+
+#[cfg(test)]
+mod tests {
+    use super::*;
+    use independent::Code;
+
+    #[test]
+    fn every_code_and_every_class_is_reached() {
+        let mut codes = [0; 19];
+        let mut classes = std::collections::BTreeMap::new();
+        for number in 0..8000 {
+            let (class, case) = case(1, number);
+            codes[usize::from(case.answer().0.code.number())] += 1;
+            *classes.entry(class).or_insert(0) += 1;
+        }
+        for code in Code::ALL {
+            assert!(codes[usize::from(code.number())] > 0, "code {} in {codes:?}", code.number());
+        }
+        assert_eq!(classes.len(), Class::ALL.len(), "{classes:?}");
+    }
+
+    #[test]
+    fn valid_messages_are_accepted_and_their_images_read() {
+        let mut random = Random::new(5);
+        for _ in 0..500 {
+            let file = file(&mut random);
+            if file.len() > LIMIT {
+                continue;
+            }
+            let mut room = vec![0; file.len()];
+            let answer = independent::check(&file, &mut room);
+            assert!(answer.is_accepted(), "{answer:?} {}", String::from_utf8_lossy(&file));
+            let read = independent::read(&room[..answer.place]);
+            assert_eq!((read.is_accepted(), read.place), (true, answer.place));
+        }
+    }
+
+    #[test]
+    fn a_seed_gives_the_same_cases_again() {
+        assert_eq!(case(3, 14).1, case(3, 14).1);
+        assert_ne!(case(3, 14).1, case(4, 14).1);
+    }
+}

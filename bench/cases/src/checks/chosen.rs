@@ -1,0 +1,293 @@
+//! The fixed set of files for programs in the gate.
+
+use independent::LIMIT;
+
+use crate::feed::Case;
+use crate::message::chosen::{EVERY_ROW, WHOLE};
+use crate::message::{Draft, Part, Style};
+
+/// Room for any image of the set.
+const ROOM: usize = 4096;
+
+/// Check cases only. The last one is the only long one.
+pub fn fixed_set() -> Vec<Case> {
+    let mut cases = rooms();
+    let mut files: Vec<Vec<u8>> = Vec::new();
+    files.extend(SHORT.iter().map(|text| text.as_bytes().to_vec()));
+    files.extend(styles().into_iter().map(String::into_bytes));
+    files.extend(REPLACED_IN_WHOLE.iter().map(|pairs| replaced(WHOLE, pairs)));
+    files.extend(REPLACED_IN_EVERY_ROW.iter().map(|pairs| replaced(EVERY_ROW, pairs)));
+    files.extend(not_utf8());
+    files.extend(each_element_changed());
+    files.extend(each_element_left_out_and_doubled());
+    cases.extend(files.into_iter().map(|file| Case::check(ROOM, file)));
+    cases.push(Case::check(ROOM, vec![b' '; LIMIT + 1]));
+    cases
+}
+
+/// Code 14 and its neighbours: "a 67-byte buffer accepts; 66 gives 14, place 67", and "14 comes last".
+fn rooms() -> Vec<Case> {
+    let late_fault = String::from_utf8(replaced(WHOLE, &[("2024-02-29", "2023-02-29")])).expect("UTF-8");
+    let rooms = [0, 1, 66, 67, 68, LIMIT, LIMIT + 1, u32::MAX as usize];
+    let mut cases: Vec<Case> = rooms.iter().map(|room| Case::check(*room, WHOLE)).collect();
+    cases.extend([0, 66, 67].map(|room| Case::check(room, late_fault.as_str())));
+    cases.extend([0, 100, 500].map(|room| Case::check(room, EVERY_ROW)));
+    cases.push(Case::check(0, ""));
+    cases.push(Case::check(0, "<Document/>"));
+    cases
+}
+
+const SHORT: &[&str] = &[
+    "",
+    "<a></b>",
+    "<Document/>",
+    "<a/>",
+    " <Document/>",
+    "<Document xmlns=\"urn:iso:std:iso:20022:tech:xsd:camt.053.001.08\"/>",
+    "\r\n<Document xmlns='urn:iso:std:iso:20022:tech:xsd:camt.053.001.08'/>",
+    "<Document xmlns=\"urn:iso:std:iso:20022:tech:xsd:camt.053.001.02\"/>",
+    "<Document xmlns=\"urn:iso:std:iso:20022:tech:xsd:camt.053.001.08 \"/>",
+    "<Document xmlns=\"urn:iso:std:iso:20022:tech:xsd:camt.053.001.08\" a=\"\"/>",
+    "<Document a=\"\" xmlns=\"urn:iso:std:iso:20022:tech:xsd:camt.053.001.08\"/>",
+    "<Document Xmlns=\"urn:iso:std:iso:20022:tech:xsd:camt.053.001.08\"/>",
+    "<document xmlns=\"urn:iso:std:iso:20022:tech:xsd:camt.053.001.08\"/>",
+    "<Documents xmlns=\"urn:iso:std:iso:20022:tech:xsd:camt.053.001.08\"/>",
+    "<Document xmlns=\"urn:iso:std:iso:20022:tech:xsd:camt.053.001.08\">x</Document>",
+    "<Document xmlns=\"urn:iso:std:iso:20022:tech:xsd:camt.053.001.08\"> \n</Document>",
+    "<Document xmlns=\"urn:iso:std:iso:20022:tech:xsd:camt.053.001.08\"><BkToCstmrStmt/></Document>",
+    "<Document xmlns=\"urn:iso:std:iso:20022:tech:xsd:camt.053.001.08\"><BkToCstmrStmt/><BkToCstmrStmt/></Document>",
+    "<Document xmlns=\"urn:iso:std:iso:20022:tech:xsd:camt.053.001.08\"><Document/></Document>",
+];
+
+/// The same contents in other styles.
+fn styles() -> Vec<String> {
+    let (whole, every_row) = (Draft::from_text(WHOLE), Draft::from_text(EVERY_ROW));
+    let mut texts = vec![Style::USUAL.write(&whole), Style::USUAL.write(&every_row), Style::DENSE.write(&every_row)];
+    let mut random = crate::random::Random::new(7);
+    for _ in 0..6 {
+        texts.push(Style::any(&mut random).write(&whole));
+        texts.push(Style::any(&mut random).write(&every_row));
+    }
+    texts
+}
+
+type Replaced = &'static [(&'static str, &'static str)];
+
+/// Changes to document 01's whole example.
+const REPLACED_IN_WHOLE: &[Replaced] = &[
+    // Values: good in another spelling, and bad.
+    &[("5.00", "1250.50")],
+    &[("5.00", "-0.00")],
+    &[("5.00", ".5")],
+    &[("5.00", "7.")],
+    &[("5.00", "0.000010")],
+    &[("5.00", "999999999999999999")],
+    &[("5.00", "1000000000000000000")],
+    &[("5.00", "0.000001")],
+    &[("5.00", "-0.01")],
+    &[("5.00", ".")],
+    &[("5.00", " \n5.00\t")],
+    &[("5.00", " ")],
+    &[("5.00", "&amp;")],
+    &[("M1", "A/B")],
+    &[("M1", "A//B")],
+    &[("M1", "&apos;")],
+    &[("M1", "M&amp;1")],
+    &[("M1", " ")],
+    &[("M1", "\n")],
+    &[("M1", "12345678901234567890123456789012345")],
+    &[("M1", "123456789012345678901234567890123456")],
+    &[("06:00:00Z", "06:00:00")],
+    &[("06:00:00Z", "24:00:00Z")],
+    &[("06:00:00Z", "06:00:00.123456-14:00")],
+    &[("2024-02-29", "2023-02-29")],
+    &[("2024-02-29", " 2024-02-29 ")],
+    &[("CLBD", "ITBD")],
+    &[("CLBD", " CLBD")],
+    // 3 before all that follows.
+    &[("</Document>", "</Document")],
+    &[("</Document>", "</Document>x")],
+    &[("<Document ", "<document ")],
+    &[("5.00", "]]>"), ("M1", "")],
+    &[("<Stmt>", "<Stmt a='1' b='2' c='3' d='4' e='5'>")],
+    &[("M1", "<!-- M1 -->")],
+    &[("M1", "<![CDATA[M1]]>")],
+    &[("M1", "&#77;1")],
+    // 4 before what stands below.
+    &[("urn:iso", "urn:osi"), ("M1", "")],
+    // 5, and which row.
+    &[("<MsgId>M1</MsgId>", "<MsgID>M1</MsgID>")],
+    &[("M1", "M<x/>1")],
+    &[("M1", "<MsgId>M1</MsgId>")],
+    &[("5.00", "5<x a=''/>.00")],
+    &[("<Othr>", "<Othr><IBAN/>")],
+    &[("<Othr><Id>9</Id></Othr>", "<Prtry>9</Prtry>")],
+    // In the choice: 5 before 7, no 6, any second child 7.
+    &[("</Othr>", "</Othr><IBAN>AT611</IBAN>")],
+    &[("</Othr>", "</Othr><Othr><Id>9</Id></Othr>")],
+    &[("</Othr>", "</Othr><Prtry/>")],
+    &[("</Othr>", "</Othr><IBAN a=''/>")],
+    &[("<Othr>", "<IBAN>AT611</IBAN><Othr>")],
+    &[("<Othr><Id>9</Id></Othr>", "<IBAN>AT611</IBAN>")],
+    &[("<Othr><Id>9</Id></Othr>", "")],
+    &[("<Othr><Id>9</Id></Othr>", " ")],
+    &[("<Othr><Id>9</Id></Othr>", "x")],
+    // 6 before 7: a row that comes again behind a later sibling.
+    &[("</CreDtTm>", "</CreDtTm><MsgId>M1</MsgId>")],
+    &[("</CreDtTm>", "</CreDtTm><MsgId a=''></MsgId>")],
+    &[("</MsgId>", "</MsgId><MsgId>M1</MsgId>")],
+    &[("</MsgId>", "</MsgId><MsgId a=''></MsgId>")],
+    &[(
+        "<Amt Ccy=\"EUR\">5.00</Amt><CdtDbtInd>CRDT</CdtDbtInd>",
+        "<CdtDbtInd>CRDT</CdtDbtInd><Amt Ccy=\"EUR\">5.00</Amt>",
+    )],
+    &[("</Acct>", "</Acct><ElctrncSeqNb>1</ElctrncSeqNb>")],
+    // 9.
+    &[("<MsgId>", "<MsgId a=''>")],
+    &[("<MsgId>M1", "<MsgId xmlns='urn:iso:std:iso:20022:tech:xsd:camt.053.001.08'>")],
+    &[("<Stmt>", "<Stmt Ccy='EUR'>x")],
+    &[("<Amt Ccy=\"EUR\">", "<Amt>")],
+    &[("<Amt Ccy=\"EUR\">", "<Amt Ccy='EUR'>")],
+    &[("<Amt Ccy=\"EUR\">", "<Amt Ccy='EUR' a=''>")],
+    &[("<Amt Ccy=\"EUR\">", "<Amt ccy='EUR'>")],
+    &[("<Amt Ccy=\"EUR\">", "<Amt Ccy='eur'>")],
+    &[("<Amt Ccy=\"EUR\">", "<Amt Ccy=' EUR'>")],
+    &[("<Amt Ccy=\"EUR\">", "<Amt Ccy='EU'>")],
+    &[("<Amt Ccy=\"EUR\">", "<Amt Ccy='EURO'>")],
+    &[("<Amt Ccy=\"EUR\">", "<Amt Ccy='EU&amp;'>")],
+    &[("<Amt Ccy=\"EUR\">5.00</Amt>", "<Amt Ccy='eur'></Amt>")],
+    &[("<Amt Ccy=\"EUR\">5.00</Amt>", "<Amt Ccy='eur'>x</Amt>")],
+    // 10, at the first byte that is no blank.
+    &[("<GrpHdr>", "<GrpHdr> \n\tx")],
+    &[("<GrpHdr>", "<GrpHdr>&lt;")],
+    &[("</GrpHdr>", " €</GrpHdr>")],
+    &[("<GrpHdr>", "<GrpHdr>\u{a0}")],
+    &[("</GrpHdr>", "</GrpHdr>.")],
+    &[("<MsgId>M1</MsgId>", "x"), ("2024-03-01T06:00:00Z", "")],
+    // 11 before 8, 8 with the lowest absent row and at the end only.
+    &[("<MsgId>M1</MsgId><CreDtTm>2024-03-01T06:00:00Z</CreDtTm>", "")],
+    &[("<MsgId>M1</MsgId>", "")],
+    &[("<MsgId>M1</MsgId>", ""), ("2024-03-01T06:00:00Z", "now")],
+    &[("<MsgId>M1</MsgId>", "<MsgId/>")],
+    &[("<MsgId>M1</MsgId>", "<MsgId></MsgId>")],
+    &[("<MsgId>M1</MsgId>", "<MsgId> </MsgId>")],
+    &[("<Id>S1</Id>", ""), ("5.00", "x")],
+    &[("<Id>S1</Id>", ""), ("<Dt>2024-02-29</Dt>", "")],
+    &[("<Id>S1</Id><Acct><Id><Othr><Id>9</Id></Othr></Id></Acct>", "")],
+    &[("<Stmt>", "<Stmt/><Stmt>")],
+    &[("<GrpHdr><MsgId>M1</MsgId><CreDtTm>2024-03-01T06:00:00Z</CreDtTm></GrpHdr>", "")],
+    // Two faults: the first in document order.
+    &[("M1", ""), ("5.00", "x")],
+    &[("M1", "A//B"), ("<Stmt>", "<Stmt>x")],
+    &[("CLBD", "x"), ("<Tp>", "<Tp a=''>")],
+    &[("2024-02-29", "x"), ("</Bal>", "</Bal><Bal/>")],
+];
+
+/// Changes to the message with every row.
+const REPLACED_IN_EVERY_ROW: &[Replaced] = &[
+    // 13, and what comes before it.
+    &[("</Refs><Amt Ccy=\"EUR\">750.25</Amt>", "</Refs>")],
+    &[("<Amt Ccy=\"EUR\">750.25</Amt><CdtDbtInd>CRDT</CdtDbtInd><RltdPties>", "<RltdPties>")],
+    &[(
+        "<Amt Ccy=\"EUR\">750.25</Amt><CdtDbtInd>CRDT</CdtDbtInd><RltdPties>",
+        "<Amt Ccy=\"EUR\">750.25</Amt><RltdPties>",
+    )],
+    &[("</Refs><Amt Ccy=\"EUR\">750.25</Amt>", "</Refs>"), ("Top 4", "Top `4`")],
+    &[("</Refs><Amt Ccy=\"EUR\">750.25</Amt>", "</Refs>"), ("S2", "S//2")],
+    &[("</TxDtls>", "</TxDtls><TxDtls><Amt Ccy='EUR'>1</Amt></TxDtls>")],
+    &[("</TxDtls>", "</TxDtls><TxDtls/>")],
+    &[("</TxDtls>", "</TxDtls><TxDtls><CdtDbtInd>DBIT</CdtDbtInd></TxDtls>")],
+    &[("</TxDtls>", "</TxDtls><TxDtls><CdtDbtInd>DBIT</CdtDbtInd><Amt Ccy='EUR'>1</Amt></TxDtls>")],
+    // Types that the whole example has not.
+    &[("<ElctrncSeqNb>42", "<ElctrncSeqNb>000000000000000042")],
+    &[("<ElctrncSeqNb>42", "<ElctrncSeqNb>0000000000000000042")],
+    &[("<ElctrncSeqNb>42", "<ElctrncSeqNb> 42\n")],
+    &[("<RvslInd>false", "<RvslInd>1")],
+    &[("<RvslInd>false", "<RvslInd>\tfalse ")],
+    &[("<RvslInd>false", "<RvslInd>FALSE")],
+    &[("<Ccy>EUR", "<Ccy>EUR ")],
+    &[("<Ccy>EUR", "<Ccy>€")],
+    &[("AT611904300234573201", "AT61190430023457320a")],
+    &[("AT611904300234573201", "AT61 1904 3002 3457 3201")],
+    &[("PMNT", "PMNTS")],
+    &[("PMNT", "&amp;&lt;&gt;&quot;")],
+    &[("PMNT", "€€€€")],
+    &[("PMNT", "€€€€€")],
+    &[("Miete März", "Miete M\u{e4}rz ]]")],
+    &[("Miete März", "Miete Ma\u{308}rz")],
+    &[("Miete März", "Miete\nMärz")],
+    &[("Bäcker &amp; Söhne", " ")],
+    &[("BOOK", "PDNG")],
+    // Groups of which each child is optional.
+    &[("<EndToEndId>E2E</EndToEndId><MndtId>MND</MndtId>", "")],
+    &[("<Pty><Nm>Bäcker &amp; Söhne</Nm></Pty>", "<Pty></Pty>")],
+    &[("<Ustrd>Miete März</Ustrd><Ustrd>Top 4</Ustrd>", " ")],
+    &[("<Ustrd>Top 4</Ustrd>", "<Ustrd>1</Ustrd><Ustrd>2</Ustrd><Ustrd>3</Ustrd>")],
+    // Siblings of one name in several groups.
+    &[("<ValDt><Dt>2024-03-01</Dt></ValDt>", "<ValDt><Dt>2024-03-01</Dt><Dt>2024-03-01</Dt></ValDt>")],
+    &[("<ValDt><Dt>2024-03-01</Dt></ValDt>", "<BookgDt><Dt>2024-03-01</Dt></BookgDt>")],
+    &[("<BkTxCd>", "<BkTxCd><Cd>X</Cd>")],
+    &[("</Domn>", "</Domn><Domn/>")],
+];
+
+/// A text with pieces replaced, each of which stands in it.
+fn replaced(text: &str, pairs: &[(&str, &str)]) -> Vec<u8> {
+    let replace = |text: String, (from, to): &(&str, &str)| {
+        assert!(text.contains(from), "{from} stands in {text}");
+        text.replacen(from, to, 1)
+    };
+    pairs.iter().fold(text.to_string(), replace).into_bytes()
+}
+
+/// Code 2, "start of first bad sequence", before 3 and all the rest.
+fn not_utf8() -> Vec<Vec<u8>> {
+    let sequences: [&[u8]; 12] = [
+        b"\x80", b"\xbf", b"\xc0\xaf", b"\xc3", b"\xe0\x80\xaf", b"\xe2\x82", b"\xed\xa0\x80", b"\xf0\x80\x80\x80",
+        b"\xf0\x9d\x84", b"\xf4\x90\x80\x80", b"\xf5\x80\x80\x80", b"\xff",
+    ];
+    let mut files = Vec::new();
+    for (index, sequence) in sequences.iter().enumerate() {
+        let at = WHOLE.find("M1").expect("the message's id") + index % 3;
+        files.push([&WHOLE.as_bytes()[..at], sequence, &WHOLE.as_bytes()[at..]].concat());
+        files.push([WHOLE.as_bytes(), "€".as_bytes(), sequence].concat());
+    }
+    files.push([b"<a></b>", &b"\xff"[..]].concat());
+    files.push([b"\xef\xbf\xbf", &b"\xfe"[..]].concat());
+    files
+}
+
+/// Each element of the whole example with an attribute, without parts, with a strange child, and with text.
+fn each_element_changed() -> Vec<Vec<u8>> {
+    let whole = Draft::from_text(WHOLE);
+    let mut files = Vec::new();
+    for path in whole.paths() {
+        let mut change = |change: &dyn Fn(&mut Draft)| {
+            let mut draft = whole.clone();
+            change(draft.at(&path));
+            files.push(Style::DENSE.write(&draft).into_bytes());
+        };
+        change(&|element| element.attributes.push(("a".to_string(), "EUR".to_string())));
+        change(&|element| element.parts.clear());
+        change(&|element| element.parts.insert(0, Part::Child(Draft::new("Strange"))));
+        change(&|element| element.parts.push(Part::Text(" \t&gt;".to_string())));
+    }
+    files
+}
+
+/// Each element of the message with every row left out, and doubled.
+fn each_element_left_out_and_doubled() -> Vec<Vec<u8>> {
+    let every_row = Draft::from_text(EVERY_ROW);
+    let mut files = Vec::new();
+    for path in every_row.paths().iter().skip(1) {
+        let mut left_out = every_row.clone();
+        let (parts, index) = left_out.around(path).expect("not the root");
+        parts.remove(index);
+        files.push(Style::DENSE.write(&left_out).into_bytes());
+
+        let mut doubled = every_row.clone();
+        let (parts, index) = doubled.around(path).expect("not the root");
+        parts.insert(index, parts[index].clone());
+        files.push(Style::DENSE.write(&doubled).into_bytes());
+    }
+    files
+}

@@ -1,0 +1,162 @@
+//! The feed that `replay` takes, and the line it writes for each case.
+//!
+//! A case is one byte op (0 check, 1 read, 2 pick), three 32-bit little-endian numbers (room, of a pick the row; n, of a
+//! pick; length), and that many bytes. Its line is `CODE ROW PLACE HEX`: HEX is the image of an accepted check or the part
+//! of an accepted pick, else nothing behind the third blank. A feed that breaks off, names another op or a length over
+//! 1,048,577 ends with `feed broken at case N`.
+
+use independent::{check, pick, read, Answer, LIMIT};
+
+/// One question to the unit.
+#[derive(Clone, PartialEq, Eq, Debug)]
+pub struct Case {
+    pub op: Op,
+    pub bytes: Vec<u8>,
+}
+
+#[derive(Clone, Copy, PartialEq, Eq, Debug)]
+pub enum Op {
+    Check { room: u32 },
+    Read,
+    Pick { row: u32, n: u32 },
+}
+
+/// The longest case: one byte over what check and read take.
+pub const MOST_BYTES: usize = LIMIT + 1;
+
+impl Case {
+    pub fn check(room: usize, bytes: impl Into<Vec<u8>>) -> Case {
+        Case { op: Op::Check { room: room as u32 }, bytes: bytes.into() }
+    }
+
+    pub fn read(bytes: impl Into<Vec<u8>>) -> Case {
+        Case { op: Op::Read, bytes: bytes.into() }
+    }
+
+    pub fn pick(row: u32, n: u32, bytes: impl Into<Vec<u8>>) -> Case {
+        Case { op: Op::Pick { row, n }, bytes: bytes.into() }
+    }
+
+    /// The case's bytes in a feed.
+    pub fn feed(&self) -> Vec<u8> {
+        let (op, first, second) = match self.op {
+            Op::Check { room } => (0, room, 0),
+            Op::Read => (1, 0, 0),
+            Op::Pick { row, n } => (2, row, n),
+        };
+        let length = u32::try_from(self.bytes.len()).expect("a case of at most 1,048,577 bytes");
+        [&[op], &first.to_le_bytes()[..], &second.to_le_bytes(), &length.to_le_bytes(), &self.bytes].concat()
+    }
+
+    /// What the independent program answers, with the image or the part.
+    pub fn answer(&self) -> (Answer, Vec<u8>) {
+        match self.op {
+            Op::Check { room } => {
+                let mut out = vec![0; (room as usize).min(LIMIT)];
+                let answer = check(&self.bytes, &mut out);
+                out.truncate(if answer.is_accepted() { answer.place } else { 0 });
+                (answer, out)
+            }
+            Op::Read => (read(&self.bytes), Vec::new()),
+            Op::Pick { row, n } => {
+                let (answer, part) = pick(&self.bytes, row.into(), n.into());
+                (answer, part.to_vec())
+            }
+        }
+    }
+
+    /// The answer as a line, without its line end.
+    pub fn line(&self) -> String {
+        let (answer, bytes) = self.answer();
+        format!("{} {} {} {}", answer.code.number(), answer.row, answer.place, hexadecimal(&bytes))
+    }
+}
+
+/// Lower-case hexadecimal.
+pub fn hexadecimal(bytes: &[u8]) -> String {
+    const DIGITS: &[u8; 16] = b"0123456789abcdef";
+    bytes.iter().flat_map(|byte| [byte >> 4, byte & 15]).map(|digit| char::from(DIGITS[usize::from(digit)])).collect()
+}
+
+/// The case at the beginning of a feed and what follows it; `None` where the feed is broken there.
+pub fn next_case(feed: &[u8]) -> Option<(Case, &[u8])> {
+    let (op, rest) = feed.split_first()?;
+    let (first, rest) = number(rest)?;
+    let (second, rest) = number(rest)?;
+    let (length, rest) = number(rest)?;
+    let op = match op {
+        0 => Op::Check { room: first },
+        1 => Op::Read,
+        2 => Op::Pick { row: first, n: second },
+        _ => return None,
+    };
+    let length = length as usize;
+    if length > MOST_BYTES || length > rest.len() {
+        return None;
+    }
+    let (bytes, rest) = rest.split_at(length);
+    Some((Case { op, bytes: bytes.to_vec() }, rest))
+}
+
+fn number(feed: &[u8]) -> Option<(u32, &[u8])> {
+    let (bytes, rest) = feed.split_first_chunk()?;
+    Some((u32::from_le_bytes(*bytes), rest))
+}
+
+/// Every line that a feed is answered with.
+pub fn answers(feed: &[u8]) -> String {
+    let mut lines = String::new();
+    let mut rest = feed;
+    let mut number = 0;
+    while !rest.is_empty() {
+        let Some((case, after)) = next_case(rest) else {
+            lines += &format!("feed broken at case {number}\n");
+            break;
+        };
+        lines += &case.line();
+        lines += "\n";
+        rest = after;
+        number += 1;
+    }
+    lines
+}
+
+#[cfg(test)]
+mod tests {
+    use super::*;
+
+    #[test]
+    fn a_feed_is_answered_line_by_line() {
+        let feed = [
+            Case::check(100, "<a></b>").feed(),
+            Case::read("KTO\0\u{1}").feed(),
+            Case::pick(4, 0, "KTX\0\u{1}").feed(),
+        ];
+        assert_eq!(answers(&feed.concat()), "3 0 5 \n17 0 5 \n15 0 0 \n");
+        assert_eq!(answers(b""), "");
+    }
+
+    #[test]
+    fn cases_come_back_from_their_feed() {
+        for case in [Case::check(7, "x"), Case::read(""), Case::pick(300, 4_000_000_000, "yz")] {
+            let feed = [case.feed(), b"rest".to_vec()].concat();
+            assert_eq!(next_case(&feed), Some((case, &b"rest"[..])));
+        }
+    }
+
+    #[test]
+    fn broken_feeds() {
+        let whole = Case::read("abc").feed();
+        for cut in 1..whole.len() {
+            assert_eq!(answers(&[&whole[..], &whole[..cut]].concat()), "15 0 0 \nfeed broken at case 1\n");
+        }
+        let mut other_op = whole.clone();
+        other_op[0] = 3;
+        assert_eq!(answers(&[other_op, whole.clone()].concat()), "feed broken at case 0\n");
+        let mut long = Case::read(vec![0; MOST_BYTES]).feed();
+        assert_eq!(answers(&long), "1 0 1048576 \n");
+        long[9..13].copy_from_slice(&(MOST_BYTES as u32 + 1).to_le_bytes());
+        long.push(0);
+        assert_eq!(answers(&long), "feed broken at case 0\n");
+    }
+}

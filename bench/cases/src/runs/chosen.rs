@@ -1,0 +1,294 @@
+//! Hand-chosen runs, and the systematic ones around two images.
+
+use independent::list::{find, Kind};
+
+use super::{image_of, put_together, take_apart};
+use crate::feed::Case;
+use crate::message::chosen::{EVERY_ROW, WHOLE};
+
+/// The fixed set for programs in the gate: reads and picks.
+pub fn fixed_set() -> Vec<Case> {
+    let whole = image_of(WHOLE.as_bytes());
+    let every_row = image_of(EVERY_ROW.as_bytes());
+    let mut cases = Vec::new();
+    cases.extend(cuts(&whole).into_iter().map(Case::read));
+    cases.extend(heads(&whole).into_iter().map(Case::read));
+    cases.extend(joined(&whole, &every_row).into_iter().map(Case::read));
+    cases.extend(items_changed(&every_row).into_iter().map(Case::read));
+    cases.extend(bad_values_in(&every_row).into_iter().map(Case::read));
+    cases.extend(orders().into_iter().map(Case::read));
+    cases.extend(picks(&whole, &every_row));
+    cases
+}
+
+/// Every beginning of an image, and the whole of it.
+fn cuts(image: &[u8]) -> Vec<Vec<u8>> {
+    (0..=image.len()).map(|length| image[..length].to_vec()).collect()
+}
+
+/// Codes 15 and 16: other first bytes.
+fn heads(image: &[u8]) -> Vec<Vec<u8>> {
+    let heads: [&[u8; 5]; 11] = [
+        b"KTP\x00\x01", b"kTO\x00\x01", b"KtO\x00\x01", b"XTO\x00\x01", b"KTO\x00\x00", b"KTO\x00\x02", b"KTO\x01\x00",
+        b"KTO\x01\x01", b"KTO\xff\xff", b"KTP\x00\x02", b"\x00\x00\x00\x00\x00",
+    ];
+    let mut runs: Vec<Vec<u8>> = heads.iter().map(|head| [&head[..], &image[5..]].concat()).collect();
+    runs.extend(
+        [&b"KTO\x00"[..], b"KTX\x00", b"KTO\x02", b"KTO\x00\x01\x00", b"KTO\x00\x01\x01\x00"].map(<[u8]>::to_vec),
+    );
+    runs.push([b"\x00", image].concat());
+    runs
+}
+
+/// "Within the limit, bytes after the first image don't matter."
+fn joined(whole: &[u8], every_row: &[u8]) -> Vec<Vec<u8>> {
+    vec![
+        [whole, whole].concat(),
+        [whole, every_row].concat(),
+        [every_row, whole].concat(),
+        [every_row, whole, whole].concat(),
+        [whole, b"\x00"].concat(),
+        [whole, b"garbage \xff\xff"].concat(),
+        [whole, &whole[..30]].concat(),
+        [&whole[..66], whole].concat(),
+        every_row.to_vec(),
+    ]
+}
+
+/// Each item left out, doubled, swapped with the next, or followed by an early 0; and a strange row before it.
+fn items_changed(image: &[u8]) -> Vec<Vec<u8>> {
+    let items = take_apart(image);
+    let mut runs = Vec::new();
+    for index in 0..items.len() {
+        let mut change = |change: &dyn Fn(&mut Vec<Vec<u8>>)| {
+            let mut changed = items.clone();
+            change(&mut changed);
+            runs.push(put_together(&changed));
+        };
+        change(&|items| drop(items.remove(index)));
+        change(&|items| items.insert(index, items[index].clone()));
+        change(&|items| items.truncate(index));
+        if index + 1 < items.len() {
+            change(&|items| items.swap(index, index + 1));
+        }
+        if index % 10 == 3 {
+            change(&|items| items.insert(index, vec![58]));
+            change(&|items| items.insert(index, vec![255]));
+        }
+    }
+    runs
+}
+
+/// Each kind of leaf with each bad value, in place of its first good one.
+fn bad_values_in(image: &[u8]) -> Vec<Vec<u8>> {
+    let items = take_apart(image);
+    let mut runs = Vec::new();
+    let mut seen: Vec<Kind> = Vec::new();
+    for (index, item) in items.iter().enumerate() {
+        let kind = find(item[0]).expect("a row").kind;
+        if seen.contains(&kind) {
+            continue;
+        }
+        seen.push(kind);
+        for value in odd_values(kind) {
+            let mut changed = items.clone();
+            changed[index] = [&item[..1], &value].concat();
+            runs.push(put_together(&changed));
+        }
+    }
+    runs
+}
+
+/// Values at the edges of a kind, on both sides, as they would stand in an image.
+pub fn odd_values(kind: Kind) -> Vec<Vec<u8>> {
+    let text = |text: &str| [&(text.len() as u16).to_be_bytes()[..], text.as_bytes()].concat();
+    let raw = |bytes: &[u8]| bytes.to_vec();
+    match kind {
+        Kind::Group | Kind::Choice => Vec::new(),
+        Kind::Ref => vec![
+            text(""),
+            text(" "),
+            text("/A"),
+            text("A/"),
+            text("A//B"),
+            text("A/B"),
+            text(" /A/ "),
+            text("A\tB"),
+            text("ä"),
+            text("A&B"),
+            text(&"R".repeat(35)),
+            text(&"R".repeat(36)),
+            raw(b"\x00\x01\xff"),
+            raw(b"\xff\xffA"),
+            raw(b"\x00\x02A"),
+            raw(b"\x01\x00A"),
+        ],
+        Kind::Txt(k) => vec![
+            text(""),
+            text(" "),
+            text("`"),
+            text("\n"),
+            text("é"),
+            text("€"),
+            text(&"€".repeat(k)),
+            text(&"€".repeat(k + 1)),
+            text(&"x".repeat(k)),
+            text(&"x".repeat(k + 1)),
+            text(&" ".repeat(k)),
+            raw(b"\x00\x01\xe4"),
+            raw(b"\x00\x02\xe2\x82"),
+            raw(b"\x00\x03\xed\xa0\x80"),
+            raw(b"\xff\xffx"),
+        ],
+        Kind::Iban => vec![
+            text("AT61"),
+            text("AT611"),
+            text("at611"),
+            text("AT61 1"),
+            text(&("AT61".to_string() + &"1".repeat(31))),
+        ],
+        Kind::Ccy => vec![text(""), text("EU"), text("EURO"), text("eur"), text("ZZZ"), raw(b"EUR")],
+        Kind::Enum(words) => [0, 1, words.len() as u8, words.len() as u8 + 1, 255].map(|place| vec![place]).to_vec(),
+        Kind::Bool => [0, 1, 2, b'1', 255].map(|byte| vec![byte]).to_vec(),
+        Kind::Num => [0, 1, 999_999_999_999_999_999, 1_000_000_000_000_000_000, u64::MAX]
+            .map(|n: u64| n.to_be_bytes().to_vec())
+            .to_vec(),
+        Kind::Amt => odd_amounts(),
+        Kind::Date => DAYS.map(|day: &[u8; 4]| day.to_vec()).to_vec(),
+        Kind::Dtm => odd_times(),
+    }
+}
+
+fn odd_amounts() -> Vec<Vec<u8>> {
+    let amount = |currency: &[u8; 3], scale: u8, coefficient: u64| {
+        [&currency[..], &[scale], &coefficient.to_be_bytes()].concat()
+    };
+    vec![
+        amount(b"EUR", 0, 0),
+        amount(b"EUR", 1, 0),
+        amount(b"EUR", 5, 0),
+        amount(b"EUR", 0, 10),
+        amount(b"EUR", 1, 10),
+        amount(b"EUR", 2, 100),
+        amount(b"EUR", 5, 1),
+        amount(b"EUR", 6, 1),
+        amount(b"EUR", 255, 1),
+        amount(b"EUR", 2, 101),
+        amount(b"EUR", 0, 999_999_999_999_999_999),
+        amount(b"EUR", 5, 999_999_999_999_999_999),
+        amount(b"EUR", 0, 1_000_000_000_000_000_000),
+        amount(b"EUR", 0, u64::MAX),
+        amount(b"EUR", 1, 1_000_000_000_000_000_001),
+        amount(b"eUR", 0, 1),
+        amount(b"E R", 0, 1),
+        amount(b"EU[", 0, 1),
+        amount(b"@UR", 0, 1),
+    ]
+}
+
+const DAYS: [&[u8; 4]; 14] = [
+    b"\x00\x00\x01\x01", b"\x00\x01\x01\x01", b"\x27\x0f\x0c\x1f", b"\x27\x10\x01\x01", b"\xff\xff\x01\x01",
+    b"\x07\xe8\x02\x1d", b"\x07\xe7\x02\x1d", b"\x07\x6c\x02\x1d", b"\x07\xd0\x02\x1d", b"\x07\xe8\x00\x01",
+    b"\x07\xe8\x0d\x01", b"\x07\xe8\x01\x00", b"\x07\xe8\x01\x20", b"\x07\xe8\x04\x1f",
+];
+
+fn odd_times() -> Vec<Vec<u8>> {
+    let time = |hour: u8, minute: u8, second: u8, micro: u32, offset: u16| {
+        let day = b"\x07\xe8\x03\x01";
+        [&day[..], &[hour, minute, second], &micro.to_be_bytes(), &offset.to_be_bytes()].concat()
+    };
+    let mut values = vec![
+        time(0, 0, 0, 0, 0),
+        time(23, 59, 59, 999_999, 1680),
+        time(24, 0, 0, 0, 840),
+        time(23, 60, 0, 0, 840),
+        time(23, 59, 60, 0, 840),
+        time(0, 0, 0, 1, 840),
+        time(0, 0, 0, 1_000_000, 840),
+        time(0, 0, 0, u32::MAX, 840),
+        time(0, 0, 0, 0, 1681),
+        time(0, 0, 0, 0, u16::MAX),
+    ];
+    values.push([&b"\x07\xe7\x02\x1d"[..], &[0; 7], &[3, 72]].concat());
+    values
+}
+
+/// Orders of items in one entry's details, written as rows; each begins with a whole statement and entry.
+fn orders() -> Vec<Vec<u8>> {
+    let every_row = take_apart(&image_of(EVERY_ROW.as_bytes()));
+    let item = |row: u8| every_row.iter().find(|item| item[0] == row).expect("every row").clone();
+    let up_to_entry = [1, 2, 3, 4, 5, 6, 7, 9, 10, 11, 15, 16, 17, 18, 19, 20, 21, 22, 23, 24, 25, 27, 28, 34];
+    let details: [&[u8]; 36] = [
+        &[],
+        &[35],
+        &[35, 36],
+        &[35, 36, 37],
+        &[35, 36, 37, 38],
+        &[35, 36, 37, 38, 39],
+        &[40],
+        &[40, 41],
+        &[40, 41, 35],
+        &[40, 41, 40, 41],
+        &[40, 41, 42],
+        &[40, 41, 42, 43],
+        &[40, 41, 42, 43, 44],
+        &[40, 41, 42, 43, 44, 45],
+        &[40, 41, 42, 43, 44, 46],
+        &[40, 41, 42, 43, 44, 46, 45],
+        &[40, 41, 42, 43, 44, 45, 47],
+        &[40, 41, 42, 43, 44, 45, 48],
+        &[40, 41, 42, 43, 47],
+        &[40, 41, 42, 43, 48],
+        &[40, 41, 42, 43, 47, 48],
+        &[40, 41, 42, 43, 47, 48, 48],
+        &[40, 41, 42, 43, 47, 49],
+        &[40, 41, 42, 43, 47, 56],
+        &[40, 41, 42, 43, 47, 43],
+        &[40, 41, 42, 43, 47, 23],
+        &[40, 41, 42, 43, 49],
+        &[40, 41, 42, 43, 49, 50, 51],
+        &[40, 41, 42, 43, 49, 50, 51, 52],
+        &[40, 41, 42, 43, 49, 53, 54, 55],
+        &[40, 41, 42, 43, 49, 53, 54, 55, 50],
+        &[40, 41, 42, 43, 56],
+        &[40, 41, 42, 43, 56, 57, 57, 57],
+        &[40, 41, 42, 43, 56, 57, 43, 56, 57, 42, 43, 56, 57],
+        &[40, 41, 42, 43, 56, 57, 15],
+        &[40, 41, 42, 43, 56, 57, 6],
+    ];
+    let run = |rows: &[u8]| put_together(&rows.iter().map(|row| item(*row)).collect::<Vec<_>>());
+    let mut runs: Vec<Vec<u8>> = details.iter().map(|rows| run(&[&up_to_entry[..], rows].concat())).collect();
+    runs.push(run(&[1, 2, 3, 4, 5, 6, 7, 9, 10, 11, 12, 13]));
+    runs.push(run(&[1, 2, 3, 4, 5, 6, 7, 9, 10, 12, 11]));
+    runs.push(run(&[1, 2, 3, 4, 5, 6, 7, 9, 10, 12, 13, 11]));
+    runs.push(run(&[1, 2, 3, 4, 5, 6, 7, 9, 10, 11, 11]));
+    runs.push(run(&[1, 2, 3, 4, 5, 6, 7, 9, 10, 14]));
+    runs.push(run(&[1, 1]));
+    runs.push(run(&[2]));
+    runs.push(run(&[1, 2, 6]));
+    runs
+}
+
+/// Picks: every row once, rows that are no leaves, later and missing items, and runs that are no images.
+fn picks(whole: &[u8], every_row: &[u8]) -> Vec<Case> {
+    let mut cases: Vec<Case> = (0..=58).map(|row| Case::pick(row, 0, every_row)).collect();
+    for (row, n) in
+        [(7, 1), (7, 2), (13, 1), (18, 2), (18, 3), (19, 1), (19, 2), (19, 3), (22, 2), (57, 1), (57, 2), (4, 1)]
+    {
+        cases.push(Case::pick(row, n, every_row));
+    }
+    for (row, n) in
+        [(255, 0), (256, 0), (260, 0), (300, 0), (65_540, 0), (u32::MAX, 0), (4, u32::MAX), (4, 256), (4, 65_536)]
+    {
+        cases.push(Case::pick(row, n, every_row));
+    }
+    let joined = [whole, every_row].concat();
+    cases.extend(
+        [(4, 0), (4, 1), (7, 1), (11, 0), (13, 0), (22, 0), (22, 1)].map(|(row, n)| Case::pick(row, n, &joined[..])),
+    );
+    cases.extend([0, 2, 5, 20, 50, 66].map(|length| Case::pick(4, 0, &whole[..length])));
+    cases.push(Case::pick(4, 0, [&b"KTO\x00\x02"[..], &whole[5..]].concat()));
+    cases.push(Case::pick(300, 9, &whole[..66]));
+    cases.push(Case::pick(4, 0, [&whole[..66], b"\x06"].concat()));
+    cases
+}

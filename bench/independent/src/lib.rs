@@ -1,0 +1,47 @@
+//! Document 01 as a plain program, written from the document alone.
+//!
+//! The unit in `crates/` is compared with this program. The two share no code, no table and no generated file, so
+//! that a mistake in one is not a mistake in the other. It is therefore written for its reader: each function renders
+//! a sentence of document 01, which stands above it, in the simplest way that is evidently right.
+//!
+//! ```
+//! let mut image = [0u8; 100];
+//! let answer = independent::check(b"<a></b>", &mut image);
+//! assert_eq!((answer.code.number(), answer.row, answer.place), (3, 0, 5));
+//! ```
+//!
+//! What it does not do: it isn't fast on purpose, it allocates as it likes, and nothing about it is proved.
+//!
+//! | File | Holds |
+//! |---|---|
+//! | [`answer`] | code, row and place; the numbers and names of the codes |
+//! | [`list`] | the house list of 57 rows |
+//! | [`house`] | house XML: the recogniser (code 3) and the tree of a text |
+//! | [`types`] | REF to DTM: from text to value |
+//! | [`walk`] | codes 4 to 13, from tree to content |
+//! | [`content`] | content and its image |
+//! | [`check`](mod@check) | the checker |
+//! | [`bytes`] | the values in an image, read back |
+//! | [`order`] | which items can follow which in an image |
+//! | [`read`](mod@read) | the reader, the picker, and the reader that holds its place |
+//! | [`program`](mod@program) | the program over standard input |
+
+pub mod answer;
+pub mod bytes;
+pub mod check;
+pub mod content;
+pub mod house;
+pub mod list;
+pub mod order;
+pub mod program;
+pub mod read;
+pub mod types;
+pub mod walk;
+
+pub use answer::{Answer, Code};
+pub use check::check;
+pub use program::program;
+pub use read::{pick, read, Held};
+
+/// "input over 1,048,576 bytes": the longest input and the longest run that are judged.
+pub const LIMIT: usize = 1_048_576;

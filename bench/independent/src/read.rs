@@ -1,0 +1,130 @@
+//! The reader of images, the picker, and the reader that holds the run and its place.
+
+use std::ops::Range;
+
+use crate::answer::{Answer, Code};
+use crate::bytes::find_value;
+use crate::content::{END, HEADER};
+use crate::list::find;
+use crate::order::Order;
+use crate::types::Value;
+use crate::LIMIT;
+
+/// One item of an image: an element.
+#[derive(Clone, PartialEq, Eq, Debug)]
+pub struct Item {
+    pub row: u8,
+    /// Where its row byte stands in the run.
+    pub at: usize,
+    /// A leaf's value, and where in the run "the value bytes without row byte and length" stand.
+    pub leaf: Option<(Value, Range<usize>)>,
+}
+
+/// The image at the beginning of a run.
+#[derive(Clone, PartialEq, Eq, Debug)]
+pub struct Image {
+    pub items: Vec<Item>,
+    pub length: usize,
+}
+
+/// "Reader, over a run of bytes: it gives the length of the first image."
+pub fn read(run: &[u8]) -> Answer {
+    match first_image(run) {
+        Ok(image) => Answer::new(Code::Accepted, 0, image.length),
+        Err(refused) => refused,
+    }
+}
+
+/// The first image of a run, item by item. "Within the limit, bytes after the first image don't matter."
+pub fn first_image(run: &[u8]) -> Result<Image, Answer> {
+    // "1 for a run over the same limit, place as in the table"
+    if run.len() > LIMIT {
+        return Err(Answer::new(Code::TooLong, 0, LIMIT));
+    }
+    // "15 fewer than five bytes or no `KTO`, place 0"
+    if run.len() < HEADER.len() || run[..3] != HEADER[..3] {
+        return Err(Answer::new(Code::NotAnImage, 0, 0));
+    }
+    // "16 version not 1, place 3"
+    if run[3..5] != HEADER[3..5] {
+        return Err(Answer::new(Code::WrongVersion, 0, 3));
+    }
+    let mut items = Vec::new();
+    let mut order = Order::start();
+    let mut at = HEADER.len();
+    loop {
+        if run.get(at) == Some(&END) && order.may_end() {
+            return Ok(Image { items, length: at + 1 });
+        }
+        // "17 .. place 5 plus the bytes of the most whole items that begin some image"
+        let (item, length) = next_item(run, at, &mut order).ok_or(Answer::new(Code::NoWholeImage, 0, at))?;
+        items.push(item);
+        at += length;
+    }
+}
+
+/// The whole item at a place, if it can follow the items before it, and its length.
+fn next_item(run: &[u8], at: usize, order: &mut Order) -> Option<(Item, usize)> {
+    let row = find(*run.get(at)?)?;
+    let values = at + 1;
+    let (leaf, length) = if row.kind.is_leaf() {
+        let found = find_value(row.kind, &run[values..])?;
+        let part = values + found.part.start..values + found.part.end;
+        (Some((found.value, part)), 1 + found.length)
+    } else {
+        (None, 1)
+    };
+    order.take(row).then_some((Item { row: row.number, at, leaf }, length))
+}
+
+/// "A second call picks a value: the n-th (from 0) leaf of a given row. It hands back that part of the lent image itself."
+///
+/// "code 18 (after 1 and 15 to 17) if the row is no leaf or has no such item, row 0 and place 0. Acceptance is code 0, the
+/// asked row, and the place where the part begins; every refusal hands back an empty part."
+pub fn pick(run: &[u8], row: u64, n: u64) -> (Answer, &[u8]) {
+    let image = match first_image(run) {
+        Ok(image) => image,
+        Err(refused) => return (refused, &[]),
+    };
+    let leaves = image.items.iter().filter(|item| u64::from(item.row) == row).filter_map(|item| item.leaf.as_ref());
+    match usize::try_from(n).ok().and_then(|n| leaves.map(|(_, part)| part).nth(n)) {
+        Some(part) => (Answer::new(Code::Accepted, row as u8, part.start), &run[part.clone()]),
+        None => (Answer::new(Code::NoSuchItem, 0, 0), &[]),
+    }
+}
+
+/// "a reader that holds the run and its place, thin over these calls: it answers as they do on the rest of the run,
+/// places counted from the start of that rest". "A held place past the run's end answers 15": its rest is empty.
+#[derive(Clone, Debug)]
+pub struct Held<'a> {
+    run: &'a [u8],
+    place: usize,
+}
+
+impl<'a> Held<'a> {
+    pub fn new(run: &'a [u8], place: usize) -> Held<'a> {
+        Held { run, place }
+    }
+
+    pub fn place(&self) -> usize {
+        self.place
+    }
+
+    /// "moves on by the image's length when accepting an image, and stays when .. refusing"
+    pub fn read(&mut self) -> Answer {
+        let answer = read(self.rest());
+        if answer.is_accepted() {
+            self.place += answer.place;
+        }
+        answer
+    }
+
+    /// "stays when picking"
+    pub fn pick(&self, row: u64, n: u64) -> (Answer, &'a [u8]) {
+        pick(self.rest(), row, n)
+    }
+
+    fn rest(&self) -> &'a [u8] {
+        self.run.get(self.place..).unwrap_or(&[])
+    }
+}

@@ -1,0 +1,119 @@
+//! Every worked example of document 01.
+
+mod support;
+
+use independent::{check, pick, program, read};
+use support::*;
+
+/// "empty: 3, place 0. `<a></b>`: 3, place 5. `<Document/>`: 4, row 1, place 0."
+#[test]
+fn short_texts() {
+    assert_eq!(judge(""), (3, 0, 0));
+    assert_eq!(judge("<a></b>"), (3, 0, 5));
+    assert_eq!(judge("<Document/>"), (4, 1, 0));
+}
+
+/// "A whole one: .. Image, 67 bytes"
+#[test]
+fn the_whole_one() {
+    let image = whole_image();
+    assert_eq!(image.len(), 67);
+    assert_eq!(support::image(whole_example()), image);
+    assert_eq!(numbers(read(&image)), (0, 0, 67));
+}
+
+/// "The image above: a 67-byte buffer accepts; 66 gives 14, place 67." With the bytes of the buffers.
+#[test]
+fn room() {
+    let mut exact = [0xaa; 67];
+    assert_eq!(numbers(check(whole_example().as_bytes(), &mut exact)), (0, 0, 67));
+    assert_eq!(exact[..], whole_image());
+
+    let mut short = [0xaa; 66];
+    assert_eq!(numbers(check(whole_example().as_bytes(), &mut short)), (14, 0, 67));
+    assert_eq!(short, [0xaa; 66]);
+
+    let mut more = [0xaa; 70];
+    assert_eq!(numbers(check(whole_example().as_bytes(), &mut more)), (0, 0, 67));
+    assert_eq!(more[..67], whole_image());
+    assert_eq!(more[67..], [0xaa; 3]);
+
+    let mut none = [];
+    assert_eq!(numbers(check(whole_example().as_bytes(), &mut none)), (14, 0, 67));
+}
+
+/// "AMT accepted: `1250.50` (12505, scale 1), `-0.00` (0, 0), `.5`, `7.`, `0.000010` (1, 5), 18 nines."
+#[test]
+fn amounts_accepted() {
+    let nines = "9".repeat(18);
+    let cases = [
+        ("1250.50", 12505, 1),
+        ("-0.00", 0, 0),
+        (".5", 5, 1),
+        ("7.", 7, 0),
+        ("0.000010", 1, 5),
+        (&nines, 999_999_999_999_999_999_u64, 0),
+    ];
+    for (text, coefficient, scale) in cases {
+        let image = image(amount(text));
+        let (_, part) = pick(&image, 19, 0);
+        assert_eq!(part, [&b"EUR"[..], &[scale], &coefficient.to_be_bytes()].concat(), "{text}");
+    }
+}
+
+/// "Refused with 12: `0.000001`, 1 with 18 zeros, `-0.01`, `.`"
+#[test]
+fn amounts_refused() {
+    for text in ["0.000001", &format!("1{}", "0".repeat(18)), "-0.01", "."] {
+        let file = amount(text);
+        assert_eq!(judge(&file), (12, 19, place(&file, "<Amt")), "{text}");
+    }
+}
+
+/// "REF: `A/B` good, `A//B` bad, 35 good, 36 bad."
+#[test]
+fn references() {
+    let at = place(&whole_example(), "<MsgId>");
+    assert_eq!(judge(message_id("A/B")).0, 0);
+    assert_eq!(judge(message_id("A//B")), (12, 4, at));
+    assert_eq!(judge(message_id(&"A".repeat(35))).0, 0);
+    assert_eq!(judge(message_id(&"A".repeat(36))), (12, 4, at));
+}
+
+/// "Nm of 140 `€` (420 bytes) good, 141 bad."
+#[test]
+fn names_count_characters() {
+    assert_eq!("€".repeat(140).len(), 420);
+    assert_eq!(judge(debtor(&"€".repeat(140))).0, 0);
+    let file = debtor(&"€".repeat(141));
+    assert_eq!(judge(&file), (12, 52, place(&file, "<Nm>")));
+}
+
+/// "Easy to get wrong: counting bytes for lengths; `&amp;` as five characters; trailing zeros spending the 18 digits;
+/// cutting references; holding `5.0` and `5.00` different; reporting 14 before a later violation."
+#[test]
+fn easy_to_get_wrong() {
+    assert_eq!(judge(debtor(&"&amp;".repeat(140))).0, 0);
+    assert_eq!(judge(debtor(&"&amp;".repeat(141))).0, 12);
+    assert_eq!(judge(amount(&format!("123456789012.123{}", "0".repeat(30)))).0, 0);
+    let long = "ABCDEFGHIJKLMNOPQRSTUVWXYZ012345678";
+    assert_eq!(image(message_id(long))[9..11], [0, 35]);
+    assert_eq!(image(message_id(long))[11..46], *long.as_bytes());
+    assert_eq!(image(amount("5.0")), image(amount("5.00")));
+    let mut none = [];
+    let late = whole_example().replace("2024-02-29", "2023-02-29");
+    assert_eq!(check(late.as_bytes(), &mut none).code.number(), 12);
+}
+
+/// "The program reads at most 65,536 bytes and writes the image or one line. Empty input gives `refused 3 0 0` and LF,
+/// whole. Longer input gives `refused 1 0 65536` and LF."
+#[test]
+fn the_program() {
+    assert_eq!(program(b""), b"refused 3 0 0\n");
+    assert_eq!(program(whole_example().as_bytes()), whole_image());
+    assert_eq!(program(b"<Document/>"), b"refused 4 1 0\n");
+    let full = format!("{}{}", whole_example(), " ".repeat(65_536 - whole_example().len()));
+    assert_eq!(full.len(), 65_536);
+    assert_eq!(program(full.as_bytes()), whole_image());
+    assert_eq!(program(format!("{full} ").as_bytes()), b"refused 1 0 65536\n");
+}

@@ -1,0 +1,139 @@
+//! Faults put into a copy of the independent program: the comparison must find each within the gate's number of cases.
+//!
+//! The first is tried in every run of the tests, all of them by `cargo test --test must_find -- --ignored`.
+
+use std::fs;
+use std::path::{Path, PathBuf};
+use std::process::Command;
+use std::sync::Mutex;
+
+use tools::compare::compare;
+use tools::unit::Unit;
+
+/// How many cases the gate compares.
+const CASES: u64 = 20_000;
+
+/// A file of the independent program, what stands in it once, and what is put in its place.
+type Fault = (&'static str, &'static str, &'static str);
+
+const FAULTS: &[Fault] = &[
+    // A test order swapped: 8 before 11.
+    (
+        "walk.rs",
+        "if contents.is_empty() {",
+        "if contents.is_empty() && children(row.number).all(|child| !child.count.required) {",
+    ),
+    // A test order swapped: 3 before 2.
+    (
+        "check.rs",
+        "std::str::from_utf8(input)",
+        "std::str::from_utf8(if house::parse(input).is_err() { b\"\" } else { input })",
+    ),
+    // 6 not seen at a row that comes once.
+    ("walk.rs", "if last > row.number {", "if last > row.number && row.count.repeats {"),
+    // More attributes than Ccy.
+    ("walk.rs", "(Kind::Amt, [only]) if only.name == b\"Ccy\"", "(Kind::Amt, [only, ..]) if only.name == b\"Ccy\""),
+    // 10 at the beginning of the text instead of its first byte that is no blank.
+    ("walk.rs", "text.at + offset", "text.at"),
+    // The rule on row 43 only one way.
+    ("walk.rs", "has(RULE_FIRST) != has(RULE_SECOND)", "has(RULE_FIRST) && !has(RULE_SECOND)"),
+    // A count in the table.
+    ("list.rs", "row(26, \"RvslInd\", 23, MAYBE, Bool)", "row(26, \"RvslInd\", 23, ONE, Bool)"),
+    // A length in the table.
+    ("list.rs", "row(41, \"Cd\", 40, ONE, Txt(35))", "row(41, \"Cd\", 40, ONE, Txt(34))"),
+    // The order of two words.
+    ("list.rs", "[\"CRDT\", \"DBIT\"]", "[\"DBIT\", \"CRDT\"]"),
+    // 14 where the room is exactly enough.
+    ("check.rs", "out.get_mut(..image.len())", "out.get_mut(..=image.len()).map(|room| &mut room[..image.len()])"),
+    // Lengths in bytes.
+    ("types/text.rs", "text.chars().count()", "text.len()"),
+    // A reference that ends in a slash.
+    ("types/reference.rs", "!text.ends_with('/')", "!text.ends_with(\"//\")"),
+    // Trailing zeros that spend digits.
+    ("types/amount.rs", "fraction.trim_end_matches('0')", "fraction.strip_suffix('0').unwrap_or(fraction)"),
+    // Centuries that are leap years.
+    ("types/date.rs", "year % 4 == 0 && year % 100 != 0", "year % 4 == 0"),
+    // A sixteenth level refused.
+    ("house/recogniser.rs", "pub const MOST_LEVELS: usize = 16;", "pub const MOST_LEVELS: usize = 15;"),
+    // A single `]` in front of a `>` refused.
+    (
+        "house/recogniser.rs", "self.text[start..self.at].ends_with(b\"]]\")",
+        "self.text[start..self.at].ends_with(b\"]\")",
+    ),
+    // U+FFFF taken.
+    ("house/characters.rs", "[0xef, 0xbf] => Some((0x80, 0xbd)),", "[0xef, 0xbf] => Some((0x80, 0xbf)),"),
+    // A group closed without its required children.
+    ("order.rs", "self.last != 0 && !self.lacks_between(self.last, u8::MAX)", "self.last != 0"),
+    // 48 without 47 in an image.
+    (
+        "order.rs",
+        "self.waits_for_second() == (row.number == RULE_SECOND)",
+        "!self.waits_for_second() || row.number == RULE_SECOND",
+    ),
+    // Amounts in an image that are not canonical.
+    ("types/amount.rs", "(self.scale == 0 || self.coefficient % 10 != 0)", "true"),
+    // Picks counted from 1.
+    ("read.rs", ".nth(n)", ".nth(n.saturating_sub(1))"),
+];
+
+#[test]
+fn a_swapped_test_order_is_found() {
+    find(0, "swapped");
+}
+
+#[test]
+#[ignore = "builds a program for each fault: about a minute"]
+fn every_fault_is_found() {
+    (0..FAULTS.len()).for_each(|index| find(index, "fault"));
+}
+
+fn find(index: usize, label: &str) {
+    let fault = FAULTS[index];
+    let replay = build_with(fault, label);
+    let found = compare(&Unit::Replay(replay), 1, 0, CASES).expect("replay runs");
+    let difference = found.difference.unwrap_or_else(|| panic!("not found in {CASES} cases: {fault:?}"));
+    println!("found after {} cases: {} in {}\n{difference}", found.compared, fault.2, fault.0);
+}
+
+/// Builds the program `replay` of a copy of this workspace with the fault put in.
+fn build_with((file, old, new): Fault, label: &str) -> PathBuf {
+    let workspace = Path::new(env!("CARGO_MANIFEST_DIR")).parent().expect("the workspace");
+    let place = Path::new(env!("CARGO_TARGET_TMPDIR")).join("must-find");
+    let copy = place.join("copy");
+    static ONE_AT_A_TIME: Mutex<()> = Mutex::new(());
+    let _guard = ONE_AT_A_TIME.lock().unwrap();
+    if copy.exists() {
+        fs::remove_dir_all(&copy).unwrap();
+    }
+    for part in ["Cargo.toml", "Cargo.lock", "independent", "cases", "tools"] {
+        copy_all(&workspace.join(part), &copy.join(part));
+    }
+    let path = copy.join("independent/src").join(file);
+    let text = fs::read_to_string(&path).unwrap();
+    assert_eq!(text.matches(old).count(), 1, "{old} stands once in {file}");
+    fs::write(&path, text.replace(old, new)).unwrap();
+    let built = place.join("built");
+    let output = Command::new(env!("CARGO"))
+        .args(["build", "--quiet", "--offline", "-p", "tools", "--bin", "replay"])
+        .current_dir(&copy)
+        .env("CARGO_TARGET_DIR", &built)
+        .output()
+        .expect("cargo");
+    assert!(output.status.success(), "{}", String::from_utf8_lossy(&output.stderr));
+    let kept = place.join(label);
+    fs::copy(built.join("debug/replay"), &kept).unwrap();
+    kept
+}
+
+fn copy_all(from: &Path, to: &Path) {
+    if from.is_dir() {
+        fs::create_dir_all(to).unwrap();
+        for entry in fs::read_dir(from).unwrap() {
+            let name = entry.unwrap().file_name();
+            copy_all(&from.join(&name), &to.join(&name));
+        }
+    } else {
+        fs::create_dir_all(to.parent().unwrap()).unwrap();
+        fs::copy(from, to).unwrap();
+    }
+}
