@@ -82,8 +82,11 @@ module _ (s : List ℕ) (o m i : ℕ) (a : Marked m) (v : Valuing s o m i) where
   module _ (h : i < length s) where
     pub value-quote : getD s i 0 ≡ m → GoesValue s o m (On (i + 1))
     value-quote f =
-        λ q k ss d n ns e. (omega (arith, v .from), omega arith,
-        v .so q k ss d n ns e ∙ fate-byte s i (value q k ss d n ns) (tail k ss d n ns) h (value-ends q k ss d n ns (getD s i 0) (f ∙ sym e)))
+        λ q k ss d n ns e. (
+          omega (arith, v .from),
+          omega arith,
+          v .so q k ss d n ns e ∙ fate-byte s i (value q k ss d n ns) (tail k ss d n ns) h (value-ends q k ss d n ns (getD s i 0) (f ∙ sym e)),
+        )
 
     module _ (f : getD s i 0 ≢ m) (r : Went) (g : GoesPiece s i r) where
       goes : (q : Quote) (k : ℕ) (ss : List (List ℕ)) (d : ℕ) (n : List ℕ) (ns : List (List ℕ)) → mark q ≡ m
@@ -104,7 +107,8 @@ module _ (s : List ℕ) (o m i : ℕ) (a : Marked m) (v : Valuing s o m i) where
       valuing-on j t =
           let w = piece-on j t in
           record {
-            from = omega (arith, v .from, w .0); within = w .1;
+            from = omega (arith, v .from, w .0);
+            within = w .1;
             so = λ q k ss d n ns e. v .so q k ss d n ns e ∙ subst (λ (z : Went). Goes s i (value q k ss d n ns) (value q k ss d n ns) z) t (goes q k ss d n ns e) .2;
           }
 

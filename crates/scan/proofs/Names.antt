@@ -32,7 +32,7 @@ module _ (size : ℕ) (s f t : List ℕ) (n a e : ℕ) (h : Held size s f t n) (
   names-push =
       names-top s (set f n a) (set t n e) (n + 1) (omega arith)
       ∙ ap₂ (λ (u : List ℕ) (v : List (List ℕ)). u ∷ v) (ap (λ (k : ℕ). slice (getD (set f n a) k 0) (getD (set t n e) k 0) s) back ∙ last)
-        (ap (names s (set f n a) (set t n e)) back ∙ names-set s f t n n a e (omega arith))
+      (ap (names s (set f n a) (set t n e)) back ∙ names-set s f t n n a e (omega arith))
     where
       back : n + 1 - 1 ≡ n
       back = omega arith
@@ -65,8 +65,11 @@ held-none size s f t p q = record { few = zero-le; room = p; room′ = q; begin 
 pub held-pop : (size : ℕ) (s f t : List ℕ) (n : ℕ) → Held size s f t n → Held size s f t (n - 1)
 held-pop size s f t n h =
     record {
-      few = omega (arith, h .few); room = h .room; room′ = h .room′;
-      begin = λ k l. h .begin k (omega arith); end = λ k l. h .end k (omega arith);
+      few = omega (arith, h .few);
+      room = h .room;
+      room′ = h .room′;
+      begin = λ k l. h .begin k (omega arith);
+      end = λ k l. h .end k (omega arith);
     }
 
 -- ---- a name is one of those

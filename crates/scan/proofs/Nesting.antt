@@ -104,7 +104,7 @@ module _ (s : List ℕ) (i n : ℕ) (f t : List ℕ) where
             ∙ fate-grow (above 1) (λ l. name d l m) (name-grow d m) s (getD s i 0 ∷ []) (i + 1)
             ∙ ap₂ (λ (j : ℕ) (l : List ℕ). fate s j (name d l m)) (sym is) (slice-run (above 1) s i c h is)
             ∙ fate-alike s c (name d (slice i c s) m) (tail 4 [] d (slice i c s) m) refl
-              (λ l. name-tail d m (slice i c s) (getD s c 0) (run-behind (above 1) s (i + 1) c is (omega arith) l))
+            (λ l. name-tail d m (slice i c s) (getD s c 0) (run-behind (above 1) s (i + 1) c is (omega arith) l))
 
         module _ (r : Tag) (g : GoesTag s c r) where
           turns : (a : At) (q : Tag) → r ≡ q → Turns s c (tail 4 [] (16 - (n + 1)) (slice i c s) (names s f t n)) (content 0 (16 - (n + 1)) (slice i c s) (names s f t n)) (after (suc (16 - (n + 1))) (names s f t n)) q
@@ -120,9 +120,12 @@ module _ (s : List ℕ) (i n : ℕ) (f t : List ℕ) where
 
           pub start-open : (j : ℕ) → r ≡ Open j → GoesStart s i n f t (set f n i) (set t n c) (On j (n + 1))
           start-open j w =
-              λ a o. let v = turns a (Open j) w in let l = v .0 in
-              (omega (arith, is), v .1, held-push 16 s f t n i c held few (omega (arith, is)) name-within,
-              named a o ∙ v .2 ∙ ap (λ (m : List (List ℕ)). fate s j (after (16 - (n + 1)) m)) (sym (names-push 16 s f t n i c held few)))
+              λ a o. let v = turns a (Open j) w in let l = v .0 in (
+                omega (arith, is),
+                v .1,
+                held-push 16 s f t n i c held few (omega (arith, is)) name-within,
+                named a o ∙ v .2 ∙ ap (λ (m : List (List ℕ)). fate s j (after (16 - (n + 1)) m)) (sym (names-push 16 s f t n i c held few)),
+              )
 
 -- ---- an end tag behind its `</`
 
@@ -172,7 +175,7 @@ module _ (s : List ℕ) (i : ℕ) (f t : List ℕ) (n : ℕ) where
         (record {
           waits = refl;
           steps = λ l. less-other (16 - n) (slice (getD f (n - 1) 0) (getD t (n - 1) 0) s) (names s f t (n - 1)) (getD s i 0) e
-            ∙ ap (λ (m : List (List ℕ)). cond (isNameStart (getD s i 0)) (begun (16 - n) m (getD s i 0)) dead) (sym (names-top s f t n o));
+              ∙ ap (λ (m : List (List ℕ)). cond (isNameStart (getD s i 0)) (begun (16 - n) m (getD s i 0)) dead) (sym (names-top s f t n o));
         })
 
     module _ (e : getD s i 0 ≡ 47) (held : Held 16 s f t n) (r : Went)

@@ -61,7 +61,7 @@ module _ (s : List ℕ) (i : ℕ) (p : Part) where
       record {
         waits = h .waits p;
         steps = λ l. h .steps p (getD s i 0) ∙ ap (λ (z : Read). hosted z f b) (e l) ∙ hosted-by (inRange low high (getD s i 0)) u f b
-          ∙ ap (λ (z : St). cond (inRange low high (getD s i 0)) z dead) k;
+            ∙ ap (λ (z : St). cond (inRange low high (getD s i 0)) z dead) k;
       }
 
 pub continues-one : (s : List ℕ) (f : Part → At) (b : At) → Hosts f b → Continues s (f one) b

@@ -109,8 +109,11 @@ module _ (s : List ℕ) (i : ℕ) (h : i < length s) where
 
     pub slash-end : i + 1 < length s → getD s (i + 1) 0 ≡ 62 → GoesEnd s i (Empty (i + 1 + 1))
     slash-end l f =
-        λ k ss d n ns. (omega arith, omega arith,
-        slashed k ss d n ns ∙ fate-byte s (i + 1) (slash d ns) (after (suc d) ns) l (slash-greater d ns (getD s (i + 1) 0) f))
+        λ k ss d n ns. (
+          omega arith,
+          omega arith,
+          slashed k ss d n ns ∙ fate-byte s (i + 1) (slash d ns) (after (suc d) ns) l (slash-greater d ns (getD s (i + 1) 0) f),
+        )
 
 -- ---- the loop over attributes
 
@@ -167,7 +170,7 @@ module _ (s : List ℕ) (o : ℕ) (f t : List ℕ) (n i : ℕ) (a : Attributing 
       tag-joined q =
           λ d m ns. a .so d m ns ∙ ap (λ (j : ℕ). fate s j (tail (4 - n) ss d m ns)) (sym q)
           ∙ fate-dead s b (tail (4 - n) ss d m ns) h
-            (tail-dead (4 - n) ss d m ns (getD s b 0) (run-behind isBlank s i b is (a .within) h) (start-other 62 (getD s b 0) refl e) (start-other 47 (getD s b 0) refl e))
+          (tail-dead (4 - n) ss d m ns (getD s b 0) (run-behind isBlank s i b is (a .within) h) (start-other 62 (getD s b 0) refl e) (start-other 47 (getD s b 0) refl e))
 
       module _ (q : b ≢ i) where
         gapped′ : (k : ℕ) (d : ℕ) (m : List ℕ) (ns : List (List ℕ)) → fate s i (tail k ss d m ns) ≡ fate s b (gap k ss d m ns)
@@ -234,7 +237,7 @@ module _ (s : List ℕ) (o : ℕ) (f t : List ℕ) (n i : ℕ) (a : Attributing 
                   within = y .1;
                   held = held-push 4 s f t n b c (a .held) few (omega arith) within;
                   so = λ d m ns. valued d m ns ∙ u (4 - (n + 1)) (slice b c s ∷ ss) d m ns .2
-                    ∙ ap (λ (l : List (List ℕ)). fate s j (tail (4 - (n + 1)) l d m ns)) (sym (names-push 4 s f t n b c (a .held) few));
+                      ∙ ap (λ (l : List (List ℕ)). fate s j (tail (4 - (n + 1)) l d m ns)) (sym (names-push 4 s f t n b c (a .held) few));
                 }
 
 -- ---- mostly `>`

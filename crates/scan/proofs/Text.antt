@@ -88,8 +88,12 @@ module _ (s : List ℕ) (i e : ℕ) (is : e ≡ i + span isBracket (drop i s)) (
 
   row-on : i < e → e < length s → (eqb (getD s e 0) 62 && leb 2 (e - i)) ≡ false → GoesOther s i (On e)
   row-on j k l =
-      λ d n ns. (j, omega arith, row d n ns ∙ fate-alike s e (content (e - i) d n ns) (content 0 d n ns) refl
-      (λ t. content-same d n ns (e - i) (getD s e 0) (run-behind isBracket s i e is h t) l))
+      λ d n ns. (
+        j,
+        omega arith,
+        row d n ns ∙ fate-alike s e (content (e - i) d n ns) (content 0 d n ns) refl
+            (λ t. content-same d n ns (e - i) (getD s e 0) (run-behind isBracket s i e is h t) l),
+      )
 
   pub row-other : i < e → e < length s → getD s e 0 ≢ 62 → GoesOther s i (On e)
   row-other j k l = row-on j k (rw (ne-eqb (getD s e 0) 62 l) refl)

@@ -51,9 +51,9 @@ module _ (s : List ℕ) (i : ℕ) (w : List ℕ) where
             upto = omega arith;
             within = omega arith;
             so = λ g l. left g l
-              ∙ fate-byte s (i + k) (g (getD w k 0 ∷ drop (suc k) w)) (g (drop (suc k) w)) j
+                ∙ fate-byte s (i + k) (g (getD w k 0 ∷ drop (suc k) w)) (g (drop (suc k) w)) j
                 (l .steps (getD w k 0) (drop (suc k) w) (getD s (i + k) 0) ∙ rw (eq-eqb (getD s (i + k) 0) (getD w k 0) e) refl)
-              ∙ place (g (drop (suc k) w)) ∙ ap (λ (n : ℕ). fate s (i + (k + 1)) (g (drop n w))) (sym (add-one k));
+                ∙ place (g (drop (suc k) w)) ∙ ap (λ (n : ℕ). fate s (i + (k + 1)) (g (drop n w))) (sym (add-one k));
           }
         where
           place : (a : At) → fate s (i + k + 1) a ≡ fate s (i + (k + 1)) a

@@ -7,7 +7,6 @@ use crate::tag::tag_rest;
 use crate::word::word;
 use text::class::is_name_start;
 use text::span::blanks_end;
-
 ghost use Prim.Native.Nat.{_≤_, _<_};
 ghost use lib.ListN.{length};
 ghost use Rattle.xml.specs.Auto.{root, done};
@@ -22,13 +21,18 @@ enum Step {
 }
 
 // Over a start tag behind its `<`: "Nesting is at most 16".
-fn start_tag(s: &[u8], at: usize, from: &mut [usize; 16], to: &mut [usize; 16], n: usize, classes: &[u8; 256]) -> Step
+fn start_tag(
+    s: &[u8],
+    at: usize,
+    from: &mut [usize; 16],
+    to: &mut [usize; 16],
+    n: usize,
+    classes: &[u8; 256],
+) -> Step
     requires { ⌜ (at ≤ length (now s)) × Held 16 (now s) (now from) (now to) n × Classed (now classes) ⌝ }
-    ensures {
-        λ r. ⌜
-            GoesStart (now (s .entry)) at n (now (from .entry)) (now (to .entry)) (now (from .exit)) (now (to .exit)) r
-        ⌝
-    }
+    ensures { λ r. ⌜
+        GoesStart (now (s .entry)) at n (now (from .entry)) (now (to .entry)) (now (from .exit)) (now (to .exit)) r
+        ⌝ }
 {
     if s.len() <= at {
         return Step::Stopped(at);
@@ -77,14 +81,19 @@ fn end_tag(s: &[u8], at: usize, w: &[u8]) -> Went
 }
 
 // Over a tag behind its `<`, where n elements are open.
-fn any_tag(s: &[u8], at: usize, from: &mut [usize; 16], to: &mut [usize; 16], n: usize, classes: &[u8; 256]) -> Step
+fn any_tag(
+    s: &[u8],
+    at: usize,
+    from: &mut [usize; 16],
+    to: &mut [usize; 16],
+    n: usize,
+    classes: &[u8; 256],
+) -> Step
     requires { ⌜ (at ≤ length (now s)) × (0 < n) × Held 16 (now s) (now from) (now to) n × Classed (now classes) ⌝ }
-    ensures {
-        λ r. ⌜
-            Steps (now (s .entry)) at (marked (now (s .entry)) (now (from .entry)) (now (to .entry)) n) (now (from .exit))
-            (now (to .exit)) r
-        ⌝
-    }
+    ensures { λ r. ⌜
+        Steps (now (s .entry)) at (marked (now (s .entry)) (now (from .entry)) (now (to .entry)) n) (now (from .exit))
+        (now (to .exit)) r
+        ⌝ }
 {
     if s.len() <= at {
         return Step::Stopped(at);
@@ -102,14 +111,19 @@ fn any_tag(s: &[u8], at: usize, from: &mut [usize; 16], to: &mut [usize; 16], n:
 }
 
 // Over text and the tag behind it, where n elements are open.
-fn advance(s: &[u8], at: usize, from: &mut [usize; 16], to: &mut [usize; 16], n: usize, classes: &[u8; 256]) -> Step
+fn advance(
+    s: &[u8],
+    at: usize,
+    from: &mut [usize; 16],
+    to: &mut [usize; 16],
+    n: usize,
+    classes: &[u8; 256],
+) -> Step
     requires { ⌜ (at ≤ length (now s)) × (0 < n) × Held 16 (now s) (now from) (now to) n × Classed (now classes) ⌝ }
-    ensures {
-        λ r. ⌜
-            Steps (now (s .entry)) at (inside (now (s .entry)) (now (from .entry)) (now (to .entry)) n) (now (from .exit))
-            (now (to .exit)) r
-        ⌝
-    }
+    ensures { λ r. ⌜
+        Steps (now (s .entry)) at (inside (now (s .entry)) (now (from .entry)) (now (to .entry)) n) (now (from .exit))
+        (now (to .exit)) r
+        ⌝ }
 {
     match text_end(s, at, classes) {
         Went::Stopped(p) => Step::Stopped(p),

@@ -15,7 +15,6 @@ use Rattle.scan.proofs.Answers.{prolog-stops, prolog-within, elements-s
 
 -- answers
 
-
 -- src/lib.rt:37:11
 prolog-requires : tie.Need-prolog-requires
 prolog-requires c κs = search needs

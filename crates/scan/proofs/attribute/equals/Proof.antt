@@ -12,7 +12,6 @@ use Rattle.scan.proofs.Attributes.{equals-cut, equals-other, quote-cut,
 
 -- answers
 
-
 -- src/attribute.rt:37:9
 blanks-end-requires : tie.Need-blanks-end-requires
 blanks-end-requires c κs = search needs

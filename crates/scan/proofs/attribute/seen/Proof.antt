@@ -11,7 +11,6 @@ use Rattle.scan.proofs.Names.{Seeing, seeing-all, seen-none, seen-yes, 
 
 -- answers
 
-
 abbrev Inv-loop : tie.InvT-loop
 Inv-loop s from to n a e k₀ k = Seeing (slice a e s) s from to n k
 

@@ -11,7 +11,6 @@ use Rattle.scan.proofs.Attributes.{Valuing, valuing-none, value-cut, va
 
 -- answers
 
-
 abbrev Inv-loop : tie.InvT-loop
 Inv-loop s at quote i₀ i = Valuing s at quote i
 

@@ -12,7 +12,6 @@ use Rattle.scan.proofs.Text.{row-cut, row-greater, row-other, row-short
 
 -- answers
 
-
 -- src/content.rt:32:9
 brackets-end-requires : tie.Need-brackets-end-requires
 brackets-end-requires c κs = search needs

@@ -14,7 +14,6 @@ use Rattle.scan.specs.Goes.{isBracket}
 
 -- answers
 
-
 abbrev Inv-loop : tie.InvT-loop
 Inv-loop s at i₀ i = i + span isBracket (drop i s) ≡ at + span isBracket (drop at s)
 

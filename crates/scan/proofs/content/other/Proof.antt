@@ -9,7 +9,6 @@ use Rattle.scan.proofs.Text.{other-greater, other-piece}
 
 -- answers
 
-
 -- src/content.rt:72:13
 shared-slice-read-x : tie.Need-shared-slice-read-x
 shared-slice-read-x c = search needs

@@ -12,7 +12,6 @@ use Rattle.scan.proofs.Text.{Texting, texting-none, texting-run, text-c
 
 -- answers
 
-
 abbrev Inv-loop : tie.InvT-loop
 Inv-loop s at classes i₀ i = Texting s at i
 

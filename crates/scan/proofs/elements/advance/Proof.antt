@@ -9,7 +9,6 @@ use Rattle.scan.proofs.Nesting.{text-halt, text-within, text-tag}
 
 -- answers
 
-
 -- src/elements.rt:114:11
 text-end-requires : tie.Need-text-end-requires
 text-end-requires c κs = search needs

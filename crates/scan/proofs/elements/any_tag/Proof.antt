@@ -11,7 +11,6 @@ use Rattle.scan.proofs.Nesting.{any-cut, any-start, any-stop, any-close
 
 -- answers
 
-
 -- src/elements.rt:90:9
 returns : tie.Need-returns
 returns c =

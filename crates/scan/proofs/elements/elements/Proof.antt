@@ -14,7 +14,6 @@ use Rattle.scan.proofs.Nesting.{root-opens, ahead, steps-halt, steps-wi
 
 -- answers
 
-
 abbrev Inv-loop : tie.InvT-loop
 Inv-loop s at classes from₀ to₀ here₀ from to here = Steps s at root from to here
 

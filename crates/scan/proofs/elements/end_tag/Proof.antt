@@ -9,7 +9,6 @@ use Rattle.scan.proofs.Nesting.{close-stop, close-now, close-cut, close
 
 -- answers
 
-
 -- src/elements.rt:59:11
 word-requires : tie.Need-word-requires
 word-requires c κs = search needs

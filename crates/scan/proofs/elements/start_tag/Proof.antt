@@ -12,7 +12,6 @@ use Rattle.scan.proofs.Nesting.{start-cut, start-other, start-deep, nam
 
 -- answers
 
-
 -- src/elements.rt:34:9
 returns : tie.Need-returns
 returns c =

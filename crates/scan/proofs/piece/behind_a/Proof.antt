@@ -12,7 +12,6 @@ use Rattle.scan.proofs.Pieces.{part-cut, part-word, part-dead}
 
 -- answers
 
-
 -- src/piece.rt:107:9
 returns : tie.Need-returns
 returns c =

@@ -12,7 +12,6 @@ use Rattle.scan.proofs.Pieces.{part-cut, part-then, as-one, as-two}
 
 -- answers
 
-
 -- src/piece.rt:53:9
 returns : tie.Need-returns
 returns c =

@@ -13,7 +13,6 @@ use Rattle.scan.proofs.Pieces.{part-cut, part-then, part-word, part-dea
 
 -- answers
 
-
 -- src/piece.rt:125:9
 returns : tie.Need-returns
 returns c =

@@ -14,7 +14,6 @@ use Rattle.scan.proofs.Pieces.{piece-dead, piece-part, as-one, as-two, 
 
 -- answers
 
-
 -- src/piece.rt:65:13
 shared-slice-read-x : tie.Need-shared-slice-read-x
 shared-slice-read-x c = search needs

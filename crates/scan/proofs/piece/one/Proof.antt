@@ -7,7 +7,6 @@ use Rattle.scan.proofs.Pieces.{one-cut, one-low, one-high, one-on}
 
 -- answers
 
-
 -- src/piece.rt:15:9
 returns : tie.Need-returns
 returns c =

@@ -13,7 +13,6 @@ use Rattle.scan.proofs.Pieces.{piece-dead, piece-one, piece-part, lead-
 
 -- answers
 
-
 -- src/piece.rt:148:13
 shared-slice-read-x : tie.Need-shared-slice-read-x
 shared-slice-read-x c = search needs

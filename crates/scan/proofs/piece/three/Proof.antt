@@ -9,7 +9,6 @@ use Rattle.scan.proofs.Pieces.{three-stop, three-on}
 
 -- answers
 
-
 -- src/piece.rt:41:11
 one-requires : tie.Need-one-requires
 one-requires c κs = search needs

@@ -8,7 +8,6 @@ use Rattle.scan.proofs.Pieces.{two-stop, two-on}
 
 -- answers
 
-
 -- src/piece.rt:31:11
 one-requires : tie.Need-one-requires
 one-requires c κs = search needs

@@ -12,7 +12,6 @@ use Rattle.scan.proofs.Before.{prolog-plain, opener-within, declared-st
 
 -- answers
 
-
 -- src/prolog.rt:30:22
 slice-aggregate-begins : tie.Need-slice-aggregate-begins
 slice-aggregate-begins c = search needs

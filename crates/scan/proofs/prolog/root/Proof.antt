@@ -8,7 +8,6 @@ use Rattle.scan.proofs.Before.{root-cut, root-less, root-other}
 
 -- answers
 
-
 -- src/prolog.rt:15:9
 blanks-end-requires : tie.Need-blanks-end-requires
 blanks-end-requires c κs = search needs

@@ -15,7 +15,6 @@ use Rattle.scan.proofs.Classes.{above-no, above-yes}
 
 -- answers
 
-
 abbrev Inv-loop : tie.InvT-loop
 Inv-loop s at classes level i₀ i = i + span (above level) (drop i s) ≡ at + span (above level) (drop at s)
 

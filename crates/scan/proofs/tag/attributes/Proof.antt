@@ -21,7 +21,6 @@ use Rattle.scan.proofs.Tags.{Attributing, attributing-none, tag-cut, ta
 
 -- answers
 
-
 abbrev Inv-loop : tie.InvT-loop
 Inv-loop s at classes from₀ to₀ n₀ i₀ from to n i = Attributing s at from to n i
 
@@ -144,7 +143,7 @@ enum-known-j c =
 loop-less : tie.Need-loop-less Inv-loop μ-loop
 loop-less c =
     let w = equals-on _ _ _ _ _ _ (c .before .before .before .before .before .before .before .before .before .before .before .before .before .before .before .before .loop .inv) _ (c .before .before .before .before .before .before .before .before .before .before .before .before .before .before .before .blanks-end .ensures) (c .before .before .before .before .before .before .before .before .before .before .before .before .before .before .if1 .left) (sym (c .before .before .before .before .before .before .before .before .before .before .before .before .is-name-start .ensures) ∙ not-false _ (c .before .before .before .before .before .before .before .before .before .before .before .if2 .left)) (c .before .before .before .before .before .before .before .before .before .before .if3 .left) (c .before .before .before .before .before .before .before .before .before .if4 .left)
-          _ (c .before .before .before .before .before .before .before .before .run-end .ensures) (sym (c .before .before .before .before .before .seen .ensures) ∙ c .before .before .before .before .if5 .left) (c .before .before .before .equals .result) (c .before .before .before .equals .ensures) _ (c .before .j .given .1) in
+    _ (c .before .before .before .before .before .before .before .before .run-end .ensures) (sym (c .before .before .before .before .before .seen .ensures) ∙ c .before .before .before .before .if5 .left) (c .before .before .before .equals .result) (c .before .before .before .equals .ensures) _ (c .before .j .given .1) in
     omega (arith, w .0, w .1, c .before .before .before .before .before .before .before .before .before .before .before .before .before .before .before .blanks-end .ensures, c .before .before .before .before .before .before .before .before .run-end .ensures)
 
 -- src/tag.rt:54:5

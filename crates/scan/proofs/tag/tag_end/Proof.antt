@@ -7,7 +7,6 @@ use Rattle.scan.proofs.Tags.{end-greater, end-other, slash-cut, slash-o
 
 -- answers
 
-
 -- src/tag.rt:28:13
 shared-slice-read-x : tie.Need-shared-slice-read-x
 shared-slice-read-x c = search needs

@@ -8,7 +8,6 @@ use Rattle.scan.proofs.Tags.{tag-greater}
 
 -- answers
 
-
 -- src/tag.rt:88:12
 shared-slice-read-if2 : tie.Need-shared-slice-read-if2
 shared-slice-read-if2 c = search needs

@@ -10,7 +10,6 @@ use Rattle.scan.proofs.Words.{Spelling, spelling-none, spelling-all, sp
 
 -- answers
 
-
 abbrev Inv-loop : tie.InvT-loop
 Inv-loop s at w k₀ k = Spelling s at w k
 

@@ -1,0 +1,5 @@
+-- The laws of `line`.
+-- decimal digits, one by one
+pub mod Digits
+-- an answer's line, piece by piece
+pub mod Lines

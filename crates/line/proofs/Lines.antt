@@ -1,0 +1,69 @@
+-- An answer's line, written from the start of a buffer on, piece by piece. Assumes nothing.
+use mathlib.Core.Path.{_≡_, refl, sym, _∙_, ap}
+use mathlib.Core.List.{List, [], _∷_, _++_, append-assoc}
+use Prim.Native.Nat.{ℕ, zero, suc, _+_, _≤_}
+use native.Mathlib.Nat.{zero-add}
+use native.Mathlib.Omega.{arith}
+use lib.ListN.{length, length-append}
+use lib.Seq.{slice}
+use Rattle.text.specs.Bytes.{ascii}
+use Rattle.text.specs.Pasting.{pasted}
+use Rattle.text.proofs.Pasting.{pasted-then, slice-pasted}
+use Rattle.answer.specs.declared.Answer.{Answer}
+use Rattle.line.specs.Line.{decimal, numbers, refusal}
+
+module _ (d u : List ℕ) (n : ℕ) (e : n ≡ length u) where
+  pub list-behind : (v : List ℕ) → n + length v ≤ length d → pasted (pasted d 0 u) n v ≡ pasted d 0 (u ++ v)
+  list-behind v h = ap (λ (k : ℕ). pasted (pasted d 0 u) k v) (e ∙ sym (zero-add (length u))) ∙ pasted-then d 0 u v (omega arith)
+
+-- the three numbers of an answer
+module _ (a : Answer) where
+  abbrev c : List ℕ
+  c = decimal (a .code)
+
+  abbrev r : List ℕ
+  r = decimal (a .row)
+
+  abbrev p : List ℕ
+  p = decimal (a .place)
+
+  pub length-numbers : length (numbers a) ≡ length c + 1 + length r + 1 + length p
+  unfolding numbers
+  length-numbers = simp length-append (omega arith)
+
+  pub written : (d : List ℕ) (m n : ℕ) → m ≡ length c → n ≡ m + 1 + length r → n + 1 + length p ≤ length d →
+      pasted (pasted (pasted (pasted (pasted d 0 c) m (32 ∷ [])) (m + 1) r) n (32 ∷ [])) (n + 1) p ≡ pasted d 0 (numbers a)
+  unfolding numbers
+  written d m n e f h =
+      let cr = c ++ (32 ∷ []) in
+      let crr = cr ++ r in
+      let crrs = crr ++ (32 ∷ []) in
+      let lc : m + 1 ≡ length cr = omega (arith, length-append c (32 ∷ [])) in
+      let lr : n ≡ length crr = omega (arith, length-append cr r) in
+      let ls : n + 1 ≡ length crrs = omega (arith, length-append crr (32 ∷ [])) in
+      ap (λ (l : List ℕ). pasted (pasted (pasted l (m + 1) r) n (32 ∷ [])) (n + 1) p) (list-behind d c m e (32 ∷ []) (omega arith))
+      ∙ ap (λ (l : List ℕ). pasted (pasted l n (32 ∷ [])) (n + 1) p) (list-behind d cr (m + 1) lc r (omega arith))
+      ∙ ap (λ (l : List ℕ). pasted l (n + 1) p) (list-behind d crr n lr (32 ∷ []) (omega arith))
+      ∙ list-behind d crrs (n + 1) ls p h
+      ∙ ap (pasted d 0) (simp append-assoc)
+
+-- what was written from the start on, taken out again
+pub taken-out : (d vs : List ℕ) (n : ℕ) → n ≡ length vs → n ≤ length d → slice 0 n (pasted d 0 vs) ≡ vs
+taken-out d vs n e h =
+    ap (λ (k : ℕ). slice 0 k (pasted d 0 vs)) (e ∙ sym (zero-add (length vs))) ∙ slice-pasted d 0 vs (omega arith)
+
+-- the line of a refusal: the word, the numbers, the line end
+module _ (a : Answer) where
+  pub length-refusal : length (refusal a) ≡ 8 + length (numbers a) + 1
+  unfolding refusal
+  length-refusal = simp length-append (omega arith)
+
+  pub refused : (d : List ℕ) (n : ℕ) → n ≡ 8 + length (numbers a) → n + 1 ≤ length d →
+      pasted (pasted (pasted d 0 (ascii "refused ")) 8 (numbers a)) n (10 ∷ []) ≡ pasted d 0 (refusal a)
+  unfolding refusal
+  refused d n e h =
+      let w = ascii "refused " in
+      let l : n ≡ length (w ++ numbers a) = omega (arith, length-append w (numbers a)) in
+      ap (λ (k : List ℕ). pasted k n (10 ∷ [])) (list-behind d w 8 refl (numbers a) (omega arith))
+      ∙ list-behind d (w ++ numbers a) n l (10 ∷ []) (omega arith)
+      ∙ ap (pasted d 0) (append-assoc w (numbers a) (10 ∷ []))

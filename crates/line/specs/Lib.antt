@@ -1,0 +1,3 @@
+-- The definitions of `line`.
+-- decimal digits, the line of an answer
+pub mod Line

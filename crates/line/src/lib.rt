@@ -1,0 +1,3 @@
+// What the programs write: numbers in decimal digits, the line of an answer.
+pub mod decimal; // decimal.rt: a number's digits
+pub mod answer_line; // answer_line.rt: an answer in numbers
