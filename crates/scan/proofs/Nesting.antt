@@ -79,19 +79,16 @@ module _ (s : List ℕ) (i n : ℕ) (f t : List ℕ) where
     start-other e = λ a o. fate-dead s i a h (o .steps h ∙ (rw e refl))
 
     module _ (e : isNameStart (getD s i 0) ≡ true) where
-      pub start-deep : n ≡ 16 → GoesStart s i n f t f t (Halted i)
+      pub start-deep : 15 < n → GoesStart s i n f t f t (Halted i)
       start-deep z =
           λ a o. fate-dead s i a h (o .steps h ∙ (rw e refl) ∙ ap (λ (k : ℕ). begun k (names s f t n) (getD s i 0)) none)
         where
           none : 16 - n ≡ 0
           none = omega arith
 
-      module _ (held : Held 16 s f t n) (z : n ≢ 16) (c : ℕ) (is : c ≡ i + 1 + span (above 1) (drop (i + 1) s)) where
-        few : n < 16
-        few = let l = held .few in omega arith
-
+      module _ (held : Held 16 s f t n) (few : n < 16) (c : ℕ) (is : c ≡ i + 1 + span (above 1) (drop (i + 1) s)) where
         left : 16 - n ≡ suc (16 - (n + 1))
-        left = let l = few in omega arith
+        left = omega arith
 
         pub name-within : c ≤ length s
         name-within = run-within (above 1) s (i + 1) c is (omega arith)

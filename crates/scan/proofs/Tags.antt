@@ -177,7 +177,7 @@ module _ (s : List ℕ) (o : ℕ) (f t : List ℕ) (n i : ℕ) (a : Attributing 
         gapped′ = gapped (omega (arith, is))
 
         -- a fifth attribute
-        pub tag-full : n ≡ 4 → GoesTag s o (Halted b)
+        pub tag-full : 3 < n → GoesTag s o (Halted b)
         tag-full z =
             λ d m ns. a .so d m ns ∙ gapped′ (4 - n) d m ns ∙ ap (λ (k : ℕ). fate s b (gap k ss d m ns)) none
             ∙ fate-dead s b (gap zero ss d m ns) h (gap-full ss d m ns (getD s b 0) e)
@@ -185,10 +185,7 @@ module _ (s : List ℕ) (o : ℕ) (f t : List ℕ) (n i : ℕ) (a : Attributing 
             none : 4 - n ≡ 0
             none = omega arith
 
-        module _ (z : n ≢ 4) (c : ℕ) (is′ : c ≡ b + 1 + span (above 1) (drop (b + 1) s)) where
-          few : n < 4
-          few = let l = a .held .few in omega arith
-
+        module _ (few : n < 4) (c : ℕ) (is′ : c ≡ b + 1 + span (above 1) (drop (b + 1) s)) where
           named : (d : ℕ) (m : List ℕ) (ns : List (List ℕ)) → fate s o (tail 4 [] d m ns) ≡ fate s c (attr (slice b c s) (4 - (n + 1)) ss d m ns)
           named d m ns =
               a .so d m ns ∙ gapped′ (4 - n) d m ns ∙ ap (λ (k : ℕ). fate s b (gap k ss d m ns)) one-less
@@ -197,7 +194,7 @@ module _ (s : List ℕ) (o : ℕ) (f t : List ℕ) (n i : ℕ) (a : Attributing 
               ∙ ap₂ (λ (j : ℕ) (l : List ℕ). fate s j (attr l (4 - (n + 1)) ss d m ns)) (sym is′) (slice-run (above 1) s b c h is′)
             where
               one-less : 4 - n ≡ suc (4 - (n + 1))
-              one-less = let l = few in omega arith
+              one-less = omega arith
 
           within : c ≤ length s
           within = run-within (above 1) s (b + 1) c is′ (omega arith)

@@ -42,7 +42,7 @@ fn brackets(s: &[u8], at: usize) -> Went
 }
 
 // Over text and the `<` that ends it.
-pub fn text_end(s: &[u8], at: usize, classes: &[u8; 256]) -> Went
+pub(crate) fn text_end(s: &[u8], at: usize, classes: &[u8; 256]) -> Went
     requires { ⌜ (at ≤ length (now s)) × Classed (now classes) ⌝ }
     ensures { λ r. ⌜ GoesText (now (s .entry)) at r ⌝ }
 {

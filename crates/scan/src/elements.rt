@@ -40,7 +40,7 @@ fn start_tag(
     if !is_name_start(s[at]) {
         return Step::Stopped(at);
     }
-    if n == 16 {
+    if 15 < n {
         return Step::Stopped(at);
     }
     let e = run_end(s, at + 1, classes, 1);
@@ -132,7 +132,7 @@ fn advance(
 }
 
 // Over the one element, behind its `<`, with all that stands in it.
-pub fn elements(s: &[u8], at: usize, classes: &[u8; 256]) -> Went
+pub(crate) fn elements(s: &[u8], at: usize, classes: &[u8; 256]) -> Went
     requires { ⌜ (at ≤ length (now s)) × Classed (now classes) ⌝ }
     ensures { λ r. ⌜ Goes (now (s .entry)) at root done r ⌝ }
 {

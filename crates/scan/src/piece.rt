@@ -141,7 +141,7 @@ fn entity(s: &[u8], at: usize) -> Went
 }
 
 // Over the piece at the place.
-pub fn piece(s: &[u8], at: usize) -> Went
+pub(crate) fn piece(s: &[u8], at: usize) -> Went
     requires { ⌜ at < length (now s) ⌝ }
     ensures { λ r. ⌜ GoesPiece (now (s .entry)) at r ⌝ }
 {

@@ -24,7 +24,7 @@ fn root(s: &[u8], at: usize) -> Went
 }
 
 // Over the declaration, if there is one, blanks, and the `<` of the one element.
-pub fn prolog(s: &[u8]) -> Went
+pub(crate) fn prolog(s: &[u8]) -> Went
     ensures { λ r. ⌜ Goes (now (s .entry)) 0 auto.start auto.root r ⌝ }
 {
     if !begins(s, 0, b"<?") {

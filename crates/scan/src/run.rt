@@ -273,7 +273,7 @@ fn wide(x: u8) -> usize
 }
 
 // Where a run of bytes whose class is above a level ends: 0 for text, 1 for a name.
-pub fn run_end(s: &[u8], at: usize, classes: &[u8; 256], level: u8) -> usize
+pub(crate) fn run_end(s: &[u8], at: usize, classes: &[u8; 256], level: u8) -> usize
     requires { ⌜ Classed (now classes) ⌝ }
     ensures { λ r. ⌜ r ≡ at + span (above level) (drop at (now (s .entry))) ⌝ }
 {

@@ -62,7 +62,7 @@ fn attributes(s: &[u8], at: usize, classes: &[u8; 256]) -> Tag
         if b == i {
             return Tag::Stopped(b);
         }
-        if n == 4 {
+        if 3 < n {
             return Tag::Stopped(b);
         }
         let e = run_end(s, b + 1, classes, 1);
@@ -80,7 +80,7 @@ fn attributes(s: &[u8], at: usize, classes: &[u8; 256]) -> Tag
 }
 
 // Over what follows the name: mostly it is `>`.
-pub fn tag_rest(s: &[u8], at: usize, classes: &[u8; 256]) -> Tag
+pub(crate) fn tag_rest(s: &[u8], at: usize, classes: &[u8; 256]) -> Tag
     requires { ⌜ (at ≤ length (now s)) × Classed (now classes) ⌝ }
     ensures { λ r. ⌜ GoesTag (now (s .entry)) at r ⌝ }
 {

@@ -5,7 +5,7 @@ ghost use lib.ListN.{length};
 ghost use Rattle.scan.specs.Goes.{Spelled};
 
 // Over the bytes of w, which are to stand at the place; it stops at the first that differs.
-pub fn word(s: &[u8], at: usize, w: &[u8]) -> Went
+pub(crate) fn word(s: &[u8], at: usize, w: &[u8]) -> Went
     requires { ⌜ at ≤ length (now s) ⌝ }
     ensures { λ r. ⌜ Spelled (now (s .entry)) at (now (w .entry)) r ⌝ }
 {

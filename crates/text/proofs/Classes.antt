@@ -1,5 +1,5 @@
 -- A class of numbers, made of single numbers and ranges: its test, and what the test says of a number. Assumes nothing.
-use mathlib.Core.Path.{_≡_, refl, sym, _∙_, ap}
+use mathlib.Core.Path.{_≡_, refl, sym, _∙_}
 use mathlib.Core.Bool.{Bool, true, false, _&&_, _||_, not, true≢false, or-false}
 use mathlib.Core.List.{List, [], _∷_}
 use mathlib.Core.Logic.{_⊎_, inl, inr, _≢_}
@@ -161,7 +161,7 @@ module _ {f : ℕ → Bool} {p : Class} (d : Named f p) where
       let m : (test p x || elem ks x || elem ls x) ≡ true = passes (λ (y : ℕ). test p y || elem ks y || elem ls y) a n e x h k in
       let i : elem ks x ≡ false = not-so (elem ks x) (λ z. u (elem-key ks x z)) in
       let j : elem ls x ≡ false = not-so (elem ls x) (λ z. v (elem-key ls x z)) in
-      sym (d .is x ∙ (rw (i, j, or-false, or-false) at m))
+      sym (d .is x ∙ (rw (i, j, or-false (test p x || false), or-false (test p x)) at m))
 
   pub no : {x : ℕ} → Outside p x → false ≡ f x
   no {x} h = sym (d .is x ∙ outside p x h)

@@ -3,16 +3,15 @@ use mathlib.Core.Path.{_≡_, refl, sym, _∙_, ap, ap₂, subst}
 use mathlib.Core.Bool.{Bool, true, false, cond}
 use mathlib.Core.List.{List, [], _∷_, _++_, append-assoc}
 use mathlib.Core.Logic.{_⊎_, inl, inr, ⊎-elim}
-use Prim.Native.Nat.{ℕ, zero, suc, _+_, _-_, _≤_, _<_, zero-le, suc-le-suc}
+use Prim.Native.Nat.{ℕ, zero, suc, _+_, _-_, _≤_, _<_, zero-le}
 use native.Mathlib.Omega.{arith}
 use native.Mathlib.Nat.{zero-add, add-zero, add-assoc, suc-add}
-use lib.Dec.{ltb}
-use lib.ListN.{length, take, drop, take-append-drop, length-append, length-drop, drop-of-length-le}
+use lib.ListN.{length, take, drop, take-append-drop, length-append, length-drop}
 use lib.Seq.{length-take-le, take-length, drop-append-seam, take-append-seam, take-add, drop-drop}
 use borrow.Author.Tests.{ltb-true}
 use Rattle.text.specs.Lists.{Each, span}
 use Rattle.text.specs.Utf8.{Scalar, encode, encodeAll, Utf8, LongestUtf8}
-use Rattle.text.specs.Chars.{charOf, Begun, Decoded}
+use Rattle.text.specs.Chars.{Begun, Decoded}
 use Rattle.text.specs.Decoding.{isAscii, decoded}
 use Rattle.text.specs.declared.utf8.Char.{Char}
 use Rattle.text.proofs.Chars as chars

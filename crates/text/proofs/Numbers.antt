@@ -1,12 +1,12 @@
 -- Numbers as big-endian bytes and back, over the width. Assumes nothing.
-use mathlib.Core.Path.{_≡_, refl, sym, _∙_, ap, ap₂, subst}
-use mathlib.Core.List.{List, [], _∷_, _++_, append-nil}
+use mathlib.Core.Path.{_≡_, refl, sym, _∙_, ap, subst}
+use mathlib.Core.List.{List, [], _∷_, _++_}
 use Prim.Native.Nat.{ℕ, zero, suc, _+_, _*_, _-_, _/_, _%_, _^_, _≤_, _<_, zero-le, min}
-use native.Mathlib.Nat.{pow-suc, pow-zero, add-zero, zero-add, pow-le-pow-right}
+use native.Mathlib.Nat.{pow-suc, pow-le-pow-right}
 use native.Mathlib.Numerals.{add-one}
 use native.Mathlib.Omega.{arith}
 use lib.ListN.{length, getD, take, drop, set, length-append, length-take, length-drop, length-set, drop-of-length-le}
-use lib.Seq.{slice, take-suc, take-all, length-take-le, drop-append-seam, drop-cons, getD-take, getD-drop, take-at, drop-at}
+use lib.Seq.{slice, take-suc, take-all, length-take-le, drop-cons, getD-take, getD-drop, take-at, drop-at}
 use Rattle.text.specs.Lists.{Each}
 use Rattle.text.specs.Numbers.{bigEndian, numberFrom, number}
 use Rattle.text.specs.Pasting.{pasted}

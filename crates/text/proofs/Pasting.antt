@@ -1,12 +1,12 @@
 -- A list written into another: what stands where afterwards, and lists written one behind the other. Assumes nothing.
-use mathlib.Core.Path.{_≡_, refl, sym, _∙_, ap, ap₂, subst}
-use mathlib.Core.List.{List, [], _∷_, _++_, append-assoc, append-nil}
-use Prim.Native.Nat.{ℕ, zero, suc, _+_, _-_, _≤_, _<_, zero-le}
-use native.Mathlib.Nat.{add-zero, add-assoc, zero-add}
+use mathlib.Core.Path.{_≡_, refl, sym, _∙_, ap, ap₂}
+use mathlib.Core.List.{List, [], _∷_, _++_, append-assoc}
+use Prim.Native.Nat.{ℕ, _+_, _-_, _≤_, _<_, zero-le}
+use native.Mathlib.Nat.{add-zero, add-assoc}
 use native.Mathlib.Numerals.{add-one}
 use native.Mathlib.Omega.{arith}
-use native.Mathlib.Decide.{decLe, decLt}
-use lib.ListN.{length, getD, take, drop, set, length-append, length-take, length-drop, length-set, take-append-drop, drop-of-length-le, List·getD-append}
+use native.Mathlib.Decide.{decLe}
+use lib.ListN.{length, getD, take, drop, set, length-append, length-drop, length-set, take-append-drop, drop-of-length-le, List·getD-append}
 use lib.Seq.{slice, length-take-le, take-at, drop-at, take-take, drop-drop, set-split, getD-take, getD-drop, drop-cons}
 use borrow.Author.Tests.{le-leb, lt-leb}
 use Rattle.text.specs.Pasting.{pasted}

@@ -4,7 +4,7 @@ use mathlib.Core.List.{List, _++_}
 use Prim.Native.Nat.{ℕ}
 use lib.ListN.{length}
 use Rattle.text.specs.Utf8.{Scalar, encode}
-use Rattle.text.specs.Pieces.{Piece, GoodPiece, spell, resolved}
+use Rattle.text.specs.Pieces.{GoodPiece, spell, resolved}
 use Rattle.text.specs.declared.utf8.Char.{Char}
 
 abbrev pub charOf : ℕ → ℕ → Char

@@ -1,11 +1,6 @@
 use borrow.Author.Needs.{needs}
 use Rattle.scan.proofs.scan.Statement.{statement}
 use Rattle.scan.proofs.scan.Tie as tie
-use Rattle.scan.proofs.scan.Reads as reads
-use Rattle.scan.proofs.scan.Lts as lts
-use Rattle.scan.proofs.elements.elements.Reads as elements-reads
-use Rattle.scan.proofs.prolog.prolog.Reads as prolog-reads
-use Rattle.text.proofs.span.blanks_end.Reads as blanks-end-reads
 use mathlib.Core.Path.{refl}
 use Rattle.text.specs.Bytes.{isBlank, isNamePart}
 use Rattle.text.specs.Plain.{isPlain}
@@ -13,54 +8,41 @@ use Rattle.scan.specs.Classes.{classOf}
 use Rattle.scan.proofs.Classes.{classed}
 use Rattle.scan.proofs.Answers.{prolog-stops, prolog-within, elements-stop, more-stops, all-whole}
 
--- answers
-
--- src/lib.rt:37:11
 prolog-requires : tie.Need-prolog-requires
 prolog-requires c κs = search needs
 
--- src/lib.rt:38:23
 enum-known-n : tie.Need-enum-known-n
 enum-known-n c = search needs
 
--- src/lib.rt:39:18
 enum-known-root : tie.Need-enum-known-root
 enum-known-root c = search needs
 
--- src/lib.rt:39:33
 elements-requires : tie.Need-elements-requires
 unfolding classOf isNamePart isPlain isBlank
 elements-requires c κs =
     (prolog-within _ (c .before .before .before .before .prolog .result) (c .before .before .before .before .prolog .ensures) _ (c .before .before .root .given .1), classed _ refl refl)
 
--- src/lib.rt:40:27
 enum-known-n-2 : tie.Need-enum-known-n-2
 enum-known-n-2 c = search needs
 
--- src/lib.rt:41:22
 enum-known-behind : tie.Need-enum-known-behind
 enum-known-behind c = search needs
 
--- src/lib.rt:42:21
 blanks-end-requires : tie.Need-blanks-end-requires
 blanks-end-requires c κs = search needs
 
--- src/lib.rt:44:21
 returns : tie.Need-returns
 returns c =
     more-stops _ (c .before .before .before .before .before .before .before .before .before .before .prolog .result) (c .before .before .before .before .before .before .before .before .before .before .prolog .ensures) _ (c .before .before .before .before .before .before .before .before .root .given .1) (c .before .before .before .before .before .elements .result) (c .before .before .before .before .before .elements .ensures) _ (c .before .before .before .behind .given .1) _ (c .before .blanks-end .ensures) (c .if1 .taken)
 
--- src/lib.rt:33:1
 returns-2 : tie.Need-returns-2
 returns-2 c =
     prolog-stops _ (c .before .before .before .prolog .result) (c .before .before .before .prolog .ensures) _ (c .before .n .given .1)
 
--- src/lib.rt:33:1
 returns-3 : tie.Need-returns-3
 returns-3 c =
     elements-stop _ (c .before .before .before .before .before .before .before .before .prolog .result) (c .before .before .before .before .before .before .before .before .prolog .ensures) _ (c .before .before .before .before .before .before .root .given .1) (c .before .before .before .elements .result) (c .before .before .before .elements .ensures) _ (c .before .n2 .given .1)
 
--- src/lib.rt:33:1
 returns-4 : tie.Need-returns-4
 returns-4 c =
     all-whole _ (c .before .before .before .before .before .before .before .before .before .before .prolog .result) (c .before .before .before .before .before .before .before .before .before .before .prolog .ensures) _ (c .before .before .before .before .before .before .before .before .root .given .1) (c .before .before .before .before .before .elements .result) (c .before .before .before .before .before .elements .ensures) _ (c .before .before .before .behind .given .1) _ (c .before .blanks-end .ensures) (c .if1 .left)

@@ -1,83 +1,62 @@
 use borrow.Author.Needs.{needs}
 use Rattle.scan.proofs.attribute.equals.Statement.{statement}
 use Rattle.scan.proofs.attribute.equals.Tie as tie
-use Rattle.scan.proofs.attribute.equals.Reads as reads
-use Rattle.scan.proofs.attribute.equals.Lts as lts
-use Rattle.scan.proofs.attribute.value.Reads as value-reads
-use Rattle.text.proofs.span.blanks_end.Reads as blanks-end-reads
 use mathlib.Core.Path.{sym}
 use native.Mathlib.Omega.{arith}
 use Rattle.xml.specs.House.{single, double}
 use Rattle.scan.proofs.Attributes.{equals-cut, equals-other, quote-cut, quote-other, quoted}
 
--- answers
-
--- src/attribute.rt:37:9
 blanks-end-requires : tie.Need-blanks-end-requires
 blanks-end-requires c κs = search needs
 
--- src/attribute.rt:39:9
 returns : tie.Need-returns
 returns c =
     equals-cut _ _ _ (c .before .blanks-end .ensures) (c .before .before .before .pre) (c .if1 .taken)
 
--- src/attribute.rt:41:8
 shared-slice-read-if2 : tie.Need-shared-slice-read-if2
 shared-slice-read-if2 c = search needs
 
--- src/attribute.rt:42:9
 returns-2 : tie.Need-returns-2
 returns-2 c =
     equals-other _ _ _ (c .before .before .before .blanks-end .ensures) (c .before .before .before .before .before .pre) (c .before .before .if1 .left) (c .if2 .taken)
 
--- src/attribute.rt:44:30
 add-blanks-end : tie.Need-add-blanks-end
 add-blanks-end c = search needs
 
--- src/attribute.rt:44:9
 blanks-end-requires-2 : tie.Need-blanks-end-requires-2
 blanks-end-requires-2 c κs = search needs
 
--- src/attribute.rt:46:9
 returns-3 : tie.Need-returns-3
 returns-3 c =
     quote-cut _ _ _ (c .before .before .before .before .before .blanks-end .ensures) (c .before .before .before .before .before .before .before .pre) (c .before .before .before .before .if1 .left) (c .before .before .if2 .left) _ (c .before .blanks-end2 .ensures) (c .if3 .taken)
 
--- src/attribute.rt:48:17
 shared-slice-read-quote : tie.Need-shared-slice-read-quote
 shared-slice-read-quote c = search needs
 
--- src/attribute.rt:50:25
 add-value : tie.Need-add-value
 add-value c = search needs
 
--- src/attribute.rt:50:9
 value-requires : tie.Need-value-requires
 value-requires c κs =
     (omega arith, record { quote = single; is = sym (c .if4 .taken) })
 
--- src/attribute.rt:50:9
 returns-4 : tie.Need-returns-4
 returns-4 c =
     quoted _ _ _ (c .before .before .before .before .before .before .before .before .blanks-end .ensures) (c .before .before .before .before .before .before .before .before .before .before .pre) (c .before .before .before .before .before .before .before .if1 .left) (c .before .before .before .before .before .if2 .left) _ (c .before .before .before .before .blanks-end2 .ensures) (c .before .before .before .if3 .left) single (c .value .result)
     (c .before .if4 .taken) (c .value .ensures)
 
--- src/attribute.rt:53:25
 add-value-2 : tie.Need-add-value-2
 add-value-2 c = search needs
 
--- src/attribute.rt:53:9
 value-requires-2 : tie.Need-value-requires-2
 value-requires-2 c κs =
     (omega arith, record { quote = double; is = sym (c .if5 .taken) })
 
--- src/attribute.rt:53:9
 returns-5 : tie.Need-returns-5
 returns-5 c =
     quoted _ _ _ (c .before .before .before .before .before .before .before .before .before .blanks-end .ensures) (c .before .before .before .before .before .before .before .before .before .before .before .pre) (c .before .before .before .before .before .before .before .before .if1 .left) (c .before .before .before .before .before .before .if2 .left) _ (c .before .before .before .before .before .blanks-end2 .ensures) (c .before .before .before .before .if3 .left) double (c .value2 .result)
     (c .before .if5 .taken) (c .value2 .ensures)
 
--- src/attribute.rt:33:1
 returns-6 : tie.Need-returns-6
 returns-6 c =
     quote-other _ _ _ (c .before .before .before .before .before .before .before .before .blanks-end .ensures) (c .before .before .before .before .before .before .before .before .before .before .pre) (c .before .before .before .before .before .before .before .if1 .left) (c .before .before .before .before .before .if2 .left) _ (c .before .before .before .before .blanks-end2 .ensures) (c .before .before .before .if3 .left) (c .before .if4 .left) (c .if5 .left)

@@ -1,15 +1,10 @@
 use Rattle.scan.proofs.attribute.seen.Statement.{statement}
 use Rattle.scan.proofs.attribute.seen.Tie as tie
-use Rattle.scan.proofs.attribute.seen.Reads as reads
-use Rattle.scan.proofs.attribute.seen.Lts as lts
-use Rattle.text.proofs.part.same_part.Reads as same-part-reads
 use native.Mathlib.Omega.{arith}
 use lib.Seq.{slice}
 use mathlib.Core.Path.{sym, _∙_}
 use borrow.Author.Needs.{needs}
 use Rattle.scan.proofs.Names.{Seeing, seeing-all, seen-none, seen-yes, seeing-less}
-
--- answers
 
 abbrev Inv-loop : tie.InvT-loop
 Inv-loop s from to n a e k₀ k = Seeing (slice a e s) s from to n k
@@ -17,57 +12,46 @@ Inv-loop s from to n a e k₀ k = Seeing (slice a e s) s from to n k
 abbrev μ-loop : tie.MeasureT-loop
 μ-loop s from to n a e k₀ k = k
 
--- src/attribute.rt:64:5
 loop-holds : tie.Need-loop-holds Inv-loop μ-loop
 loop-holds c =
     seeing-all _ _ _ _ _
 
--- src/attribute.rt:65:9
 sub-k : tie.Need-sub-k Inv-loop μ-loop
 sub-k c =
     search needs
 
--- src/attribute.rt:66:17
 mul-f : tie.Need-mul-f Inv-loop μ-loop
 mul-f c =
     omega arith
 
--- src/attribute.rt:66:17
 element-copy-out-f : tie.Need-element-copy-out-f Inv-loop μ-loop
 element-copy-out-f c =
     omega arith
 
--- src/attribute.rt:67:17
 mul-t : tie.Need-mul-t Inv-loop μ-loop
 mul-t c =
     omega arith
 
--- src/attribute.rt:67:17
 element-copy-out-t : tie.Need-element-copy-out-t Inv-loop μ-loop
 element-copy-out-t c =
     omega arith
 
--- src/attribute.rt:68:12
 same-part-requires : tie.Need-same-part-requires Inv-loop μ-loop
 same-part-requires c κs =
     search needs
 
--- src/attribute.rt:69:13
 returns : tie.Need-returns Inv-loop μ-loop
 returns c =
     seen-yes _ _ _ _ _ (c .before .before .before .before .before .loop .k) (c .before .before .before .before .before .loop .inv) (c .before .before .before .before .loop-test .taken) (sym (c .before .same-part .ensures) ∙ c .if1 .taken)
 
--- src/attribute.rt:64:5
 loop-less : tie.Need-loop-less Inv-loop μ-loop
 loop-less c =
     search needs
 
--- src/attribute.rt:64:5
 loop-again : tie.Need-loop-again Inv-loop μ-loop
 loop-again c =
     seeing-less _ _ _ _ _ (c .before .before .before .before .before .loop .k) (c .before .before .before .before .before .loop .inv) (c .before .before .before .before .loop-test .taken) (sym (c .before .same-part .ensures) ∙ c .if1 .left)
 
--- src/attribute.rt:59:1
 returns-2 : tie.Need-returns-2 Inv-loop μ-loop
 returns-2 c =
     seen-none _ _ _ _ _ (c .before .loop .k) (c .before .loop .inv) (c .loop-test .left)

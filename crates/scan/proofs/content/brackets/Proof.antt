@@ -1,50 +1,38 @@
 use borrow.Author.Needs.{needs}
 use Rattle.scan.proofs.content.brackets.Statement.{statement}
 use Rattle.scan.proofs.content.brackets.Tie as tie
-use Rattle.scan.proofs.content.brackets.Reads as reads
-use Rattle.scan.proofs.content.brackets.Lts as lts
-use Rattle.scan.proofs.content.brackets_end.Reads as brackets-end-reads
 use native.Mathlib.Omega.{arith}
 use borrow.Author.Tests.{eq-eqb}
 use Rattle.text.proofs.Spans.{span-go}
 use Rattle.scan.specs.Goes.{isBracket}
 use Rattle.scan.proofs.Text.{row-cut, row-greater, row-other, row-short}
 
--- answers
-
--- src/content.rt:32:9
 brackets-end-requires : tie.Need-brackets-end-requires
 brackets-end-requires c κs = search needs
 
--- src/content.rt:34:9
 returns : tie.Need-returns
 returns c =
     row-cut _ _ _ (c .before .brackets-end .ensures) (omega arith) (c .if1 .taken)
 
--- src/content.rt:36:12
 sub-if2 : tie.Need-sub-if2
 sub-if2 c =
     omega (arith, c .before .brackets-end .ensures)
 
--- src/content.rt:37:12
 shared-slice-read-if3 : tie.Need-shared-slice-read-if3
 shared-slice-read-if3 c = search needs
 
--- src/content.rt:38:13
 returns-2 : tie.Need-returns-2
 returns-2 c =
-    row-greater _ _ _ (c .before .before .before .before .brackets-end .ensures) (omega arith) (c .before .before .before .if1 .left) (c .before .before .if2 .taken) (c .if3 .taken)
+    row-greater _ _ _ (c .before .before .before .before .brackets-end .ensures) (omega arith) (c .before .before .before .if1 .left) (omega arith) (c .if3 .taken)
 
--- src/content.rt:28:1
 returns-3 : tie.Need-returns-3
 returns-3 c =
     row-other _ _ _ (c .before .before .before .before .brackets-end .ensures) (omega arith) (omega arith) (c .before .before .before .if1 .left) (c .if3 .left)
 
--- src/content.rt:28:1
 returns-4 : tie.Need-returns-4
 returns-4 c =
     row-short _ _ _ (c .before .before .brackets-end .ensures) (omega arith)
-    (omega (arith, span-go isBracket (c .before .before .before .before .args .s .now) (c .before .before .before .before .args .at) (c .before .before .before .before .pre .0) (eq-eqb _ 93 (c .before .before .before .before .pre .1)))) (c .before .if1 .left) (c .if2 .left)
+    (omega (arith, span-go isBracket (c .before .before .before .before .args .s .now) (c .before .before .before .before .args .at) (c .before .before .before .before .pre .0) (eq-eqb _ 93 (c .before .before .before .before .pre .1)))) (c .before .if1 .left) (omega arith)
 
 pub brackets-spec : {M : Type 1} → statement M
 brackets-spec =

@@ -1,16 +1,10 @@
 use Rattle.scan.proofs.content.text_end.Statement.{statement}
 use Rattle.scan.proofs.content.text_end.Tie as tie
-use Rattle.scan.proofs.content.text_end.Reads as reads
-use Rattle.scan.proofs.content.text_end.Lts as lts
-use Rattle.scan.proofs.content.other.Reads as other-reads
-use Rattle.scan.proofs.run.run_end.Reads as run-end-reads
 use Prim.Native.Nat.{_-_}
 use native.Mathlib.Omega.{arith}
 use lib.ListN.{length}
 use borrow.Author.Needs.{needs}
 use Rattle.scan.proofs.Text.{Texting, texting-none, texting-run, text-cut, text-less, text-stop, other-on, texting-on}
-
--- answers
 
 abbrev Inv-loop : tie.InvT-loop
 Inv-loop s at classes i₀ i = Texting s at i
@@ -18,63 +12,51 @@ Inv-loop s at classes i₀ i = Texting s at i
 abbrev μ-loop : tie.MeasureT-loop
 μ-loop s at classes i₀ i = length s - i
 
--- src/content.rt:50:5
 loop-holds : tie.Need-loop-holds Inv-loop μ-loop
 loop-holds c =
     texting-none _ _ (c .before .pre .0)
 
--- src/content.rt:51:13
 run-end-requires : tie.Need-run-end-requires Inv-loop μ-loop
 run-end-requires c κs =
     c .before .before .pre .1
 
--- src/content.rt:53:13
 returns : tie.Need-returns Inv-loop μ-loop
 returns c =
     text-cut _ _ _ (texting-run _ _ _ (c .before .before .loop .inv) _ (c .before .run-end .ensures)) (c .if1 .taken)
 
--- src/content.rt:55:17
 shared-slice-read-x : tie.Need-shared-slice-read-x Inv-loop μ-loop
 shared-slice-read-x c =
     search needs
 
--- src/content.rt:57:29
 add-t14 : tie.Need-add-t14 Inv-loop μ-loop
 add-t14 c =
     search needs
 
--- src/content.rt:57:13
 returns-2 : tie.Need-returns-2 Inv-loop μ-loop
 returns-2 c =
     text-less _ _ _ (texting-run _ _ _ (c .before .before .before .before .loop .inv) _ (c .before .before .before .run-end .ensures)) (c .before .before .if1 .left) (c .if2 .taken)
 
--- src/content.rt:59:13
 other-requires : tie.Need-other-requires Inv-loop μ-loop
 other-requires c κs =
     (c .before .before .if1 .left, c .if2 .left)
 
--- src/content.rt:61:27
 enum-known-over : tie.Need-enum-known-over Inv-loop μ-loop
 enum-known-over c =
     search needs
 
--- src/content.rt:61:33
 returns-3 : tie.Need-returns-3 Inv-loop μ-loop
 returns-3 c =
     text-stop _ _ _ (texting-run _ _ _ (c .before .before .before .before .before .before .before .before .loop .inv) _ (c .before .before .before .before .before .before .before .run-end .ensures)) (c .before .before .before .other .result) (c .before .before .before .other .ensures) _ (c .before .over .given .1)
 
--- src/content.rt:62:22
 enum-known-over-2 : tie.Need-enum-known-over-2 Inv-loop μ-loop
 enum-known-over-2 c =
     search needs
 
--- src/content.rt:50:5
 loop-less : tie.Need-loop-less Inv-loop μ-loop
 loop-less c =
     let w = other-on _ _ _ (texting-run _ _ _ (c .before .before .before .before .before .before .before .before .loop .inv) _ (c .before .before .before .before .before .before .before .run-end .ensures)) (c .before .before .before .other .result) (c .before .before .before .other .ensures) _ (c .before .over2 .given .1) in
     omega (arith, w .0, w .1, c .before .before .before .before .before .before .before .run-end .ensures)
 
--- src/content.rt:50:5
 loop-again : tie.Need-loop-again Inv-loop μ-loop
 loop-again c =
     texting-on _ _ _ (texting-run _ _ _ (c .before .before .before .before .before .before .before .before .loop .inv) _ (c .before .before .before .before .before .before .before .run-end .ensures)) (c .before .before .before .other .result) (c .before .before .before .other .ensures) _ (c .before .over2 .given .1)

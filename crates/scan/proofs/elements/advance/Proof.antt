@@ -1,37 +1,25 @@
 use borrow.Author.Needs.{needs}
 use Rattle.scan.proofs.elements.advance.Statement.{statement}
 use Rattle.scan.proofs.elements.advance.Tie as tie
-use Rattle.scan.proofs.elements.advance.Reads as reads
-use Rattle.scan.proofs.elements.advance.Lts as lts
-use Rattle.scan.proofs.content.text_end.Reads as text-end-reads
-use Rattle.scan.proofs.elements.any_tag.Reads as any-tag-reads
 use Rattle.scan.proofs.Nesting.{text-halt, text-within, text-tag}
 
--- answers
-
--- src/elements.rt:114:11
 text-end-requires : tie.Need-text-end-requires
 text-end-requires c κs = search needs
 
--- src/elements.rt:115:23
 enum-known-p : tie.Need-enum-known-p
 enum-known-p c = search needs
 
--- src/elements.rt:116:18
 enum-known-i : tie.Need-enum-known-i
 enum-known-i c = search needs
 
--- src/elements.rt:116:24
 any-tag-requires : tie.Need-any-tag-requires
 any-tag-requires c κs =
     (text-within _ _ (c .before .before .before .before .before .before .before .args .from .now) (c .before .before .before .before .before .before .before .args .to .now) (c .before .before .before .before .before .before .before .args .n) (c .before .before .before .before .before .before .before .pre .1) (c .before .before .before .before .before .text-end .result) (c .before .before .before .before .before .text-end .ensures) _ (c .before .before .before .i .given .1), c .before .before .before .before .before .before .before .pre .1, c .before .before .before .before .before .before .before .pre .2, c .before .before .before .before .before .before .before .pre .3)
 
--- src/elements.rt:105:1
 returns : tie.Need-returns
 returns c =
     text-halt _ _ _ _ _ (c .before .before .before .before .before .pre .1) (c .before .before .before .text-end .result) (c .before .before .before .text-end .ensures) _ (c .before .p .given .1)
 
--- src/elements.rt:105:1
 returns-2 : tie.Need-returns-2
 returns-2 c =
     text-tag _ _ _ _ _ (c .before .before .before .before .before .before .before .before .pre .1) (c .before .before .before .before .before .before .text-end .result) (c .before .before .before .before .before .before .text-end .ensures) _ (c .before .before .before .before .i .given .1) _ _ (c .any-tag .result) (c .any-tag .ensures)

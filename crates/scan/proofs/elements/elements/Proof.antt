@@ -1,9 +1,5 @@
 use Rattle.scan.proofs.elements.elements.Statement.{statement}
 use Rattle.scan.proofs.elements.elements.Tie as tie
-use Rattle.scan.proofs.elements.elements.Reads as reads
-use Rattle.scan.proofs.elements.elements.Lts as lts
-use Rattle.scan.proofs.elements.advance.Reads as advance-reads
-use Rattle.scan.proofs.elements.start_tag.Reads as start-tag-reads
 use mathlib.Core.Path.{refl}
 use native.Mathlib.Omega.{arith}
 use borrow.Author.Needs.{needs}
@@ -12,55 +8,44 @@ use Rattle.scan.specs.Tags.{Steps}
 use Rattle.scan.proofs.Names.{held-none}
 use Rattle.scan.proofs.Nesting.{root-opens, ahead, steps-halt, steps-within, steps-held, steps-done, steps-then, steps-less}
 
--- answers
-
 abbrev Inv-loop : tie.InvT-loop
 Inv-loop s at classes from₀ to₀ here₀ from to here = Steps s at root from to here
 
 abbrev μ-loop : tie.MeasureT-loop
 μ-loop s at classes from₀ to₀ here₀ from to here = ahead s here
 
--- src/elements.rt:115:9
 start-tag-requires : tie.Need-start-tag-requires Inv-loop μ-loop
 start-tag-requires c κs =
     (c .before .before .before .pre .0, held-none 16 _ _ _ refl refl, c .before .before .before .pre .1)
 
--- src/elements.rt:116:5
 loop-holds : tie.Need-loop-holds Inv-loop μ-loop
 loop-holds c =
     c .start-tag .ensures root (root-opens _ _ _ _)
 
--- src/elements.rt:118:27
 enum-known-here : tie.Need-enum-known-here Inv-loop μ-loop
 enum-known-here c =
     search needs
 
--- src/elements.rt:118:33
 returns : tie.Need-returns Inv-loop μ-loop
 returns c =
     steps-halt _ _ _ _ (c .before .before .before .loop .here) (c .before .before .before .loop .inv) _ (c .before .here .given .1)
 
--- src/elements.rt:119:22
 enum-known-here-2 : tie.Need-enum-known-here-2 Inv-loop μ-loop
 enum-known-here-2 c =
     search needs
 
--- src/elements.rt:121:21
 returns-2 : tie.Need-returns-2 Inv-loop μ-loop
 returns-2 c =
     steps-done _ _ _ _ (c .before .before .before .before .loop .here) (c .before .before .before .before .loop .inv) _ _ (c .before .before .here2 .given .1) (c .if1 .taken)
 
--- src/elements.rt:123:17
 advance-requires : tie.Need-advance-requires Inv-loop μ-loop
 advance-requires c κs =
     (steps-within _ _ _ _ (c .before .before .before .before .before .before .loop .here) (c .before .before .before .before .before .before .loop .inv) _ _ (c .before .before .before .before .here2 .given .1), omega arith, steps-held _ _ _ _ (c .before .before .before .before .before .before .loop .here) (c .before .before .before .before .before .before .loop .inv) _ _ (c .before .before .before .before .here2 .given .1), c .before .before .before .before .before .before .before .before .before .before .before .pre .1)
 
--- src/elements.rt:116:5
 loop-less : tie.Need-loop-less Inv-loop μ-loop
 loop-less c =
     steps-less _ _ _ _ (c .before .before .before .before .before .before .before .loop .here) (c .before .before .before .before .before .before .before .loop .inv) _ _ (c .before .before .before .before .before .here2 .given .1) _ _ (c .advance .result) (c .advance .ensures)
 
--- src/elements.rt:116:5
 loop-again : tie.Need-loop-again Inv-loop μ-loop
 loop-again c =
     steps-then _ _ _ _ (c .before .before .before .before .before .before .before .loop .here) (c .before .before .before .before .before .before .before .loop .inv) _ _ (c .before .before .before .before .before .here2 .given .1) _ _ (c .advance .result) (c .advance .ensures)

@@ -1,101 +1,76 @@
 use borrow.Author.Needs.{needs}
 use Rattle.scan.proofs.elements.start_tag.Statement.{statement}
 use Rattle.scan.proofs.elements.start_tag.Tie as tie
-use Rattle.scan.proofs.elements.start_tag.Reads as reads
-use Rattle.scan.proofs.elements.start_tag.Lts as lts
-use Rattle.scan.proofs.run.run_end.Reads as run-end-reads
-use Rattle.scan.proofs.tag.tag_rest.Reads as tag-rest-reads
-use Rattle.text.proofs.class.is_name_start.Reads as is-name-start-reads
 use mathlib.Core.Path.{sym, _∙_}
+use native.Mathlib.Omega.{arith}
 use borrow.Author.Tests.{not-true, not-false}
 use Rattle.scan.proofs.Nesting.{start-cut, start-other, start-deep, name-within, start-stop, start-empty, start-open}
 
--- answers
-
--- src/elements.rt:34:9
 returns : tie.Need-returns
 returns c =
     start-cut _ _ _ _ _ (c .if1 .taken)
 
--- src/elements.rt:36:23
 shared-slice-read-is-name-start : tie.Need-shared-slice-read-is-name-start
 shared-slice-read-is-name-start c = search needs
 
--- src/elements.rt:36:9
 is-name-start-requires : tie.Need-is-name-start-requires
 is-name-start-requires c κs = search needs
 
--- src/elements.rt:37:9
 returns-2 : tie.Need-returns-2
 returns-2 c =
     start-other _ _ _ _ _ (c .before .before .before .if1 .left) (sym (c .before .is-name-start .ensures) ∙ not-true _ (c .if2 .taken))
 
--- src/elements.rt:40:9
 returns-3 : tie.Need-returns-3
 returns-3 c =
     start-deep _ _ _ _ _ (c .before .before .before .before .if1 .left) (sym (c .before .before .is-name-start .ensures) ∙ not-false _ (c .before .if2 .left)) (c .if3 .taken)
 
--- src/elements.rt:42:24
 add-run-end : tie.Need-add-run-end
 add-run-end c = search needs
 
--- src/elements.rt:42:9
 run-end-requires : tie.Need-run-end-requires
 run-end-requires c κs = search needs
 
--- src/elements.rt:43:11
 tag-rest-requires : tie.Need-tag-rest-requires
 tag-rest-requires c κs =
-    (name-within _ _ _ _ _ (c .before .before .before .before .before .if1 .left) (sym (c .before .before .before .is-name-start .ensures) ∙ not-false _ (c .before .before .if2 .left)) (c .before .before .before .before .before .before .before .pre .1) (c .before .if3 .left) _ (c .run-end .ensures), c .before .before .before .before .before .before .before .pre .2)
+    (name-within _ _ _ _ _ (c .before .before .before .before .before .if1 .left) (sym (c .before .before .before .is-name-start .ensures) ∙ not-false _ (c .before .before .if2 .left)) (c .before .before .before .before .before .before .before .pre .1) (omega arith) _ (c .run-end .ensures), c .before .before .before .before .before .before .before .pre .2)
 
--- src/elements.rt:44:22
 enum-known-p : tie.Need-enum-known-p
 enum-known-p c = search needs
 
--- src/elements.rt:45:20
 enum-known-i : tie.Need-enum-known-i
 enum-known-i c = search needs
 
--- src/elements.rt:46:19
 enum-known-i-2 : tie.Need-enum-known-i-2
 enum-known-i-2 c = search needs
 
--- src/elements.rt:47:13
 mul-from : tie.Need-mul-from
 mul-from c = search needs
 
--- src/elements.rt:47:13
 element-write-from : tie.Need-element-write-from
 element-write-from c = search needs
 
--- src/elements.rt:48:13
 mul-to : tie.Need-mul-to
 mul-to c = search needs
 
--- src/elements.rt:48:13
 element-write-to : tie.Need-element-write-to
 element-write-to c = search needs
 
--- src/elements.rt:49:25
 add-t18 : tie.Need-add-t18
 add-t18 c = search needs
 
--- src/elements.rt:25:1
 returns-4 : tie.Need-returns-4
 returns-4 c =
-    start-stop _ _ _ _ _ (c .before .before .before .before .before .before .before .before .before .if1 .left) (sym (c .before .before .before .before .before .before .before .is-name-start .ensures) ∙ not-false _ (c .before .before .before .before .before .before .if2 .left)) (c .before .before .before .before .before .before .before .before .before .before .before .pre .1) (c .before .before .before .before .before .if3 .left) _ (c .before .before .before .before .run-end .ensures)
+    start-stop _ _ _ _ _ (c .before .before .before .before .before .before .before .before .before .if1 .left) (sym (c .before .before .before .before .before .before .before .is-name-start .ensures) ∙ not-false _ (c .before .before .before .before .before .before .if2 .left)) (c .before .before .before .before .before .before .before .before .before .before .before .pre .1) (omega arith) _ (c .before .before .before .before .run-end .ensures)
     (c .before .before .before .tag-rest .result) (c .before .before .before .tag-rest .ensures) _ (c .before .p .given .1)
 
--- src/elements.rt:25:1
 returns-5 : tie.Need-returns-5
 returns-5 c =
-    start-empty _ _ _ _ _ (c .before .before .before .before .before .before .before .before .before .if1 .left) (sym (c .before .before .before .before .before .before .before .is-name-start .ensures) ∙ not-false _ (c .before .before .before .before .before .before .if2 .left)) (c .before .before .before .before .before .before .before .before .before .before .before .pre .1) (c .before .before .before .before .before .if3 .left) _ (c .before .before .before .before .run-end .ensures)
+    start-empty _ _ _ _ _ (c .before .before .before .before .before .before .before .before .before .if1 .left) (sym (c .before .before .before .before .before .before .before .is-name-start .ensures) ∙ not-false _ (c .before .before .before .before .before .before .if2 .left)) (c .before .before .before .before .before .before .before .before .before .before .before .pre .1) (omega arith) _ (c .before .before .before .before .run-end .ensures)
     (c .before .before .before .tag-rest .result) (c .before .before .before .tag-rest .ensures) _ (c .before .i .given .1)
 
--- src/elements.rt:25:1
 returns-6 : tie.Need-returns-6
 returns-6 c =
-    start-open _ _ _ _ _ (c .before .before .before .before .before .before .before .before .before .if1 .left) (sym (c .before .before .before .before .before .before .before .is-name-start .ensures) ∙ not-false _ (c .before .before .before .before .before .before .if2 .left)) (c .before .before .before .before .before .before .before .before .before .before .before .pre .1) (c .before .before .before .before .before .if3 .left) _ (c .before .before .before .before .run-end .ensures)
+    start-open _ _ _ _ _ (c .before .before .before .before .before .before .before .before .before .if1 .left) (sym (c .before .before .before .before .before .before .before .is-name-start .ensures) ∙ not-false _ (c .before .before .before .before .before .before .if2 .left)) (c .before .before .before .before .before .before .before .before .before .before .before .pre .1) (omega arith) _ (c .before .before .before .before .run-end .ensures)
     (c .before .before .before .tag-rest .result) (c .before .before .before .tag-rest .ensures) _ (c .before .i2 .given .1)
 
 pub start-tag-spec : {M : Type 1} → statement M

@@ -1,44 +1,31 @@
 use borrow.Author.Needs.{needs}
 use Rattle.scan.proofs.piece.behind_ef.Statement.{statement}
 use Rattle.scan.proofs.piece.behind_ef.Tie as tie
-use Rattle.scan.proofs.piece.behind_ef.Reads as reads
-use Rattle.scan.proofs.piece.behind_ef.Lts as lts
-use Rattle.scan.proofs.piece.one.Reads as one-reads
-use Rattle.scan.proofs.piece.two.Reads as two-reads
 use mathlib.Core.Path.{_≡_, refl, ap}
 use borrow.Author.Tests.{ne-eqb}
 use Rattle.xml.specs.Auto.{ef, efbf, go-on}
 use Rattle.scan.proofs.Pieces.{part-cut, part-then, as-one, as-two}
 
--- answers
-
--- src/piece.rt:53:9
 returns : tie.Need-returns
 returns c =
     part-cut _ _ ef (c .if1 .taken)
 
--- src/piece.rt:55:8
 shared-slice-read-if2 : tie.Need-shared-slice-read-if2
 shared-slice-read-if2 c = search needs
 
--- src/piece.rt:56:23
 add-one : tie.Need-add-one
 add-one c = search needs
 
--- src/piece.rt:56:9
 one-requires : tie.Need-one-requires
 one-requires c κs = search needs
 
--- src/piece.rt:56:9
 returns-2 : tie.Need-returns-2
 returns-2 c =
     part-then _ _ ef (c .before .before .before .if1 .left) efbf (c .one .result) (ap (go-on ef) (c .before .if2 .taken)) (as-one _ _ efbf 128 189 (c .one .result) (λ l. refl) (c .one .ensures))
 
--- src/piece.rt:58:5
 two-requires : tie.Need-two-requires
 two-requires c κs = search needs
 
--- src/piece.rt:48:1
 returns-3 : tie.Need-returns-3
 returns-3 c =
     as-two _ _ ef 128 190 (c .two .result) (λ l. rw (ne-eqb _ 191 (c .before .if2 .left)) refl) (c .two .ensures)

@@ -1,92 +1,68 @@
 use borrow.Author.Needs.{needs}
 use Rattle.scan.proofs.piece.entity.Statement.{statement}
 use Rattle.scan.proofs.piece.entity.Tie as tie
-use Rattle.scan.proofs.piece.entity.Reads as reads
-use Rattle.scan.proofs.piece.entity.Lts as lts
-use Rattle.scan.proofs.piece.behind_a.Reads as behind-a-reads
-use Rattle.scan.proofs.word.word.Reads as word-reads
 use mathlib.Core.Path.{_≡_, refl, ap, _∙_}
 use mathlib.Core.List.{[], _∷_}
 use borrow.Author.Tests.{ne-eqb}
 use Rattle.xml.specs.Auto.{ampersand, ampersandA, go-on}
 use Rattle.scan.proofs.Pieces.{part-cut, part-then, part-word, part-dead}
 
--- answers
-
--- src/piece.rt:125:9
 returns : tie.Need-returns
 returns c =
     part-cut _ _ ampersand (c .if1 .taken)
 
--- src/piece.rt:127:13
 shared-slice-read-x : tie.Need-shared-slice-read-x
 shared-slice-read-x c = search needs
 
--- src/piece.rt:129:28
 add-behind-a : tie.Need-add-behind-a
 add-behind-a c = search needs
 
--- src/piece.rt:129:9
 behind-a-requires : tie.Need-behind-a-requires
 behind-a-requires c κs = search needs
 
--- src/piece.rt:129:9
 returns-2 : tie.Need-returns-2
 returns-2 c =
     part-then _ _ ampersand (c .before .before .before .if1 .left) ampersandA (c .behind-a .result) (ap (go-on ampersand) (c .before .if2 .taken)) (c .behind-a .ensures)
 
--- src/piece.rt:132:24
 add-word : tie.Need-add-word
 add-word c = search needs
 
--- src/piece.rt:132:32
 slice-aggregate-word : tie.Need-slice-aggregate-word
 slice-aggregate-word c = search needs
 
--- src/piece.rt:132:9
 word-requires : tie.Need-word-requires
 word-requires c κs = search needs
 
--- src/piece.rt:132:9
 returns-3 : tie.Need-returns-3
 returns-3 c =
     part-word _ _ ampersand (c .before .before .before .before .before .if1 .left) (116 ∷ 59 ∷ []) (c .word .result) (ap (go-on ampersand) (c .before .before .if3 .taken)) (c .word .ensures)
 
--- src/piece.rt:135:24
 add-word-2 : tie.Need-add-word-2
 add-word-2 c = search needs
 
--- src/piece.rt:135:32
 slice-aggregate-word-2 : tie.Need-slice-aggregate-word-2
 slice-aggregate-word-2 c = search needs
 
--- src/piece.rt:135:9
 word-requires-2 : tie.Need-word-requires-2
 word-requires-2 c κs = search needs
 
--- src/piece.rt:135:9
 returns-4 : tie.Need-returns-4
 returns-4 c =
     part-word _ _ ampersand (c .before .before .before .before .before .before .if1 .left) (116 ∷ 59 ∷ []) (c .word2 .result) (ap (go-on ampersand) (c .before .before .if4 .taken)) (c .word2 .ensures)
 
--- src/piece.rt:138:24
 add-word-3 : tie.Need-add-word-3
 add-word-3 c = search needs
 
--- src/piece.rt:138:32
 slice-aggregate-word-3 : tie.Need-slice-aggregate-word-3
 slice-aggregate-word-3 c = search needs
 
--- src/piece.rt:138:9
 word-requires-3 : tie.Need-word-requires-3
 word-requires-3 c κs = search needs
 
--- src/piece.rt:138:9
 returns-5 : tie.Need-returns-5
 returns-5 c =
     part-word _ _ ampersand (c .before .before .before .before .before .before .before .if1 .left) (117 ∷ 111 ∷ 116 ∷ 59 ∷ []) (c .word3 .result) (ap (go-on ampersand) (c .before .before .if5 .taken)) (c .word3 .ensures)
 
--- src/piece.rt:120:1
 returns-6 : tie.Need-returns-6
 returns-6 c =
     part-dead _ _ ampersand (c .before .before .before .before .before .if1 .left)

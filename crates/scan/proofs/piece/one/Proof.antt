@@ -1,36 +1,26 @@
 use borrow.Author.Needs.{needs}
 use Rattle.scan.proofs.piece.one.Statement.{statement}
 use Rattle.scan.proofs.piece.one.Tie as tie
-use Rattle.scan.proofs.piece.one.Reads as reads
-use Rattle.scan.proofs.piece.one.Lts as lts
 use Rattle.scan.proofs.Pieces.{one-cut, one-low, one-high, one-on}
 
--- answers
-
--- src/piece.rt:15:9
 returns : tie.Need-returns
 returns c =
     one-cut _ _ _ _ (c .if1 .taken)
 
--- src/piece.rt:17:13
 shared-slice-read-x : tie.Need-shared-slice-read-x
 shared-slice-read-x c = search needs
 
--- src/piece.rt:19:9
 returns-2 : tie.Need-returns-2
 returns-2 c =
     one-low _ _ _ _ (c .before .before .if1 .left) (c .if2 .taken)
 
--- src/piece.rt:22:9
 returns-3 : tie.Need-returns-3
 returns-3 c =
     one-high _ _ _ _ (c .before .before .before .if1 .left) (c .before .if2 .left) (c .if3 .taken)
 
--- src/piece.rt:24:14
 add-t6 : tie.Need-add-t6
 add-t6 c = search needs
 
--- src/piece.rt:11:1
 returns-4 : tie.Need-returns-4
 returns-4 c =
     one-on _ _ _ _ (c .before .before .before .if1 .left) (c .before .if2 .left) (c .if3 .left)

@@ -1,36 +1,24 @@
 use borrow.Author.Needs.{needs}
 use Rattle.scan.proofs.piece.three.Statement.{statement}
 use Rattle.scan.proofs.piece.three.Tie as tie
-use Rattle.scan.proofs.piece.three.Reads as reads
-use Rattle.scan.proofs.piece.three.Lts as lts
-use Rattle.scan.proofs.piece.one.Reads as one-reads
-use Rattle.scan.proofs.piece.two.Reads as two-reads
 use Rattle.scan.proofs.Pieces.{three-stop, three-on}
 
--- answers
-
--- src/piece.rt:41:11
 one-requires : tie.Need-one-requires
 one-requires c κs = search needs
 
--- src/piece.rt:42:23
 enum-known-n : tie.Need-enum-known-n
 enum-known-n c = search needs
 
--- src/piece.rt:43:18
 enum-known-i : tie.Need-enum-known-i
 enum-known-i c = search needs
 
--- src/piece.rt:43:24
 two-requires : tie.Need-two-requires
 two-requires c κs = search needs
 
--- src/piece.rt:38:1
 returns : tie.Need-returns
 returns c =
     three-stop _ _ _ _ (c .before .before .before .one .result) (c .before .before .before .one .ensures) _ (c .before .n .given .1)
 
--- src/piece.rt:38:1
 returns-2 : tie.Need-returns-2
 returns-2 c =
     three-on _ _ _ _ (c .before .before .before .before .one .result) (c .before .before .before .before .one .ensures) _ (c .before .before .i .given .1) (c .two .result) (c .two .ensures)

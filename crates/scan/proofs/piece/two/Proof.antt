@@ -1,35 +1,24 @@
 use borrow.Author.Needs.{needs}
 use Rattle.scan.proofs.piece.two.Statement.{statement}
 use Rattle.scan.proofs.piece.two.Tie as tie
-use Rattle.scan.proofs.piece.two.Reads as reads
-use Rattle.scan.proofs.piece.two.Lts as lts
-use Rattle.scan.proofs.piece.one.Reads as one-reads
 use Rattle.scan.proofs.Pieces.{two-stop, two-on}
 
--- answers
-
--- src/piece.rt:31:11
 one-requires : tie.Need-one-requires
 one-requires c κs = search needs
 
--- src/piece.rt:32:23
 enum-known-n : tie.Need-enum-known-n
 enum-known-n c = search needs
 
--- src/piece.rt:33:18
 enum-known-i : tie.Need-enum-known-i
 enum-known-i c = search needs
 
--- src/piece.rt:33:24
 one-requires-2 : tie.Need-one-requires-2
 one-requires-2 c κs = search needs
 
--- src/piece.rt:28:1
 returns : tie.Need-returns
 returns c =
     two-stop _ _ _ _ (c .before .before .before .one .result) (c .before .before .before .one .ensures) _ (c .before .n .given .1)
 
--- src/piece.rt:28:1
 returns-2 : tie.Need-returns-2
 returns-2 c =
     two-on _ _ _ _ (c .before .before .before .before .one .result) (c .before .before .before .before .one .ensures) _ (c .before .before .i .given .1) (c .one2 .result) (c .one2 .ensures)

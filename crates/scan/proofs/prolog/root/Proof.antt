@@ -1,36 +1,25 @@
 use borrow.Author.Needs.{needs}
 use Rattle.scan.proofs.prolog.root.Statement.{statement}
 use Rattle.scan.proofs.prolog.root.Tie as tie
-use Rattle.scan.proofs.prolog.root.Reads as reads
-use Rattle.scan.proofs.prolog.root.Lts as lts
-use Rattle.text.proofs.span.blanks_end.Reads as blanks-end-reads
 use Rattle.scan.proofs.Before.{root-cut, root-less, root-other}
 
--- answers
-
--- src/prolog.rt:15:9
 blanks-end-requires : tie.Need-blanks-end-requires
 blanks-end-requires c κs = search needs
 
--- src/prolog.rt:17:9
 returns : tie.Need-returns
 returns c =
     root-cut _ _ _ (c .before .blanks-end .ensures) (c .before .before .before .pre) (c .if1 .taken)
 
--- src/prolog.rt:19:8
 shared-slice-read-if2 : tie.Need-shared-slice-read-if2
 shared-slice-read-if2 c = search needs
 
--- src/prolog.rt:20:25
 add-t8 : tie.Need-add-t8
 add-t8 c = search needs
 
--- src/prolog.rt:20:9
 returns-2 : tie.Need-returns-2
 returns-2 c =
     root-less _ _ _ (c .before .before .before .blanks-end .ensures) (c .before .before .before .before .before .pre) (c .before .before .if1 .left) (c .if2 .taken)
 
--- src/prolog.rt:11:1
 returns-3 : tie.Need-returns-3
 returns-3 c =
     root-other _ _ _ (c .before .before .before .blanks-end .ensures) (c .before .before .before .before .before .pre) (c .before .before .if1 .left) (c .if2 .left)

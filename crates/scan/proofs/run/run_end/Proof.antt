@@ -1,8 +1,5 @@
 use Rattle.scan.proofs.run.run_end.Statement.{statement}
 use Rattle.scan.proofs.run.run_end.Tie as tie
-use Rattle.scan.proofs.run.run_end.Reads as reads
-use Rattle.scan.proofs.run.run_end.Lts as lts
-use Rattle.scan.proofs.run.wide.Reads as wide-reads
 use mathlib.Core.Path.{_≡_, refl}
 use Prim.Native.Nat.{_+_, _-_}
 use native.Mathlib.Omega.{arith}
@@ -13,56 +10,45 @@ use Rattle.text.proofs.Spans.{span-end, span-stop, span-go}
 use Rattle.scan.specs.Classes.{above}
 use Rattle.scan.proofs.Classes.{above-no, above-yes}
 
--- answers
-
 abbrev Inv-loop : tie.InvT-loop
 Inv-loop s at classes level i₀ i = i + span (above level) (drop i s) ≡ at + span (above level) (drop at s)
 
 abbrev μ-loop : tie.MeasureT-loop
 μ-loop s at classes level i₀ i = length s - i
 
--- src/run.rt:33:5
 loop-holds : tie.Need-loop-holds Inv-loop μ-loop
 loop-holds c =
     refl
 
--- src/run.rt:34:25
 shared-slice-read-wide : tie.Need-shared-slice-read-wide Inv-loop μ-loop
 shared-slice-read-wide c =
     search needs
 
--- src/run.rt:34:20
 wide-requires : tie.Need-wide-requires Inv-loop μ-loop
 wide-requires c κs = search needs
 
--- src/run.rt:34:12
 element-copy-out-if1 : tie.Need-element-copy-out-if1 Inv-loop μ-loop
 element-copy-out-if1 c =
     search needs
 
--- src/run.rt:35:13
 returns : tie.Need-returns Inv-loop μ-loop
 returns c =
     let x = above-no _ (c .before .before .before .before .before .before .before .pre) (c .before .before .before .before .before .before .before .args .level) (c .before .before .wide .result) _ (c .before .before .wide .ensures .0) (c .if1 .taken) in
     omega (arith, span-stop (above (c .before .before .before .before .before .before .before .args .level)) (c .before .before .before .before .before .before .before .args .s .now) (c .before .before .before .before .before .loop .i) (c .before .before .before .before .loop-test .taken) x)
 
--- src/run.rt:37:9
 add-i : tie.Need-add-i Inv-loop μ-loop
 add-i c =
     search needs
 
--- src/run.rt:33:5
 loop-less : tie.Need-loop-less Inv-loop μ-loop
 loop-less c =
     search needs
 
--- src/run.rt:33:5
 loop-again : tie.Need-loop-again Inv-loop μ-loop
 loop-again c =
     let x = above-yes _ (c .before .before .before .before .before .before .before .pre) (c .before .before .before .before .before .before .before .args .level) (c .before .before .wide .result) _ (c .before .before .wide .ensures .0) (c .if1 .left) in
     omega (arith, span-go (above (c .before .before .before .before .before .before .before .args .level)) (c .before .before .before .before .before .before .before .args .s .now) (c .before .before .before .before .before .loop .i) (c .before .before .before .before .loop-test .taken) x)
 
--- src/run.rt:28:1
 returns-2 : tie.Need-returns-2 Inv-loop μ-loop
 returns-2 c =
     omega (arith, span-end (above (c .before .before .before .args .level)) (c .before .before .before .args .s .now) (c .before .loop .i) (c .loop-test .left))

@@ -1,49 +1,36 @@
 use borrow.Author.Needs.{needs}
 use Rattle.scan.proofs.tag.tag_end.Statement.{statement}
 use Rattle.scan.proofs.tag.tag_end.Tie as tie
-use Rattle.scan.proofs.tag.tag_end.Reads as reads
-use Rattle.scan.proofs.tag.tag_end.Lts as lts
 use Rattle.scan.proofs.Tags.{end-greater, end-other, slash-cut, slash-other, slash-end}
 
--- answers
-
--- src/tag.rt:28:13
 shared-slice-read-x : tie.Need-shared-slice-read-x
 shared-slice-read-x c = search needs
 
--- src/tag.rt:29:13
 add-i : tie.Need-add-i
 add-i c = search needs
 
--- src/tag.rt:31:9
 returns : tie.Need-returns
 returns c =
     end-greater _ _ (c .before .before .pre .0) (c .if1 .taken)
 
--- src/tag.rt:34:9
 returns-2 : tie.Need-returns-2
 returns-2 c =
     end-other _ _ (c .before .before .before .pre .0) (c .before .before .before .pre .1) (c .before .if1 .left) (c .if2 .taken)
 
--- src/tag.rt:37:9
 returns-3 : tie.Need-returns-3
 returns-3 c =
     slash-cut _ _ (c .before .before .before .before .pre .0) (c .before .if2 .left) (c .if3 .taken)
 
--- src/tag.rt:39:8
 shared-slice-read-if4 : tie.Need-shared-slice-read-if4
 shared-slice-read-if4 c = search needs
 
--- src/tag.rt:40:27
 add-t10 : tie.Need-add-t10
 add-t10 c = search needs
 
--- src/tag.rt:40:9
 returns-4 : tie.Need-returns-4
 returns-4 c =
     slash-end _ _ (c .before .before .before .before .before .before .pre .0) (c .before .before .before .if2 .left) (c .before .before .if3 .left) (c .if4 .taken)
 
--- src/tag.rt:24:1
 returns-5 : tie.Need-returns-5
 returns-5 c =
     slash-other _ _ (c .before .before .before .before .before .before .pre .0) (c .before .before .before .if2 .left) (c .before .before .if3 .left) (c .if4 .left)

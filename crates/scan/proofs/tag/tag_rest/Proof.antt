@@ -1,31 +1,21 @@
 use borrow.Author.Needs.{needs}
 use Rattle.scan.proofs.tag.tag_rest.Statement.{statement}
 use Rattle.scan.proofs.tag.tag_rest.Tie as tie
-use Rattle.scan.proofs.tag.tag_rest.Reads as reads
-use Rattle.scan.proofs.tag.tag_rest.Lts as lts
-use Rattle.scan.proofs.tag.attributes.Reads as attributes-reads
 use Rattle.scan.proofs.Tags.{tag-greater}
 
--- answers
-
--- src/tag.rt:88:12
 shared-slice-read-if2 : tie.Need-shared-slice-read-if2
 shared-slice-read-if2 c = search needs
 
--- src/tag.rt:89:30
 add-t9 : tie.Need-add-t9
 add-t9 c = search needs
 
--- src/tag.rt:89:13
 returns : tie.Need-returns
 returns c =
     tag-greater _ _ (c .before .before .if1 .taken) (c .if2 .taken)
 
--- src/tag.rt:92:5
 attributes-requires : tie.Need-attributes-requires
 attributes-requires c κs = search needs
 
--- src/tag.rt:83:1
 returns-2 : tie.Need-returns-2
 returns-2 c = search needs
 

@@ -1,14 +1,10 @@
 use Rattle.scan.proofs.word.word.Statement.{statement}
 use Rattle.scan.proofs.word.word.Tie as tie
-use Rattle.scan.proofs.word.word.Reads as reads
-use Rattle.scan.proofs.word.word.Lts as lts
 use Prim.Native.Nat.{_-_}
 use native.Mathlib.Omega.{arith}
 use lib.ListN.{length}
 use borrow.Author.Needs.{needs}
 use Rattle.scan.proofs.Words.{Spelling, spelling-none, spelling-all, spelling-cut, spelling-other, spelling-more}
-
--- answers
 
 abbrev Inv-loop : tie.InvT-loop
 Inv-loop s at w k₀ k = Spelling s at w k
@@ -16,57 +12,46 @@ Inv-loop s at w k₀ k = Spelling s at w k
 abbrev μ-loop : tie.MeasureT-loop
 μ-loop s at w k₀ k = length w - k
 
--- src/word.rt:13:5
 loop-holds : tie.Need-loop-holds Inv-loop μ-loop
 loop-holds c =
     spelling-none (c .args .s .now) (c .args .at) (c .args .w .now) (c .pre)
 
--- src/word.rt:14:17
 add-i : tie.Need-add-i Inv-loop μ-loop
 add-i c =
     omega arith
 
--- src/word.rt:16:13
 returns : tie.Need-returns Inv-loop μ-loop
 returns c =
     spelling-cut _ _ _ (c .before .before .loop .k) (c .before .before .loop .inv) (c .before .loop-test .taken) (c .if1 .taken)
 
--- src/word.rt:18:12
 shared-slice-read-if2 : tie.Need-shared-slice-read-if2 Inv-loop μ-loop
 shared-slice-read-if2 c =
     omega arith
 
--- src/word.rt:18:20
 shared-slice-read-if2-2 : tie.Need-shared-slice-read-if2-2 Inv-loop μ-loop
 shared-slice-read-if2-2 c =
     omega arith
 
--- src/word.rt:19:13
 returns-2 : tie.Need-returns-2 Inv-loop μ-loop
 returns-2 c =
     spelling-other _ _ _ (c .before .before .before .before .before .loop .k) (c .before .before .before .before .before .loop .inv) (c .before .before .before .before .loop-test .taken) (c .before .before .before .if1 .left) (c .if2 .taken)
 
--- src/word.rt:21:9
 add-k : tie.Need-add-k Inv-loop μ-loop
 add-k c =
     omega arith
 
--- src/word.rt:13:5
 loop-less : tie.Need-loop-less Inv-loop μ-loop
 loop-less c =
     omega arith
 
--- src/word.rt:13:5
 loop-again : tie.Need-loop-again Inv-loop μ-loop
 loop-again c =
     spelling-more _ _ _ (c .before .before .before .before .before .loop .k) (c .before .before .before .before .before .loop .inv) (c .before .before .before .before .loop-test .taken) (c .before .before .before .if1 .left) (c .if2 .left)
 
--- src/word.rt:23:14
 add-t12 : tie.Need-add-t12 Inv-loop μ-loop
 add-t12 c =
     omega arith
 
--- src/word.rt:8:1
 returns-3 : tie.Need-returns-3 Inv-loop μ-loop
 returns-3 c =
     spelling-all _ _ _ (c .before .loop .k) (c .before .loop .inv) (c .loop-test .left)
