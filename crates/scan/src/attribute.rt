@@ -56,7 +56,14 @@ pub(crate) fn equals(s: &[u8], at: usize) -> Went
 }
 
 // Whether the name from a to e is one of the first n, which stand from from[k] to to[k].
-pub(crate) fn seen(s: &[u8], from: &[usize; 4], to: &[usize; 4], n: usize, a: usize, e: usize) -> bool
+pub(crate) fn seen(
+    s: &[u8],
+    from: &[usize; 4],
+    to: &[usize; 4],
+    n: usize,
+    a: usize,
+    e: usize,
+) -> bool
     requires { ⌜ n ≤ 4 ⌝ }
     ensures { λ r. ⌜ r ≡ member (slice a e (now (s .entry))) (names (now (s .entry)) (now (from .entry)) (now (to .entry)) n) ⌝ }
 {
