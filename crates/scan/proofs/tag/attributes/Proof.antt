@@ -51,7 +51,7 @@ returns-3 c =
 
 returns-4 : tie.Need-returns-4 Inv-loop μ-loop
 returns-4 c =
-    tag-full _ _ _ _ _ _ (c .before .before .before .before .before .before .before .loop .inv) _ (c .before .before .before .before .before .before .blanks-end .ensures) (c .before .before .before .before .before .if1 .left) (sym (c .before .before .before .is-name-start .ensures) ∙ not-false _ (c .before .before .if2 .left)) (c .before .if3 .left) (c .if4 .taken)
+    tag-full _ _ _ _ _ _ (c .before .before .before .before .before .before .before .loop .inv) _ (c .before .before .before .before .before .before .blanks-end .ensures) (c .before .before .before .before .before .if1 .left) (sym (c .before .before .before .is-name-start .ensures) ∙ not-false _ (c .before .before .if2 .left)) (c .before .if3 .left) (omega arith)
 
 add-run-end : tie.Need-add-run-end Inv-loop μ-loop
 add-run-end c =
