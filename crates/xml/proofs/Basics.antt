@@ -9,9 +9,9 @@ use lib.Dec.{leb, ltb, eqb}
 use lib.ListN.{length, length-append}
 use borrow.Author.Tests.{eqb-true, eqb-false, eq-eqb, leb-true, ltb-true}
 use Rattle.text.specs.Bytes.{inRange, isBlank, isNameStart, isNamePart}
-use Rattle.text.specs.Lists.{All}
+use Rattle.text.specs.Lists.{All, same}
+use Rattle.text.proofs.Parts.{same-eq, same-not}
 use Rattle.xml.specs.House.{Fresh}
-use Rattle.text.specs.Lists.{same}
 use Rattle.xml.specs.Auto.{member}
 
 -- a blank is one of four bytes
@@ -34,29 +34,13 @@ pub blank-no-start : (x : ℕ) → isBlank x ≡ true → isNameStart x ≡ fals
 unfolding isNameStart
 blank-no-start x e = by-blank (λ (y : ℕ). isNameStart y ≡ false) x e refl refl refl refl
 
--- `same` and `member` tell names apart
-pub same-true : (a b : List ℕ) → same a b ≡ true → a ≡ b
-unfolding same
-same-true [] [] e = refl
-same-true [] (y ∷ b) e = absurd (true≢false (sym e))
-same-true (x ∷ a) [] e = absurd (true≢false (sym e))
-same-true (x ∷ a) (y ∷ b) e = go (eqb x y) refl e (same-true a b)
-  where
-    go : (u : Bool) → eqb x y ≡ u → (u && same a b) ≡ true → (same a b ≡ true → a ≡ b) → x ∷ a ≡ y ∷ b
-    go true p h ih = ap₂ _∷_ (eqb-true x y p) (ih h)
-    go false p h ih = absurd (true≢false (sym h))
-
-pub same-refl : (a : List ℕ) → same a a ≡ true
-unfolding same
-same-refl [] = refl
-same-refl (x ∷ a) = rw (eq-eqb x x refl, same-refl a)
-
+-- `member` tells names apart
 pub fresh-member : (n : List ℕ) (ss : List (List ℕ)) → Fresh n ss → member n ss ≡ false
 fresh-member n [] f = refl
 fresh-member n (m ∷ ss) f = go (same n m) refl (fresh-member n ss (f .1))
   where
     go : (u : Bool) → same n m ≡ u → member n ss ≡ false → (u || member n ss) ≡ false
-    go true p ih = absurd (f .0 (same-true n m p))
+    go true p ih = absurd (f .0 (same-eq n m p))
     go false p ih = ih
 
 pub member-fresh : (n : List ℕ) (ss : List (List ℕ)) → member n ss ≡ false → Fresh n ss
@@ -65,7 +49,7 @@ member-fresh n (m ∷ ss) e = go (same n m) refl e (member-fresh n ss)
   where
     go : (u : Bool) → same n m ≡ u → (u || member n ss) ≡ false → (member n ss ≡ false → Fresh n ss) → (n ≢ m) × Fresh n ss
     go true p h ih = absurd (true≢false h)
-    go false p h ih = ((λ q. true≢false (sym (same-refl m) ∙ ap (λ (l : List ℕ). same l m) (sym q) ∙ p)), ih h)
+    go false p h ih = (same-not n m p, ih h)
 
 -- a name that is longer than all those together is none of them
 abbrev pub size : List (List ℕ) → ℕ

@@ -10,6 +10,7 @@ use borrow.Author.Tests.{lt-ltb, le-ltb, le-leb, lt-leb, eq-eqb, ne-eqb, ltb-tru
 use Rattle.text.specs.Bytes.{ascii, inRange}
 use Rattle.text.specs.Pieces.{XmlChar, tab, line, return, low, middle, high}
 use Rattle.text.specs.Utf8.{encode}
+use Rattle.text.proofs.Classes.{in-range, in-range-is}
 use Rattle.text.specs.Pieces.{Entity, amp, lt, gt, quot, apos, word, Piece, char, entity, spell, GoodPiece}
 use Rattle.xml.proofs.Runs.{cuts, brackets}
 use Rattle.xml.specs.Auto.{Part, one, two, three, e0, ed, ef, efbf, f0, f4, ampersand, ampersandA, rest, Read, bad, all, more, toWord, asciiLead, long, lead, go-on, takes}
@@ -19,18 +20,7 @@ abbrev pub Plain : Piece → Type 0
 Plain (char c) = 128 ≤ c
 Plain (entity e) = Unit {0}
 
--- tests and their sides
-in-yes : (a b x : ℕ) → a ≤ x → x ≤ b → inRange a b x ≡ true
-in-yes a b x p q = simp (le-leb a x p, le-leb x b q)
-
-in-out : (a b x : ℕ) → inRange a b x ≡ true → (a ≤ x) × (x ≤ b)
-in-out a b x e = go (leb a x) (leb x b) refl refl e
-  where
-    go : (u v : Bool) → leb a x ≡ u → leb x b ≡ v → (u && v) ≡ true → (a ≤ x) × (x ≤ b)
-    go true true d f g = (leb-true a x d, leb-true x b f)
-    go true false d f g = absurd (true≢false (sym g))
-    go false v d f g = absurd (true≢false (sym g))
-
+-- behind a test
 by : {Q : Type 0} (b : Bool) {u v r : Read} → cond b u v ≡ r → (b ≡ true → u ≡ r → Q) → (b ≡ false → v ≡ r → Q) → Q
 by true h f g = f refl h
 by false h f g = g refl h
@@ -129,7 +119,7 @@ taken false u v l h f g = g refl h
 one-of : (a b y : ℕ) (l : List ℕ) → takes l (cond (inRange a b y) all bad) ≡ true → One a b (y ∷ l)
 one-of a b y l h =
     taken (inRange a b y) all bad l h
-    (λ e g. let w = in-out a b y e in record { z = y; is = ap (λ (m : List ℕ). y ∷ m) (takes-all l g); from = w .0; to = w .1 })
+    (λ e g. let w = in-range-is a b y e in record { z = y; is = ap (λ (m : List ℕ). y ∷ m) (takes-all l g); from = w .0; to = w .1 })
     (λ _ g. takes-bad l g)
 
 last : (l : List ℕ) → takes l (more one) ≡ true → One 128 191 l
@@ -139,7 +129,7 @@ last (y ∷ l) h = one-of 128 191 y l h
 two-of : (a b y : ℕ) (l : List ℕ) → takes l (cond (inRange a b y) (more one) bad) ≡ true → Two a b (y ∷ l)
 two-of a b y l h =
     taken (inRange a b y) (more one) bad l h
-    (λ e g. let w = in-out a b y e in record { y = y; l′ = l; is = refl; from = w .0; to = w .1; then = last l g })
+    (λ e g. let w = in-range-is a b y e in record { y = y; l′ = l; is = refl; from = w .0; to = w .1; then = last l g })
     (λ _ g. takes-bad l g)
 
 last-two : (l : List ℕ) → takes l (more two) ≡ true → Two 128 191 l
@@ -149,7 +139,7 @@ last-two (y ∷ l) h = two-of 128 191 y l h
 three-of : (a b y : ℕ) (l : List ℕ) → takes l (cond (inRange a b y) (more two) bad) ≡ true → Three a b (y ∷ l)
 three-of a b y l h =
     taken (inRange a b y) (more two) bad l h
-    (λ e g. let w = in-out a b y e in record { x = y; l′ = l; is = refl; from = w .0; to = w .1; then = last-two l g })
+    (λ e g. let w = in-range-is a b y e in record { x = y; l′ = l; is = refl; from = w .0; to = w .1; then = last-two l g })
     (λ _ g. takes-bad l g)
 
 -- two-, three- and four-byte characters from their bytes
@@ -255,7 +245,7 @@ found-ef : (x : ℕ) (l : List ℕ) → x ≡ 239 → takes l (more ef) ≡ true
 found-ef x [] e h = absurd (true≢false (sym h))
 found-ef x (y ∷ l) e h =
     taken (inRange 128 190 y) (more one) (cond (eqb y 191) (more efbf) bad) l h
-    (λ i g. let w = in-out 128 190 y i in let o = last l g in let p = o .from in let q = o .to in
+    (λ i g. let w = in-range-is 128 190 y i in let o = last l g in let p = o .from in let q = o .to in
     dec3 x y (o .z) (y ∷ l) (omega arith) (omega arith) (w .0) (omega arith) p q (omega arith) (middle (omega arith) (omega arith)) (ap (λ (m : List ℕ). y ∷ m) (o .is)))
     (λ _ g. taken (eqb y 191) (more efbf) bad l g
     (λ i g. let f : y ≡ 191 = eqb-true y 191 i in let o = efbf-of l g in let p = o .from in let q = o .to in
@@ -368,7 +358,7 @@ unfolding lead
 lead-f4 x e = rw e refl
 
 tested : (a b y : ℕ) (l : List ℕ) (u v : Read) → a ≤ y → y ≤ b → takes l u ≡ true → takes l (cond (inRange a b y) u v) ≡ true
-tested a b y l u v p q h = ap (λ (t : Bool). takes l (cond t u v)) (in-yes a b y p q) ∙ h
+tested a b y l u v p q h = ap (λ (t : Bool). takes l (cond t u v)) (in-range a b y p q) ∙ h
 
 ok1 : (z : ℕ) → 128 ≤ z → z ≤ 191 → takes (z ∷ []) (more one) ≡ true
 ok1 z p q = tested 128 191 z [] all bad p q refl

@@ -7,6 +7,7 @@ use native.Mathlib.Omega.{arith}
 use lib.Dec.{leb, eqb}
 use borrow.Author.Tests.{eqb-true, ne-eqb, le-leb, lt-leb, leb-true, leb-false}
 use Rattle.text.specs.Pieces.{Piece, char, entity, GoodPiece}
+use Rattle.text.proofs.Classes.{or-not}
 use Rattle.xml.specs.House.{Blanks, GoodTag, Content, end, piece, empty, full, isChar, begins, behind, cut, Good}
 
 abbrev pub cuts : ℕ → Piece → Bool
@@ -78,17 +79,13 @@ turn r (char c) k = go (eqb c 93) refl
         rw (ne-eqb c 62 (omega arith), leb-suc r, le-leb 1 (suc r) (omega arith)) (swap x (leb 2 r) (leb 1 r && begins 62 k))
     go false e = same (leb 2 r) (eqb c 62) (leb 1 r)
 
-or-out : (a b : Bool) → (a || b) ≡ false → (a ≡ false) × (b ≡ false)
-or-out true b e = absurd (true≢false e)
-or-out false b e = (refl, e)
-
 or-in : (a b : Bool) → a ≡ false → b ≡ false → (a || b) ≡ false
 or-in a b e f = rw (e, f) refl
 
 after-good : (c : Content) (d r : ℕ) → Good d c → ends r c ≡ false → GoodAfter d r c
 after-good end d r g e = tt
 after-good (piece p k) d r g e =
-    let w = or-out (cuts r p) (ends (brackets r p) k) (sym (turn r p k) ∙ or-in (cut (piece p k)) (ends r (piece p k)) (g .1) e) in
+    let w = or-not (cuts r p) (ends (brackets r p) k) (sym (turn r p k) ∙ or-in (cut (piece p k)) (ends r (piece p k)) (g .1) e) in
     (g .0, w .0, after-good k d (brackets r p) (g .2) (w .1))
 after-good (empty t k) zero r g e = absurd g
 after-good (empty t k) (suc d) r g e = (g .0, after-good k (suc d) 0 (g .1) refl)
@@ -99,7 +96,7 @@ good-after : (c : Content) (d r : ℕ) → GoodAfter d r c → Good d c × (ends
 good-after end d r g = (tt, none (leb 2 r) (leb 1 r))
 good-after (piece p k) d r g =
     let ih = good-after k d (brackets r p) (g .2) in
-    let w = or-out (cut (piece p k)) (ends r (piece p k)) (turn r p k ∙ or-in (cuts r p) (ends (brackets r p) k) (g .1) (ih .1)) in
+    let w = or-not (cut (piece p k)) (ends r (piece p k)) (turn r p k ∙ or-in (cuts r p) (ends (brackets r p) k) (g .1) (ih .1)) in
     ((g .0, w .0, ih .0), w .1)
 good-after (empty t k) zero r g = absurd g
 good-after (empty t k) (suc d) r g = ((g .0, good-after k (suc d) 0 (g .1) .0), none (leb 2 r) (leb 1 r))

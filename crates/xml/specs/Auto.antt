@@ -1,4 +1,4 @@
--- The automaton that reads house XML a byte at a time. Assumes nothing.
+-- A mirror: the automaton that reads house XML a byte at a time. Assumes nothing.
 use mathlib.Core.Path.{_≡_}
 use mathlib.Core.Bool.{Bool, true, false, cond, _&&_, _||_}
 use mathlib.Core.List.{List, [], _∷_, _++_}
@@ -8,8 +8,8 @@ use Rattle.text.specs.Lists.{same}
 use Rattle.text.specs.Bytes.{ascii, inRange, isBlank, isNameStart, isNamePart}
 use Rattle.xml.specs.House.{Quote, single, double, mark}
 
--- within a piece: so many continuation bytes are left, or those behind E0, ED, EF, EF BF, F0, F4 (Unicode, table 3-7, without U+FFFE and U+FFFF);
--- behind `&`, behind `&a`, or the next byte of an entity and the rest of it
+-- within a piece: so many continuation bytes are left, or those behind E0, ED, EF, EF BF, F0, F4 (Unicode, table 3-7, without
+-- U+FFFE and U+FFFF); behind `&`, behind `&a`, or the next byte of an entity and the rest of it
 pub data Part : Type 0 where
   one two three e0 ed ef efbf f0 f4 ampersand ampersandA : Part
   rest : ℕ → List ℕ → Part
@@ -53,7 +53,11 @@ go-on ef y = cond (inRange 128 190 y) (more one) (cond (eqb y 191) (more efbf) b
 go-on efbf y = cond (inRange 128 189 y) all bad
 go-on f0 y = cond (inRange 144 191 y) (more two) bad
 go-on f4 y = cond (inRange 128 143 y) (more two) bad
-go-on ampersand y = cond (eqb y 97) (more ampersandA) (cond (eqb y 108) (toWord (ascii "t;")) (cond (eqb y 103) (toWord (ascii "t;")) (cond (eqb y 113) (toWord (ascii "uot;")) bad)))
+go-on ampersand y =
+    cond (eqb y 97) (more ampersandA)
+    (cond (eqb y 108) (toWord (ascii "t;"))
+    (cond (eqb y 103) (toWord (ascii "t;"))
+    (cond (eqb y 113) (toWord (ascii "uot;")) bad)))
 go-on ampersandA y = cond (eqb y 109) (toWord (ascii "p;")) (cond (eqb y 112) (toWord (ascii "os;")) bad)
 go-on (rest z q) y = cond (eqb y z) (toWord q) bad
 
@@ -66,8 +70,8 @@ takes (y ∷ l) bad = false
 takes (y ∷ l) all = false
 takes (y ∷ l) (more p) = takes l (go-on p y)
 
--- The states that some text goes on from. d: levels left below the element; n: its name; ns: the names around it; k: attributes that may still come;
--- ss: attribute names seen; r: brackets seen
+-- The states that some text goes on from. d: levels left below the element; n: its name; ns: the names around it; k: attributes
+-- that may still come; ss: attribute names seen; r: brackets seen
 pub data At : Type 0 where
   done start first before root : At
   declare : ℕ → List ℕ → At
@@ -135,20 +139,27 @@ declareNext (y ∷ q) = declare y q
 unfoldable pub next : At → ℕ → St
 next done x = cond (isBlank x) (at done) dead
 next start x = cond (isBlank x) (at before) (cond (eqb x 60) (at first) dead)
-next first x = cond (isNameStart x) (at (name 15 (x ∷ []) [])) (cond (eqb x 63) (at (declareNext (ascii "xml version=\"1.0\" encoding=\"UTF-8\"?>"))) dead)
+next first x =
+    cond (isNameStart x) (at (name 15 (x ∷ []) []))
+    (cond (eqb x 63) (at (declareNext (ascii "xml version=\"1.0\" encoding=\"UTF-8\"?>"))) dead)
 next before x = cond (isBlank x) (at before) (cond (eqb x 60) (at root) dead)
 next root x = cond (isNameStart x) (at (name 15 (x ∷ []) [])) dead
 next (declare y q) x = cond (eqb x y) (at (declareNext q)) dead
 next (name d n ns) x = cond (isNamePart x) (at (name d (n ++ (x ∷ [])) ns)) (tailStep 4 [] d n ns x)
 next (tail k ss d n ns) x = tailStep k ss d n ns x
 next (gap k ss d n ns) x = cond (isNameStart x) (gapStep k ss d n ns x) (tailStep k ss d n ns x)
-next (attr b k ss d n ns) x = cond (isNamePart x) (at (attr (b ++ (x ∷ [])) k ss d n ns)) (cond (member b ss) dead (equalsStep k (b ∷ ss) d n ns x))
+next (attr b k ss d n ns) x =
+    cond (isNamePart x) (at (attr (b ++ (x ∷ [])) k ss d n ns)) (cond (member b ss) dead (equalsStep k (b ∷ ss) d n ns x))
 next (equals k ss d n ns) x = equalsStep k ss d n ns x
-next (quote k ss d n ns) x = cond (isBlank x) (at (quote k ss d n ns)) (cond (eqb x 39) (at (value single k ss d n ns)) (cond (eqb x 34) (at (value double k ss d n ns)) dead))
+next (quote k ss d n ns) x =
+    cond (isBlank x) (at (quote k ss d n ns))
+    (cond (eqb x 39) (at (value single k ss d n ns)) (cond (eqb x 34) (at (value double k ss d n ns)) dead))
 next (value q k ss d n ns) x = cond (eqb x (mark q)) (at (tail k ss d n ns)) (valueNext (lead x) q k ss d n ns)
 next (within p q k ss d n ns) x = valueNext (go-on p x) q k ss d n ns
 next (slash d ns) x = cond (eqb x 62) (at (after (suc d) ns)) dead
-next (content r d n ns) x = cond (eqb x 60) (at (less d n ns)) (cond (eqb x 62 && leb 2 r) dead (contentNext (lead x) (cond (eqb x 93) (suc r) 0) d n ns))
+next (content r d n ns) x =
+    cond (eqb x 60) (at (less d n ns))
+    (cond (eqb x 62 && leb 2 r) dead (contentNext (lead x) (cond (eqb x 93) (suc r) 0) d n ns))
 next (part p d n ns) x = contentNext (go-on p x) 0 d n ns
 next (less d n ns) x = cond (isNameStart x) (push d n ns x) (cond (eqb x 47) (at (close n (suc d) ns)) dead)
 next (close q d ns) x = closeStep q d ns x
