@@ -24,10 +24,10 @@ loop-less : tie.Need-loop-less Inv-loop μ-loop
 loop-less c = omega arith
 
 loop-again : tie.Need-loop-again Inv-loop μ-loop
-loop-again c = (omega (arith, length-more (c .before .loop .left) (c .loop-test .taken)), c .before .loop .inv .1)
+loop-again c = (omega (arith, length-more (c .before .loop .left) (omega arith)), c .before .loop .inv .1)
 
 returns : tie.Need-returns Inv-loop μ-loop
-returns c = let d = ap length (decimal-one (c .before .loop .left) (c .loop-test .left)) in (omega arith, omega arith)
+returns c = let d = ap length (decimal-one (c .before .loop .left) (omega arith)) in (omega arith, omega arith)
 
 pub width-spec : {M : Type 1} → statement M
 width-spec = tie.close (tie.spec Inv-loop μ-loop loop-holds add-w loop-less loop-again returns)
