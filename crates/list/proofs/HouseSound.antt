@@ -8,6 +8,7 @@ use Rattle.list.specs.Listing.{rowAt, nextDue}
 use Rattle.list.specs.WellFormed.{WellFormed}
 use Rattle.list.specs.Table.{cell, words, rowOf, rowsFrom, rulesFrom, listOf}
 use Rattle.list.specs.Sound.{nextChild, firstOf, secondOf, levelIn, Sound}
+use Rattle.text.specs.Pieces.{isUnmarked}
 use Rattle.list.specs.Test.{every, begins, among, wordsOk, rowTests, ruleTests, derivedTests, well, derived, sound}
 use Rattle.list.specs.House.{house}
 use Rattle.list.specs.HouseTable.{houseRows, housePool}
@@ -18,7 +19,7 @@ unfolding house houseRows housePool cell words rowOf rowsFrom rulesFrom listOf
 house-is = refl
 
 house-test : sound houseRows housePool ≡ true
-unfolding houseRows housePool cell words rowOf rowsFrom rulesFrom listOf same isCapital isNameStart isNamePart firstFrom rowAt nextDue nextChild firstOf secondOf levelIn every begins among wordsOk rowTests ruleTests derivedTests well derived sound
+unfolding houseRows housePool cell words rowOf rowsFrom rulesFrom listOf same isCapital isUnmarked isNameStart isNamePart firstFrom rowAt nextDue nextChild firstOf secondOf levelIn every begins among wordsOk rowTests ruleTests derivedTests well derived sound
 house-test = refl
 
 pub house-sound : Sound houseRows housePool

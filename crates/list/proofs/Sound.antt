@@ -17,6 +17,7 @@ use Rattle.list.specs.Listing.{Leaf, ref, iban, ccy, bool, num, amt, dat
 use Rattle.list.specs.WellFormed.{Fresh, Different, LeafOk, KindOk, BothOk, RuleOk, WellFormed}
 use Rattle.list.specs.Table.{listOf}
 use Rattle.list.specs.Sound.{nextChild, Derived, Sound}
+use Rattle.text.specs.Pieces.{isUnmarked}
 use Rattle.list.specs.Test.{allOf, each, every, begins, among, wordsOk, leafOk, kindOk, isSequence, isAlternative, isOne, isOptional, countFits, isChild, rowTests, ruleTests, rulesOk, listTests, derivedTests, well, derived, sound}
 use Rattle.list.proofs.Tests.{clash, passed}
 use Rattle.list.proofs.Words.{same-of, firstFrom-none}
@@ -191,6 +192,7 @@ module _ (l : Listing) where
       uncounted = λ p r c g. uncounted-is (rowAt l p .kind) (rowAt l r .count) (row p r c 3) g;
       kinds = λ p r c. kind-is (rowAt l r .kind) (row p r c 7);
       rules = rules-are (l .rules) (whole 6);
+      space = every-is isUnmarked (l .space) (whole 7);
     }
 
 -- ---- the columns that follow

@@ -7,6 +7,7 @@ use Prim.Native.Nat.{ℕ, _≤_, _<_}
 use lib.ListN.{length}
 use Rattle.text.specs.Bytes.{isCapital, isNameStart, isNamePart}
 use Rattle.text.specs.Lists.{Each, All, Begins}
+use Rattle.text.specs.Pieces.{isUnmarked}
 use Rattle.list.specs.Listing.{Leaf, ref, iban, ccy, bool, num, amt, date, dtm, txt, enum, Kind, group, choice, leaf, Count, one, optional, alternative, Rule, both, Listing, size, rowAt, Child, isGroup, isChoice, up}
 
 -- a text that is none of those
@@ -66,3 +67,5 @@ pub record WellFormed (l : Listing) : Type 0 where
   pub uncounted : (p r : ℕ) → Child l p r → rowAt l p .kind ≡ choice → rowAt l r .count ≡ alternative
   pub kinds : (p r : ℕ) → Child l p r → KindOk (rowAt l r .kind)
   pub rules : Each (RuleOk l) (l .rules)
+  -- the namespace is written in one way only, so that it can be compared as it stands
+  pub space : All isUnmarked (l .space)

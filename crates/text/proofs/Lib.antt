@@ -19,3 +19,5 @@ pub mod Spelling
 pub mod Pasting
 -- numbers as big-endian bytes, and back
 pub mod Numbers
+-- characters that are written in one way only
+pub mod Unmarked
