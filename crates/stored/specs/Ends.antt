@@ -1,0 +1,36 @@
+-- A mirror: where a value ends, by the number of its kind in a table (list's column 2). Assumes nothing.
+use mathlib.Core.Bool.{Bool, false, cond, _&&_}
+use mathlib.Core.List.{List, [], _∷_}
+use Prim.Native.Nat.{ℕ, _+_}
+use lib.Dec.{leb}
+use lib.ListN.{length, getD, take, drop}
+use Rattle.text.specs.Numbers.{number}
+use Rattle.stored.specs.Tests.{isByte, every}
+use Rattle.stored.specs.Judges.{isReference, isWriting, isAccount, isCurrency, isPlace, isTruth, isNatural, isAmount, isDay, isMoment}
+
+-- how many bytes of a value are its length
+unfoldable pub head : ℕ → ℕ
+head c = getD (0 ∷ 0 ∷ 2 ∷ 2 ∷ 2 ∷ 2 ∷ []) c 0
+
+-- how many bytes a value has that t begins with
+unfoldable pub width : ℕ → List ℕ → ℕ
+width c t =
+    getD
+    (0 ∷ 0 ∷ (2 + number (take 2 t)) ∷ (2 + number (take 2 t)) ∷ (2 + number (take 2 t)) ∷ (2 + number (take 2 t)) ∷ 1 ∷ 1 ∷ 8 ∷ 12 ∷ 4 ∷ 13 ∷ [])
+    c 0
+
+-- these bytes, without their length, are a value of kind c; k is that of TXTk, n the number of an ENUM's words
+unfoldable pub isValue : ℕ → ℕ → ℕ → List ℕ → Bool
+isValue c k n b =
+    getD
+    (false ∷ false ∷ isReference b ∷ isWriting k b ∷ isAccount b ∷ isCurrency b ∷ isPlace n b ∷ isTruth b ∷ isNatural b ∷ isAmount b ∷ isDay b ∷ isMoment b ∷ [])
+    c false
+
+-- t begins with a value of kind c
+unfoldable pub begins : ℕ → ℕ → ℕ → List ℕ → Bool
+begins c k n t =
+    leb (width c t) (length t) && (every isByte (take (width c t) t) && isValue c k n (drop (head c) (take (width c t) t)))
+
+-- behind the value of kind c that stands at a place of s; 0 where none does
+unfoldable pub valueEnd : ℕ → ℕ → ℕ → List ℕ → ℕ → ℕ
+valueEnd c k n s at = cond (begins c k n (drop at s)) (at + width c (drop at s)) 0

@@ -1,0 +1,187 @@
+// REF and TXTk: the bytes of their characters.
+
+use text::class::is_digit;
+use text::class::is_letter;
+use text::utf8::decode;
+ghost use mathlib.Core.Path.{_≡_};
+ghost use mathlib.Core.Bool.{true, _&&_, _||_};
+ghost use Prim.Native.Nat.{_≤_, _<_};
+ghost use Rattle.types.specs.Text.{isTxt, isRef, notSpace};
+ghost use Rattle.stored.specs.Tests.{every, some, apart};
+ghost use Rattle.stored.specs.Judges.{isWord, isReference, isAsciiTxt, isWriting};
+
+// Of a reference, but no slash. The bytes that a range lacks stand in rows without neighbours: each row is one test of a mask.
+fn is_sign(x: u8) -> bool
+    ensures { λ r. ⌜ r ≡ isWord x ⌝ }
+{
+    match x {
+        42 | 47 | 59 | 61 | 64 | 91 | 93 | 95 => false,
+        60 | 62 | 92 | 94 | 96 => false,
+        32 => true,
+        39..=122 => true,
+        _ => false,
+    }
+}
+
+// The same; most are digits and letters, which come in runs.
+fn is_word(x: u8) -> bool
+    ensures { λ r. ⌜ r ≡ isWord x ⌝ }
+{
+    if is_digit(x) {
+        return true;
+    }
+    if is_letter(x) {
+        return true;
+    }
+    is_sign(x)
+}
+
+// Whether one is no space; it mostly is the first.
+fn inked(b: &[u8]) -> bool
+    ensures { λ r. ⌜ r ≡ some notSpace (now (b .entry)) ⌝ }
+{
+    let mut i = 0;
+    while i < b.len() {
+        if b[i] != 32 {
+            return true;
+        }
+        i += 1;
+    }
+    false
+}
+
+// Characters of a reference, no slash first or last, none beside another: in one pass, and most bytes are no slash.
+fn is_spaced(b: &[u8]) -> bool
+    ensures { λ r. ⌜ r ≡ (every isRef (now (b .entry)) && apart true (now (b .entry))) ⌝ }
+{
+    let mut i = 0;
+    let mut slash = true;
+    while i < b.len() {
+        let x = b[i];
+        i += 1;
+        if is_word(x) {
+            slash = false;
+        } else {
+            if x != 47 {
+                return false;
+            }
+            if slash {
+                return false;
+            }
+            slash = true;
+        }
+    }
+    !slash
+}
+
+pub(crate) fn is_reference(b: &[u8]) -> bool
+    ensures { λ r. ⌜ r ≡ isReference (now (b .entry)) ⌝ }
+{
+    if 35 < b.len() {
+        return false;
+    }
+    if !inked(b) {
+        return false;
+    }
+    is_spaced(b)
+}
+
+fn is_ascii_txt(x: u8) -> bool
+    ensures { λ r. ⌜ r ≡ isAsciiTxt x ⌝ }
+{
+    match x {
+        96 => false,
+        32..=126 => true,
+        _ => false,
+    }
+}
+
+fn all_ascii_txt(b: &[u8]) -> bool
+    ensures { λ r. ⌜ r ≡ every isAsciiTxt (now (b .entry)) ⌝ }
+{
+    let mut i = 0;
+    while i < b.len() {
+        if !is_ascii_txt(b[i]) {
+            return false;
+        }
+        i += 1;
+    }
+    true
+}
+
+fn is_low_txt(c: u32) -> bool
+    requires { ⌜ c < 128 ⌝ }
+    ensures { λ r. ⌜ r ≡ isTxt c ⌝ }
+{
+    match c {
+        32..=95 => true,
+        97..=126 => true,
+        _ => false,
+    }
+}
+
+fn is_high_txt(c: u32) -> bool
+    requires { ⌜ 128 ≤ c ⌝ }
+    ensures { λ r. ⌜ r ≡ isTxt c ⌝ }
+{
+    match c {
+        0xA7 | 0xB0 | 0xC4 | 0xD6 | 0xDC | 0xDF | 0xE4 | 0xF6 | 0xFC | 0x20AC => true,
+        _ => false,
+    }
+}
+
+// In two halves, so that ASCII is not asked for the ten characters beyond it.
+fn is_txt(c: u32) -> bool
+    ensures { λ r. ⌜ r ≡ isTxt c ⌝ }
+{
+    if c < 128 {
+        return is_low_txt(c);
+    }
+    is_high_txt(c)
+}
+
+fn inks(ink: bool, c: u32) -> bool
+    ensures { λ r. ⌜ r ≡ (ink || notSpace c) ⌝ }
+{
+    if ink {
+        return true;
+    }
+    c != 32
+}
+
+// Character by character. Where none begins, `decode` finds the code 0, which no text has.
+fn is_written(b: &[u8], k: usize) -> bool
+    ensures { λ r. ⌜ r ≡ isWriting k (now (b .entry)) ⌝ }
+{
+    let mut i = 0;
+    let mut n: usize = 0;
+    let mut ink = false;
+    while i < b.len() {
+        if k <= n {
+            return false;
+        }
+        let c = decode(b, i);
+        let len = c.len;
+        let code = c.code;
+        if !is_txt(code) {
+            return false;
+        }
+        i += len;
+        n += 1;
+        ink = inks(ink, code);
+    }
+    ink
+}
+
+// TXTk: most texts are ASCII, one byte a character.
+pub(crate) fn is_writing(b: &[u8], k: usize) -> bool
+    ensures { λ r. ⌜ r ≡ isWriting k (now (b .entry)) ⌝ }
+{
+    if all_ascii_txt(b) {
+        if k < b.len() {
+            return false;
+        }
+        return inked(b);
+    }
+    is_written(b, k)
+}

@@ -1,0 +1,27 @@
+-- DATE: real days, and how one is written. Assumes nothing.
+use mathlib.Core.Bool.{Bool, cond, _&&_, _||_, not}
+use mathlib.Core.List.{List, _∷_}
+use Prim.Native.Nat.{ℕ, _+_, _/_, _%_, _≤_}
+use lib.Dec.{leb, eqb}
+
+abbrev pub leap : ℕ → Bool
+leap y = eqb (y % 4) 0 && (not (eqb (y % 100) 0) || eqb (y % 400) 0)
+
+abbrev pub monthDays : ℕ → ℕ → ℕ
+monthDays y m =
+    cond (eqb m 2) (cond (leap y) 29 28)
+    (cond (eqb m 4 || eqb m 6 || eqb m 9 || eqb m 11) 30 (cond (leb 1 m && leb m 12) 31 0))
+
+-- "a real Gregorian day, year 0001 to 9999"
+pub record Real (y m d : ℕ) : Type 0 where
+  pub year : (1 ≤ y) × (y ≤ 9999)
+  pub month : (1 ≤ m) × (m ≤ 12)
+  pub day : (1 ≤ d) × (d ≤ monthDays y m)
+
+-- the two digits of a number below 100, then t
+abbrev pub pair : ℕ → List ℕ → List ℕ
+pair n t = (48 + n / 10) ∷ (48 + n % 10) ∷ t
+
+-- "`YYYY-MM-DD`", then t
+abbrev pub dayText : ℕ → ℕ → ℕ → List ℕ → List ℕ
+dayText y m d t = pair (y / 100) (pair (y % 100) (45 ∷ pair m (45 ∷ pair d t)))

@@ -1,0 +1,35 @@
+-- The definitions of `types`: a kind of value has a file; Value puts them together.
+-- references and texts
+pub mod Text
+-- account numbers, currencies, listed words
+pub mod Code
+-- yes or no, numbers, and the loss of blanks at both ends
+pub mod Plain
+-- amounts, as rationals with the smallest scale
+pub mod Amount
+-- Gregorian days
+pub mod Day
+-- moments, by their written parts
+pub mod Moment
+-- values, which text spells which, and their bytes
+pub mod Value
+-- what a judgement of a text says
+pub mod Judged
+-- the numbers of types in a table
+pub mod Kind
+-- a mirror: references and texts in one pass
+pub mod Texts
+-- a mirror: blanks at both ends
+pub mod Trim
+-- a mirror: digits at the front of a text
+pub mod Digits
+-- a mirror: the places of an account number
+pub mod Layout
+-- a mirror: how amounts are read
+pub mod Reading
+-- the laws of values, as one record
+pub mod Laws
+-- a decision: the value that characters spell, computed
+pub mod Spell
+-- a decision: the characters that a raw text spells, computed
+pub mod Resolved

@@ -1,0 +1,13 @@
+-- The laws of `written`.
+-- a value's parts put one behind the other
+pub mod Putting
+-- three capitals, byte by byte
+pub mod Currency
+-- the bytes between entities
+pub mod Running
+-- a raw text gives one list of bytes
+pub mod Unique
+-- what a judgement says of the bytes
+pub mod Judging
+-- what a caller has of the promises
+pub mod Theorems
