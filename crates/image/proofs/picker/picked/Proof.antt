@@ -1,0 +1,85 @@
+-- `picker::picked` meets its contract. Assumes nothing.
+use borrow.Author.Needs.{needs}
+use Rattle.image.proofs.picker.picked.Statement.{statement}
+use Rattle.image.proofs.picker.picked.Tie as tie
+use mathlib.Core.Path.{refl, _∙_, ap₂, subst}
+use Prim.Native.Nat.{ℕ, _+_, _-_}
+use native.Mathlib.Omega.{arith}
+use lib.Seq.{slice}
+use borrow.Author.Needs.{needs}
+use Rattle.image.specs.Ends.{itemEnd}
+use Rattle.answer.specs.Table.{picked, noSuchLeaf}
+use Rattle.image.specs.Run.{Finds, headOf, refused, missing, found}
+use Rattle.image.proofs.Hunting.{find-within, head-small}
+
+read-requires : tie.Need-read-requires
+read-requires c κs = search needs
+
+sub-result : tie.Need-sub-result
+sub-result c = search needs
+
+part-result-start : tie.Need-part-result-start
+part-result-start c = search needs
+
+part-result-end : tie.Need-part-result-end
+part-result-end c = search needs
+
+returns : tie.Need-returns
+returns c =
+    record { answer = c .before .before .before .read .result; chooses = refused (c .before .before .before .read .ensures) (c .before .if1 .taken) refl }
+
+find-requires : tie.Need-find-requires
+find-requires c κs = search needs
+
+sub-result-2 : tie.Need-sub-result-2
+sub-result-2 c = search needs
+
+part-result-start-2 : tie.Need-part-result-start-2
+part-result-start-2 c = search needs
+
+part-result-end-2 : tie.Need-part-result-end-2
+part-result-end-2 c = search needs
+
+returns-2 : tie.Need-returns-2
+returns-2 c =
+    let g = c .before .before .before .before .before .before .before .before .args in
+    record { answer = noSuchLeaf; chooses = missing (c .before .before .before .before .before .read .result) (c .before .before .before .before .before .read .ensures) (omega (arith, c .before .before .before .if1 .left)) (subst (λ z. Finds (g .rows .now) (itemEnd (g .rows .now) (g .run .now)) (g .run .now) (g .row) (g .n) z) (c .before .if2 .taken) (c .before .before .find .ensures)) refl refl }
+
+head-requires : tie.Need-head-requires
+head-requires c κs = search needs
+
+add-part : tie.Need-add-part
+add-part c =
+    let g = c .before .before .before .before .before .before .before .before .args in
+    omega (arith, c .head .ensures, head-small (g .rows .now) (g .row), find-within (g .rows .now) (itemEnd (g .rows .now) (g .run .now)) (g .run .now) (g .row) (g .n) (c .before .before .find .result) (c .before .before .find .ensures))
+
+item-end-requires : tie.Need-item-end-requires
+item-end-requires c κs = search needs
+
+part-requires : tie.Need-part-requires
+part-requires c κs = search needs
+
+returns-3 : tie.Need-returns-3
+returns-3 c =
+    let g = c .before .before .before .before .before .before .before .before .before .before .args in
+    record { answer = picked (g .row) (c .before .before .before .before .find .result + headOf (g .rows .now) (g .row)); chooses = found (c .before .before .before .before .before .before .before .read .result) (c .before .before .before .before .before .before .before .read .ensures) (omega (arith, c .before .before .before .before .before .if1 .left)) (c .before .before .before .before .find .result) (omega (arith, c .before .before .before .if2 .left)) (c .before .before .before .before .find .ensures) refl (c .part .ensures ∙ ap₂ (λ (a b : ℕ). slice (c .before .before .before .before .find .result + a) b (g .run .now)) (c .before .before .head .ensures) (c .before .item-end .ensures)) }
+
+pub picked-spec : {M : Type 1} → statement M
+picked-spec =
+    tie.close
+    (tie.spec
+    read-requires
+    sub-result
+    part-result-start
+    part-result-end
+    returns
+    find-requires
+    sub-result-2
+    part-result-start-2
+    part-result-end-2
+    returns-2
+    head-requires
+    add-part
+    item-end-requires
+    part-requires
+    returns-3)

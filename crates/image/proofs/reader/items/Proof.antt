@@ -1,0 +1,131 @@
+-- `reader::items` meets its contract. Assumes nothing.
+use Rattle.image.proofs.reader.items.Statement.{statement}
+use Rattle.image.proofs.reader.items.Tie as tie
+use mathlib.Core.Path.{subst}
+use Prim.Native.Nat.{_+_, _-_, _<_}
+use native.Mathlib.Omega.{arith}
+use lib.ListN.{length}
+use borrow.Author.Needs.{needs}
+use Rattle.image.specs.Ends.{itemEnd}
+use Rattle.image.proofs.Ends.{item-on}
+use Rattle.image.proofs.Turning.{Here, begins, runs-out, closes, too-soon, strays, breaks, goes-on}
+
+abbrev Inv-loop : tie.InvT-loop
+Inv-loop rows run q₀ i₀ q i = Here rows (itemEnd rows run) run q i
+
+abbrev μ-loop : tie.MeasureT-loop
+μ-loop rows run q₀ i₀ q i = length run - i
+
+loop-holds : tie.Need-loop-holds Inv-loop μ-loop
+loop-holds c =
+    let g = c .before .before .args in
+    begins (g .rows .now) (itemEnd (g .rows .now) (g .run .now)) (g .run .now)
+
+shared-slice-read-wide : tie.Need-shared-slice-read-wide Inv-loop μ-loop
+shared-slice-read-wide c =
+    search needs
+
+wide-requires : tie.Need-wide-requires Inv-loop μ-loop
+wide-requires c κs =
+    search needs
+
+ended-requires : tie.Need-ended-requires Inv-loop μ-loop
+ended-requires c κs =
+    search needs
+
+add-accepted : tie.Need-add-accepted Inv-loop μ-loop
+add-accepted c =
+    search needs
+
+accepted-requires : tie.Need-accepted-requires Inv-loop μ-loop
+accepted-requires c κs =
+    search needs
+
+returns : tie.Need-returns Inv-loop μ-loop
+returns c =
+    let g = c .before .before .before .before .before .before .before .before .before .before .args in
+    closes (g .rows .now) (itemEnd (g .rows .now) (g .run .now)) (g .run .now) (c .before .before .before .before .before .before .before .loop .q) (c .before .before .before .before .before .before .before .loop .i) (c .before .before .before .before .before .before .before .loop .inv) (c .before .before .before .before .wide .result) (c .before .before .before .before .before .before .loop-test .taken) (c .before .before .before .before .wide .ensures) (c .accepted .result) (c .before .before .ended .result) (c .accepted .ensures) (c .before .before .before .if1 .taken) (c .before .before .ended .ensures) (c .before .if2 .taken)
+
+broken-image-requires : tie.Need-broken-image-requires Inv-loop μ-loop
+broken-image-requires c κs =
+    search needs
+
+returns-2 : tie.Need-returns-2 Inv-loop μ-loop
+returns-2 c =
+    let g = c .before .before .before .before .before .before .before .before .before .before .args in
+    too-soon (g .rows .now) (itemEnd (g .rows .now) (g .run .now)) (g .run .now) (c .before .before .before .before .before .before .before .loop .q) (c .before .before .before .before .before .before .before .loop .i) (c .before .before .before .before .before .before .before .loop .inv) (c .before .before .before .before .wide .result) (c .before .before .before .before .before .before .loop-test .taken) (c .before .before .before .before .wide .ensures) (c .broken-image .result) (c .before .before .ended .result) (c .broken-image .ensures) (c .before .before .before .if1 .taken) (c .before .before .ended .ensures) (c .before .if2 .left)
+
+follows-requires : tie.Need-follows-requires Inv-loop μ-loop
+follows-requires c κs =
+    search needs
+
+add-item-end : tie.Need-add-item-end Inv-loop μ-loop
+add-item-end c =
+    search needs
+
+item-end-requires : tie.Need-item-end-requires Inv-loop μ-loop
+item-end-requires c κs =
+    search needs
+
+broken-image-requires-2 : tie.Need-broken-image-requires-2 Inv-loop μ-loop
+broken-image-requires-2 c κs =
+    search needs
+
+returns-3 : tie.Need-returns-3 Inv-loop μ-loop
+returns-3 c =
+    let g = c .before .before .before .before .before .before .before .before .before .before .before .before .args in
+    breaks (g .rows .now) (itemEnd (g .rows .now) (g .run .now)) (g .run .now) (c .before .before .before .before .before .before .before .before .before .loop .q) (c .before .before .before .before .before .before .before .before .before .loop .i) (c .before .before .before .before .before .before .before .before .before .loop .inv) (c .before .before .before .before .before .before .wide .result) (c .before .before .before .before .before .before .before .before .loop-test .taken) (c .before .before .before .before .before .before .wide .ensures) (c .before .before .before .before .before .if1 .left) (c .before .before .before .before .follows .result) (c .before .before .before .before .follows .ensures) (c .broken-image2 .result) (c .before .before .item-end .result) (c .broken-image2 .ensures) (c .before .before .before .if3 .taken) (c .before .before .item-end .ensures) (c .before .if4 .taken)
+
+loop-less : tie.Need-loop-less Inv-loop μ-loop
+loop-less c =
+    omega (arith, c .before .before .before .before .before .before .before .loop-test .taken, c .if4 .left, c .before .item-end .ensures, item-on (c .before .before .before .before .before .before .before .before .before .before .before .args .rows .now) (c .before .before .before .before .before .before .before .before .before .before .before .args .run .now) (c .before .before .before .before .before .wide .result) (c .before .before .before .before .before .before .before .before .loop .i + 1) (subst (λ z. 0 < z) (c .before .item-end .ensures) (search needs)))
+
+loop-again : tie.Need-loop-again Inv-loop μ-loop
+loop-again c =
+    let g = c .before .before .before .before .before .before .before .before .before .before .before .args in
+    goes-on (g .rows .now) (itemEnd (g .rows .now) (g .run .now)) (g .run .now) (c .before .before .before .before .before .before .before .before .loop .q) (c .before .before .before .before .before .before .before .before .loop .i) (c .before .before .before .before .before .before .before .before .loop .inv) (c .before .before .before .before .before .wide .result) (c .before .before .before .before .before .before .before .loop-test .taken) (c .before .before .before .before .before .wide .ensures) (c .before .before .before .before .if1 .left) (c .before .before .before .follows .result) (c .before .before .before .follows .ensures) (c .before .item-end .result) (c .before .before .if3 .taken) (c .before .item-end .ensures) (c .if4 .left)
+
+broken-image-requires-3 : tie.Need-broken-image-requires-3 Inv-loop μ-loop
+broken-image-requires-3 c κs =
+    search needs
+
+returns-4 : tie.Need-returns-4 Inv-loop μ-loop
+returns-4 c =
+    let g = c .before .before .before .before .before .before .before .before .before .before .args in
+    strays (g .rows .now) (itemEnd (g .rows .now) (g .run .now)) (g .run .now) (c .before .before .before .before .before .before .before .loop .q) (c .before .before .before .before .before .before .before .loop .i) (c .before .before .before .before .before .before .before .loop .inv) (c .before .before .before .before .wide .result) (c .before .before .before .before .before .before .loop-test .taken) (c .before .before .before .before .wide .ensures) (c .before .before .before .if1 .left) (c .before .before .follows .result) (c .before .before .follows .ensures) (c .broken-image3 .result) (c .broken-image3 .ensures) (c .before .if3 .left)
+
+broken-image-requires-4 : tie.Need-broken-image-requires-4 Inv-loop μ-loop
+broken-image-requires-4 c κs =
+    search needs
+
+returns-5 : tie.Need-returns-5 Inv-loop μ-loop
+returns-5 c =
+    let g = c .before .before .before .before .before .args in
+    runs-out (g .rows .now) (itemEnd (g .rows .now) (g .run .now)) (g .run .now) (c .before .before .loop .q) (c .before .before .loop .i) (c .before .before .loop .inv) (c .broken-image4 .result) (c .broken-image4 .ensures) (c .before .loop-test .left)
+
+pub items-spec : {M : Type 1} → statement M
+items-spec =
+    tie.close
+    (tie.spec
+    Inv-loop
+    μ-loop
+    loop-holds
+    shared-slice-read-wide
+    wide-requires
+    ended-requires
+    add-accepted
+    accepted-requires
+    returns
+    broken-image-requires
+    returns-2
+    follows-requires
+    add-item-end
+    item-end-requires
+    broken-image-requires-2
+    returns-3
+    loop-less
+    loop-again
+    broken-image-requires-3
+    returns-4
+    broken-image-requires-4
+    returns-5)

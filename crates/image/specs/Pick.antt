@@ -1,0 +1,57 @@
+-- What the picker answers and hands back: the n-th leaf of a row. Assumes nothing.
+use mathlib.Core.Path.{_≡_}
+use mathlib.Core.Logic.{_⊎_, _≢_}
+use mathlib.Core.Bool.{true}
+use mathlib.Core.List.{List, [], _∷_, _++_}
+use mathlib.Core.Option.{some}
+use Prim.Native.Nat.{ℕ, _+_, _≤_}
+use lib.ListN.{length, drop}
+use Rattle.answer.specs.declared.Answer.{Answer}
+use Rattle.answer.specs.Table.{limit, picked, noSuchLeaf}
+use Rattle.list.specs.Words.{times}
+use Rattle.list.specs.Listing.{Leaf, leaf, Listing, rowAt, isGroup}
+use Rattle.list.specs.Content.{Content, items}
+use Rattle.image.specs.Image.{Values, Item, bytes}
+use Rattle.image.specs.Place.{Accepts, Reads}
+
+module _ (vs : Values) where
+  abbrev pub rowsOf : List (Item vs) → List ℕ
+  rowsOf [] = []
+  rowsOf (i ∷ is) = i .0 ∷ rowsOf is
+
+  module _ (l : Listing) where
+    -- "the n-th (from 0) leaf of a given row", the part of the image that holds its value, "the value bytes without row byte and length", and
+    -- where that part begins
+    pub record Picked (c : Content (vs .Value)) (r n place : ℕ) (part : List ℕ) : Type 0 where
+      pub type : Leaf
+      pub kind : rowAt l r .kind ≡ leaf type
+      pub before : List (Item vs)
+      pub value : vs .Value
+      pub behind : List (Item vs)
+      pub at : items c ≡ before ++ ((r, some value) ∷ behind)
+      pub nth : times r (rowsOf before) ≡ n
+      pub starts : place ≡ 5 + length (bytes vs l before) + 1 + vs .head type
+      pub holds : part ≡ drop (vs .head type) (vs .bytes type value)
+
+    -- "if the row is no leaf or has no such item"
+    abbrev pub Missing : Content (vs .Value) → ℕ → ℕ → Type 0
+    Missing c r n = (isGroup (rowAt l r .kind) ≡ true) ⊎ (times r (rowsOf (items c)) ≤ n)
+
+    -- "A second call picks a value": the answer and the part
+    pub data Picks (run : List ℕ) (r n : ℕ) (a : Answer) (part : List ℕ) : Type 0 where
+      -- "after 1 and 15 to 17"; "every refusal hands back an empty part"
+      refused : Reads vs l run a → a .code ≢ 0 → part ≡ [] → Picks run r n a part
+      -- "code 18 .. if the row is no leaf or has no such item, row 0 and place 0"
+      missing : length run ≤ limit → (k : ℕ) (w : Accepts vs l run k) → Missing (w .content) r n → a ≡ noSuchLeaf → part ≡ [] → Picks run r n a part
+      -- "Acceptance is code 0, the asked row, and the place where the part begins"
+      found : length run ≤ limit → (k : ℕ) (w : Accepts vs l run k) → (place : ℕ) → Picked (w .content) r n place part → a ≡ picked r place → Picks run r n a part
+
+    -- the same, of the call that gives the answer: there is a part to it
+    pub record Answers (run : List ℕ) (r n : ℕ) (a : Answer) : Type 0 where
+      pub part : List ℕ
+      pub picks : Picks run r n a part
+
+    -- and of the call that hands back the part: there is an answer to it
+    pub record Hands (run : List ℕ) (r n : ℕ) (part : List ℕ) : Type 0 where
+      pub answer : Answer
+      pub picks : Picks run r n answer part

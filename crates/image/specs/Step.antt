@@ -1,0 +1,59 @@
+-- A mirror: which row may come directly behind which, as the code finds it in the first table. Assumes nothing.
+use mathlib.Core.Bool.{Bool, true, false, cond, _&&_, _||_, not}
+use mathlib.Core.List.{List}
+use Prim.Native.Nat.{ℕ, zero, suc}
+use lib.Dec.{leb, ltb, eqb}
+use Rattle.list.specs.Table.{cell}
+
+-- a leaf's row, by the number of its kind
+unfoldable pub isLeaf : List ℕ → ℕ → Bool
+isLeaf t r = cond (ltb (cell t r 2) 2) false (leb (cell t r 2) 11)
+
+-- it may come again: its count is 1..n or 0..n
+unfoldable pub again : List ℕ → ℕ → Bool
+again t r = cond (ltb (cell t r 1) 2) false (leb (cell t r 1) 3)
+
+-- the lowest sibling due behind q: its rule's second row, or the next required one; 0 where there is none
+unfoldable pub owed : List ℕ → ℕ → ℕ
+owed t q = cond (eqb (cell t q 13) 0) (cell t q 12) (cell t q 13)
+
+-- the row that is due is not passed over
+unfoldable pub before : ℕ → ℕ → Bool
+before due x = cond (eqb due 0) true (leb x due)
+
+-- x's rule has its first row q
+unfoldable pub mated : List ℕ → ℕ → ℕ → Bool
+mated t q x = cond (eqb (cell t x 8) 0) true (eqb (cell t x 8) q)
+
+-- x comes behind its sibling q
+unfoldable pub inOrder : List ℕ → ℕ → ℕ → Bool
+inOrder t q x = cond (eqb q x) (again t x) (ltb q x)
+
+-- x may stand behind q, the last child so far of their parent p
+unfoldable pub beside : List ℕ → ℕ → ℕ → ℕ → Bool
+beside t p q x = cond (eqb (cell t p 2) 1) false (cond (inOrder t q x) (cond (before (owed t q) x) (mated t q x) false) false)
+
+-- x may stand first in q
+unfoldable pub inside : List ℕ → ℕ → ℕ → Bool
+inside t q x = cond (eqb (cell t x 0) q) (cond (before (cell t q 11) x) (eqb (cell t x 8) 0) false) false
+
+-- x may come when q is over, at most k levels up
+unfoldable pub climbs : List ℕ → ℕ → ℕ → ℕ → Bool
+climbs t zero q x = false
+climbs t (suc k) q x =
+    cond (leb q 1) false
+    (cond (eqb (cell t q 0) (cell t x 0)) (beside t (cell t x 0) q x)
+    (cond (eqb (owed t q) 0) (climbs t k (cell t q 0) x) false))
+
+-- x may come directly behind q
+unfoldable pub follows : List ℕ → ℕ → ℕ → Bool
+follows t q x = cond (eqb x 0) false (cond (ltb (cell t 0 0) x) false (cond (isLeaf t q) (climbs t 16 q x) (inside t q x)))
+
+-- nothing is due when q is over, at most k levels up
+unfoldable pub rests : List ℕ → ℕ → ℕ → Bool
+rests t zero q = false
+rests t (suc k) q = cond (leb q 1) true (cond (eqb (owed t q) 0) (rests t k (cell t q 0)) false)
+
+-- an image may end behind q
+unfoldable pub ended : List ℕ → ℕ → Bool
+ended t q = cond (isLeaf t q) (rests t 16 q) false
