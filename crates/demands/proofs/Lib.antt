@@ -1,0 +1,21 @@
+-- The theorems about what `check` may answer.
+-- only one answer fits
+pub mod One
+-- the codes of violations
+pub mod Codes
+-- a refusal leaves every byte; accepted exactly when good
+pub mod Accepted
+-- demand 3 and reading back, for what check writes
+pub mod Images
+-- an image is no longer than its file
+pub mod Short
+-- all of it for document 01's types and list
+pub mod House
+-- codes 1 and 2
+pub mod Saying
+-- a computed test for good trees
+pub mod Trees
+-- some answer fits every file and every buffer
+pub mod Some
+-- document 01's starred examples
+pub mod Stars

@@ -1,0 +1,1 @@
+// The three demands: what check may answer, and what follows from that.

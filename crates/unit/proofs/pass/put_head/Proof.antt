@@ -1,0 +1,24 @@
+-- `pass::put_head` meets its contract. Assumes nothing.
+use borrow.Author.Needs.{needs}
+use Rattle.unit.proofs.pass.put_head.Statement.{statement}
+use Rattle.unit.proofs.pass.put_head.Tie as tie
+use mathlib.Core.Path.{refl}
+use Rattle.image.specs.Image.{header}
+use Rattle.text.specs.Numbers.{bigEndian}
+use Rattle.unit.proofs.PassPuts.{puts-pasted}
+
+slice-aggregate-copy : tie.Need-slice-aggregate-copy
+slice-aggregate-copy c = search needs
+
+copy-requires : tie.Need-copy-requires
+copy-requires c κs = search needs
+
+same-length : tie.Need-same-length
+same-length c = search needs
+
+returns : tie.Need-returns
+unfolding header bigEndian
+returns c = puts-pasted _ 0 _ 6 _ refl (c .before .before .copy .ensures)
+
+pub put-head-spec : {M : Type 1} → statement M
+put-head-spec = tie.close (tie.spec slice-aggregate-copy copy-requires same-length returns)

@@ -1,0 +1,18 @@
+-- What the exports for C answer. Assumes nothing.
+use mathlib.Core.Path.{_≡_}
+use mathlib.Core.List.{List}
+use Prim.Native.Nat.{ℕ, _+_}
+use lib.ListN.{length}
+use lib.Seq.{slice}
+use Rattle.answer.specs.declared.Answer.{Answer}
+use Rattle.answer.specs.Table.{answer}
+use Rattle.list.specs.House.{house}
+use Rattle.image.specs.Kinds.{values}
+use Rattle.image.specs.Pick.{Picks}
+
+-- a pick without its row, which is the asked one or 0: "It hands back that part of the lent image itself", `size` bytes of the run from `place` on.
+-- "every refusal hands back an empty part": then `size` is 0
+pub record PicksAt (run : List ℕ) (r n code place size : ℕ) : Type 0 where
+  pub row : ℕ
+  pub picks : Picks values house run r n (answer code row place) (slice place (place + size) run)
+  pub long : length (slice place (place + size) run) ≡ size
