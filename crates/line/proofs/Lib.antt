@@ -3,3 +3,5 @@
 pub mod Digits
 -- an answer's line, piece by piece
 pub mod Lines
+-- hexadecimal, byte by byte, and back
+pub mod Hexadecimal

@@ -43,7 +43,7 @@ fn spread_refusal(buf: &mut [u8], a: Answer) -> usize
 
 // Writes `refused CODE ROW PLACE` and LF at a place, or nothing where it does not fit, and answers how many bytes it is.
 pub fn put_refusal(out: &mut [u8], at: usize, a: Answer) -> usize
-    ensures { λ r. ⌜ (r ≡ length (refusal a)) × (now (out .exit) ≡ pasted (now (out .entry)) at (refusal a)) ⌝ }
+    ensures { λ r. ⌜ (r ≡ length (refusal a)) × ((r ≤ 71) × (now (out .exit) ≡ pasted (now (out .entry)) at (refusal a))) ⌝ }
 {
     let mut space = [0u8; 71];
     let n = spread_refusal(&mut space, a);

@@ -39,7 +39,7 @@ returns : tie.Need-returns
 returns c =
     let o = c .before .before .before .before .before .before .before .before .before in
     let n = c .before .before .before .before .before .before .spread-refusal in
-    (n .ensures .0, c .before .before .copy .ensures ∙ ap (pasted (o .args .out .now) (o .args .at)) (ap (slice 0 (n .result)) (n .ensures .1 .1) ∙ taken-out _ (refusal (o .args .a)) (n .result) (n .ensures .0) (omega arith)))
+    (n .ensures .0, (n .ensures .1 .0, c .before .before .copy .ensures ∙ ap (pasted (o .args .out .now) (o .args .at)) (ap (slice 0 (n .result)) (n .ensures .1 .1) ∙ taken-out _ (refusal (o .args .a)) (n .result) (n .ensures .0) (omega arith))))
 
 pub put-refusal-spec : {M : Type 1} → statement M
 put-refusal-spec =

@@ -1,0 +1,5 @@
+-- The definitions of `feed`.
+-- what a head asks for
+pub mod Cases
+-- the lines that answer a feed
+pub mod Reply

@@ -1,0 +1,3 @@
+-- The definitions of `kto`.
+-- what the program writes
+pub mod Says

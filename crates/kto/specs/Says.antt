@@ -1,0 +1,25 @@
+-- What the program writes for what it reads. Assumes nothing.
+use mathlib.Core.Path.{_≡_}
+use mathlib.Core.Logic.{_≢_}
+use mathlib.Core.List.{List}
+use Prim.Native.Nat.{ℕ, _≤_, _<_}
+use lib.ListN.{length, take}
+use Rattle.answer.specs.declared.Answer.{Answer}
+use Rattle.answer.specs.Table.{answer}
+use Rattle.line.specs.Line.{refusal}
+use Rattle.list.specs.House.{house}
+use Rattle.image.specs.Kinds.{values}
+use Rattle.image.specs.Place.{Reads}
+use Rattle.demands.specs.Checks.{Checks}
+
+-- "The program reads at most 65,536 bytes"
+abbrev pub most : ℕ
+most = 65536
+
+-- "and writes the image or one line"; d is the buffer that it lends, as long as what it reads at most, d′ that buffer afterwards
+pub data Says (input said : List ℕ) : Type 0 where
+  -- "Longer input gives `refused 1 0 65536` and LF"
+  longer : most < length input → said ≡ refusal (answer 1 0 most) → Says input said
+  refused : length input ≤ most → (a : Answer) (d d′ : List ℕ) → length d ≡ most → Checks input d a d′ → a .code ≢ 0 → said ≡ refusal a → Says input said
+  -- the image, which the reader takes for one of the same length
+  written : length input ≤ most → (a : Answer) (d d′ : List ℕ) → length d ≡ most → Checks input d a d′ → a .code ≡ 0 → said ≡ take (a .place) d′ → Reads values house said a → Says input said

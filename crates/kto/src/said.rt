@@ -1,0 +1,44 @@
+// What the program writes: the image of a good file, read back before it is written, or one line.
+use answer::Answer;
+use line::answer_line::put_refusal;
+use unit::check::check;
+use unit::read::read;
+ghost use mathlib.Core.Path.{_≡_};
+ghost use lib.ListN.{length, take};
+ghost use Rattle.io.specs.Counts.{Counts};
+ghost use Rattle.kto.specs.Says.{Says};
+
+// The most bytes that count.
+pub(crate) const MOST: usize = 65536;
+
+// The answer to longer input: of the file as the program reads it, no more is known.
+fn longer() -> Answer
+    ensures { λ r. ⌜ r ≡ record { code = 1; row = 0; place = 65536 } ⌝ }
+{
+    Answer {
+        code: Answer::TOO_LONG,
+        row: 0,
+        place: MOST,
+    }
+}
+
+// Puts what is written for an input to the start of a buffer, and answers how many bytes it is.
+pub(crate) fn said(input: &[u8], out: &mut [u8]) -> usize
+    requires { ⌜ length (now out) ≡ 65536 ⌝ }
+    ensures is { λ r. ⌜ Says (now (input .entry)) (take r (now (out .exit))) ⌝ }
+    ensures within { λ r. ⌜ Counts r (now (out .exit)) ⌝ }
+{
+    if MOST < input.len() {
+        return put_refusal(out, 0, longer());
+    }
+    let a = check(input, out);
+    if a.code != Answer::ACCEPTED {
+        return put_refusal(out, 0, a);
+    }
+    let n = a.place;
+    let back = read(&out[..n]);
+    if back.code != Answer::ACCEPTED {
+        return put_refusal(out, 0, back);
+    }
+    n
+}

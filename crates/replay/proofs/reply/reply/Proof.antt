@@ -1,0 +1,133 @@
+-- `reply::reply` meets its contract: an arm for each op, and the line of a broken feed. Assumes nothing.
+use mathlib.Core.Path.{_≡_, sym, _∙_}
+use Prim.Native.Nat.{_≤_}
+use native.Mathlib.Omega.{arith}
+use lib.ListN.{length, take}
+use lib.Seq.{length-take-le}
+use Rattle.feed.specs.Reply.{brokenLine}
+use Rattle.feed.proofs.Replies.{put-taken}
+use Rattle.replay.specs.Replies.{broken}
+use Rattle.replay.proofs.Replying.{in-check, in-read, in-pick, bytes-most, take-most, counts, put-long, put-check, put-read, put-pick}
+use borrow.Author.Needs.{needs}
+use Rattle.replay.proofs.reply.reply.Statement.{statement}
+use Rattle.replay.proofs.reply.reply.Tie as tie
+
+case-in-requires : tie.Need-case-in-requires
+case-in-requires c κs = search needs
+
+enum-known-room : tie.Need-enum-known-room
+enum-known-room c = search needs
+
+bytes-behind-requires : tie.Need-bytes-behind-requires
+bytes-behind-requires c κs =
+    in-check (c .before .before .before .before .before .before .before .args .feed .now) _ _ (sym (c .before .room .given .1) ∙ c .before .before .before .case-in .ensures) .0
+
+slice-relend-prefix-checked : tie.Need-slice-relend-prefix-checked
+slice-relend-prefix-checked c =
+    let k = in-check (c .before .before .before .before .before .before .before .before .args .feed .now) _ _ (sym (c .before .before .room .given .1) ∙ c .before .before .before .before .case-in .ensures) in
+    omega (arith, k .1 .1, c .before .before .before .before .before .before .before .before .pre .0)
+
+slice-aggregate-checked : tie.Need-slice-aggregate-checked
+slice-aggregate-checked c =
+    let k = in-check (c .before .before .before .before .before .before .before .before .before .args .feed .now) _ _ (sym (c .before .before .before .room .given .1) ∙ c .before .before .before .before .before .case-in .ensures) in
+    sym (length-take-le _ (c .before .before .before .before .before .before .before .before .before .args .image .now) (omega (arith, k .1 .1, c .before .before .before .before .before .before .before .before .before .pre .0)))
+
+checked-requires : tie.Need-checked-requires
+checked-requires c κs =
+    let k = in-check (c .before .before .before .before .before .before .before .before .before .before .args .feed .now) _ _ (sym (c .before .before .before .before .room .given .1) ∙ c .before .before .before .before .before .before .case-in .ensures) in
+    (take-most _ _ _ (k .1 .1), c .before .before .before .before .before .before .before .before .before .before .pre .1)
+
+enum-known-size : tie.Need-enum-known-size
+enum-known-size c = search needs
+
+bytes-behind-requires-2 : tie.Need-bytes-behind-requires-2
+bytes-behind-requires-2 c κs =
+    in-read (c .before .before .before .before .before .before .before .args .feed .now) _ (sym (c .before .size .given .1) ∙ c .before .before .before .case-in .ensures) .0
+
+measured-requires : tie.Need-measured-requires
+measured-requires c κs =
+    (bytes-most (c .before .before .before .before .before .before .before .before .before .args .feed .now) _ _ (c .before .bytes-behind2 .ensures) (in-read (c .before .before .before .before .before .before .before .before .before .args .feed .now) _ (sym (c .before .before .before .size .given .1) ∙ c .before .before .before .before .before .case-in .ensures) .1), c .before .before .before .before .before .before .before .before .before .pre .1)
+
+enum-known-row : tie.Need-enum-known-row
+enum-known-row c = search needs
+
+bytes-behind-requires-3 : tie.Need-bytes-behind-requires-3
+bytes-behind-requires-3 c κs =
+    in-pick (c .before .before .before .before .before .before .before .args .feed .now) _ _ _ (sym (c .before .row .given .1) ∙ c .before .before .before .case-in .ensures) .0
+
+part-picked-requires : tie.Need-part-picked-requires
+part-picked-requires c κs =
+    (bytes-most (c .before .before .before .before .before .before .before .before .before .args .feed .now) _ _ (c .before .bytes-behind3 .ensures) (in-pick (c .before .before .before .before .before .before .before .before .before .args .feed .now) _ _ _ (sym (c .before .before .before .row .given .1) ∙ c .before .before .before .before .before .case-in .ensures) .1), c .before .before .before .before .before .before .before .before .before .pre .1)
+
+enum-told : tie.Need-enum-told
+enum-told c = search needs
+
+put-broken-requires : tie.Need-put-broken-requires
+put-broken-requires c κs = search needs
+
+same-length : tie.Need-same-length
+same-length c = search needs
+
+same-length-2 : tie.Need-same-length-2
+same-length-2 c = search needs
+
+returns : tie.Need-returns
+returns c =
+    let s = c .before .before .before .before .before .before .before .before .before .before .before .before .before .before .before .args .feed .now in
+    let e = sym (c .before .before .before .before .before .before .before .before .before .room .given .1) ∙ c .before .before .before .before .before .before .before .before .before .before .before .case-in .ensures in
+    let k = in-check s _ _ e in
+    (put-check s (c .before .before .before .before .before .before .before .before .before .before .before .before .before .before .before .args .number) _ _ _ _ _ _ e (c .before .before .before .before .before .before .before .bytes-behind .ensures) (length-take-le _ (c .before .before .before .before .before .before .before .before .before .before .before .before .before .before .before .args .image .now) (omega (arith, k .1 .1, c .before .before .before .before .before .before .before .before .before .before .before .before .before .before .before .pre .0))) (c .before .before .before .before .checked .ensures .0), c .before .before .before .before .checked .ensures .1)
+
+same-length-3 : tie.Need-same-length-3
+same-length-3 c = search needs
+
+returns-2 : tie.Need-returns-2
+returns-2 c =
+    (put-read (c .before .before .before .before .before .before .before .before .before .before .before .before .args .feed .now) (c .before .before .before .before .before .before .before .before .before .before .before .before .args .number) _ _ _ (sym (c .before .before .before .before .before .before .size .given .1) ∙ c .before .before .before .before .before .before .before .before .case-in .ensures) (c .before .before .before .before .bytes-behind2 .ensures) (c .before .before .measured .ensures .0), c .before .before .measured .ensures .1)
+
+same-length-4 : tie.Need-same-length-4
+same-length-4 c = search needs
+
+returns-3 : tie.Need-returns-3
+returns-3 c =
+    (put-pick (c .before .before .before .before .before .before .before .before .before .before .before .before .args .feed .now) (c .before .before .before .before .before .before .before .before .before .before .before .before .args .number) _ _ _ _ _ (sym (c .before .before .before .before .before .before .row .given .1) ∙ c .before .before .before .before .before .before .before .before .case-in .ensures) (c .before .before .before .before .bytes-behind3 .ensures) (c .before .before .part-picked .ensures .0), c .before .before .part-picked .ensures .1)
+
+same-length-5 : tie.Need-same-length-5
+same-length-5 c = search needs
+
+returns-4 : tie.Need-returns-4
+returns-4 c =
+    let p = c .before .before .put-broken in
+    let l = brokenLine (c .before .before .before .before .before .before .before .before .before .before .args .number) in
+    let d = c .before .before .before .before .before .before .before .before .before .before .args .line .now in
+    let h : length l ≤ length d = omega (arith, p .ensures .1, c .before .before .before .before .before .before .before .before .before .before .pre .1) in
+    let w = put-long l d (p .result) _ h (p .ensures .0) in
+    (broken (sym (c .before .before .before .before .before .before .case-in .ensures) ∙ c .before .before .before .before .enum-told .given .1) (put-taken l d (p .result) _ h (p .ensures .0)), counts (p .result) _ (omega arith))
+
+pub reply-spec : {M : Type 1} → statement M
+reply-spec =
+    tie.close
+    (tie.spec
+    case-in-requires
+    enum-known-room
+    bytes-behind-requires
+    slice-relend-prefix-checked
+    slice-aggregate-checked
+    checked-requires
+    enum-known-size
+    bytes-behind-requires-2
+    measured-requires
+    enum-known-row
+    bytes-behind-requires-3
+    part-picked-requires
+    enum-told
+    put-broken-requires
+    same-length
+    same-length-2
+    returns
+    same-length-3
+    returns-2
+    same-length-4
+    returns-3
+    same-length-5
+    returns-4)

@@ -1,0 +1,56 @@
+-- The line that answers a case of a feed. Assumes nothing.
+use mathlib.Core.Path.{_≡_}
+use mathlib.Core.Bool.{Bool, true, false, cond}
+use mathlib.Core.List.{List, []}
+use Prim.Native.Nat.{ℕ}
+use lib.Dec.{eqb}
+use lib.ListN.{length, take}
+use Rattle.answer.specs.declared.Answer.{Answer}
+use Rattle.list.specs.House.{house}
+use Rattle.image.specs.Kinds.{values}
+use Rattle.image.specs.Place.{Reads}
+use Rattle.image.specs.Pick.{Picks}
+use Rattle.demands.specs.Checks.{Checks}
+use Rattle.feed.specs.declared.case.Case.{Case}
+use Rattle.feed.specs.declared.case.Case.the-variants.{Check, Read, Pick, Broken}
+use Rattle.feed.specs.Cases.{caseIn, bytesIn}
+use Rattle.feed.specs.Reply.{answerLine, brokenLine}
+
+-- "HEX is the image of an accepted check .. else nothing": the buffer's first bytes, as many as the answer says
+abbrev pub imageIn : Answer → List ℕ → List ℕ
+imageIn a d = cond (eqb (a .code) 0) (take (a .place) d) []
+
+-- "0 check": the file s, the buffer before and after, the line
+pub record Checked (s d d′ l : List ℕ) : Type 0 where
+  pub answer : Answer
+  pub checks : Checks s d answer d′
+  pub line : l ≡ answerLine answer (imageIn answer d′)
+
+-- "1 read"
+pub record Measured (s l : List ℕ) : Type 0 where
+  pub answer : Answer
+  pub reads : Reads values house s answer
+  pub line : l ≡ answerLine answer []
+
+-- "2 pick": "the part of an accepted pick", of a refused one the empty part
+pub record Picked (s : List ℕ) (row n : ℕ) (l : List ℕ) : Type 0 where
+  pub answer : Answer
+  pub part : List ℕ
+  pub picks : Picks values house s row n answer part
+  pub line : l ≡ answerLine answer part
+
+-- s is the feed from the case on, as far as it was read; k is the case's number; l the line
+pub data Replies (s : List ℕ) (k : ℕ) (l : List ℕ) : Type 0 where
+  -- for a buffer of so much room
+  checked : (room size : ℕ) → caseIn s ≡ Check room size → (d d′ : List ℕ) → length d ≡ room → Checked (bytesIn size s) d d′ l → Replies s k l
+  measured : (size : ℕ) → caseIn s ≡ Read size → Measured (bytesIn size s) l → Replies s k l
+  picked : (row n size : ℕ) → caseIn s ≡ Pick row n size → Picked (bytesIn size s) row n l → Replies s k l
+  -- "A feed that breaks off, names another op or a greater length ends with the line `feed broken at case N` (N from 0)"
+  broken : caseIn s ≡ Broken → l ≡ brokenLine k → Replies s k l
+
+-- "and nothing after it is read"
+abbrev pub goesOn : Case → Bool
+goesOn (Check room size) = true
+goesOn (Read size) = true
+goesOn (Pick row n size) = true
+goesOn Broken = false

@@ -1,0 +1,85 @@
+// Answers a feed of cases from standard input, with a line for each to standard output.
+mod reply; // reply.rt: the line for a case, computed on slices
+
+use feed::case::Case;
+use feed::case::case_in;
+use feed::case::case_of;
+use feed::case::size_of;
+use libc::STDIN_FILENO;
+use libc::STDOUT_FILENO;
+use reply::reply;
+ghost use mathlib.Core.Path.{_≡_};
+ghost use Prim.Native.Nat.{_+_, _≤_};
+ghost use lib.ListN.{length};
+ghost use Rattle.io.specs.Counts.{Counts};
+ghost use Rattle.replay.specs.Replies.{goesOn};
+
+// Whether more is read behind a case.
+fn goes_on(c: Case) -> bool
+    ensures { λ r. ⌜ r ≡ goesOn c ⌝ }
+{
+    match c {
+        Case::Check { room: _, size: _ } => true,
+        Case::Read { size: _ } => true,
+        Case::Pick {
+            row: _,
+            nth: _,
+            size: _,
+        } => true,
+        Case::Broken => false,
+    }
+}
+
+// Reads between two places of a buffer, as far as the feed goes; how many bytes.
+fn fill(space: &mut [u8], from: usize, end: usize) -> usize
+    requires { ⌜ (from ≤ end) × (end ≤ length (now space)) ⌝ }
+    ensures { λ r. ⌜ from + r ≤ end ⌝ }
+{
+    io::read_full(STDIN_FILENO, &mut space[from..end])
+}
+
+// Reads a case as far as the feed goes, its head and then as many bytes as that says; how many bytes there are.
+fn take_case(space: &mut [u8]) -> usize
+    requires { ⌜ length (now space) ≡ 1048590 ⌝ }
+    ensures { λ r. ⌜ Counts r (now (space .exit)) ⌝ }
+{
+    let got = fill(space, 0, 13);
+    if got < 13 {
+        return got;
+    }
+    let end = 13 + size_of(case_of(space));
+    13 + fill(space, 13, end)
+}
+
+// One case; whether the feed goes on behind it. A line is written as soon as it is there.
+fn answer_case(number: u64, space: &mut [u8], image: &mut [u8], line: &mut [u8]) -> bool
+    requires { ⌜ (length (now space) ≡ 1048590) × ((length (now image) ≡ 1048576) × (length (now line) ≡ 2097218)) ⌝ }
+{
+    let got = take_case(space);
+    if got == 0 {
+        return false;
+    }
+    let n = reply(&space[..got], number, image, line);
+    if io::write_all(STDOUT_FILENO, &line[..n]) {
+        return goes_on(case_in(&space[..got]));
+    }
+    false
+}
+
+// A proved loop ends, and nothing says that a feed does: the number of the case is what ends it.
+fn answer_all(space: &mut [u8], image: &mut [u8], line: &mut [u8])
+    requires { ⌜ (length (now space) ≡ 1048590) × ((length (now image) ≡ 1048576) × (length (now line) ≡ 2097218)) ⌝ }
+{
+    let mut number: u64 = 0;
+    while number < u64::MAX && answer_case(number, space, image, line) {
+        number += 1;
+    }
+}
+
+// The longest case, the largest room and the longest line.
+fn main() {
+    let mut space = [0u8; 1048590];
+    let mut image = [0u8; 1048576];
+    let mut line = [0u8; 2097218];
+    answer_all(&mut space, &mut image, &mut line);
+}

@@ -1,0 +1,85 @@
+// The line for a case, computed on slices.
+use answer::Answer;
+use feed::case::Case;
+use feed::case::HEAD;
+use feed::case::case_in;
+use feed::reply::put_answer;
+use feed::reply::put_broken;
+use unit::check::check;
+use unit::pick::pick;
+use unit::pick::picked;
+use unit::read::read;
+ghost use mathlib.Core.Path.{_≡_};
+ghost use Prim.Native.Nat.{_+_, _≤_};
+ghost use lib.ListN.{length, take};
+ghost use Rattle.io.specs.Counts.{Counts};
+ghost use Rattle.feed.specs.Cases.{bytesIn};
+ghost use Rattle.feed.specs.Reply.{answerLine};
+ghost use Rattle.replay.specs.Replies.{Checked, Measured, Picked, Replies};
+
+// The line of an answer and the first n bytes of s, put to the start of a buffer that holds any such; how many bytes it is.
+fn put_line(a: Answer, s: &[u8], n: usize, line: &mut [u8]) -> usize
+    requires { ⌜ 64 + (length (now s) + length (now s)) ≤ length (now line) ⌝ }
+    ensures is { λ r. ⌜ take r (now (line .exit)) ≡ answerLine a (take n (now (s .entry))) ⌝ }
+    ensures within { λ r. ⌜ Counts r (now (line .exit)) ⌝ }
+{
+    put_answer(a, s, 0, n, line)
+}
+
+// A check, for a buffer with the case's room.
+fn checked(file: &[u8], image: &mut [u8], line: &mut [u8]) -> usize
+    requires { ⌜ (length (now image) ≤ 1048576) × (2097218 ≤ length (now line)) ⌝ }
+    ensures is { λ r. ⌜ Checked (now (file .entry)) (now (image .entry)) (now (image .exit)) (take r (now (line .exit))) ⌝ }
+    ensures within { λ r. ⌜ Counts r (now (line .exit)) ⌝ }
+{
+    let a = check(file, image);
+    if a.code != Answer::ACCEPTED {
+        return put_line(a, image, 0, line);
+    }
+    let n = a.place;
+    put_line(a, image, n, line)
+}
+
+// A read.
+fn measured(run: &[u8], line: &mut [u8]) -> usize
+    requires { ⌜ (length (now run) ≤ 1048577) × (2097218 ≤ length (now line)) ⌝ }
+    ensures is { λ r. ⌜ Measured (now (run .entry)) (take r (now (line .exit))) ⌝ }
+    ensures within { λ r. ⌜ Counts r (now (line .exit)) ⌝ }
+{
+    put_line(read(run), run, 0, line)
+}
+
+// A pick, with its part.
+fn part_picked(run: &[u8], row: usize, nth: usize, line: &mut [u8]) -> usize
+    requires { ⌜ (length (now run) ≤ 1048577) × (2097218 ≤ length (now line)) ⌝ }
+    ensures is { λ r. ⌜ Picked (now (run .entry)) row nth (take r (now (line .exit))) ⌝ }
+    ensures within { λ r. ⌜ Counts r (now (line .exit)) ⌝ }
+{
+    let a = pick(run, row, nth);
+    let part = picked(run, row, nth);
+    put_line(a, part, part.len(), line)
+}
+
+// A case's bytes behind its head.
+fn bytes_behind<'a>(feed: &'a [u8], size: usize) -> &'a [u8]
+    requires { ⌜ 13 + size ≤ length (now feed) ⌝ }
+    ensures { λ r. ⌜ now r ≡ bytesIn size (now (feed .entry)) ⌝ }
+{
+    let end = HEAD + size;
+    let behind = &feed[HEAD..end];
+    behind
+}
+
+// The line for the case that a feed begins with, its number counted from 0; how many bytes it is. Of the feed, no more than the case need be there.
+pub(crate) fn reply(feed: &[u8], number: u64, image: &mut [u8], line: &mut [u8]) -> usize
+    requires { ⌜ (1048576 ≤ length (now image)) × (2097218 ≤ length (now line)) ⌝ }
+    ensures is { λ r. ⌜ Replies (now (feed .entry)) number (take r (now (line .exit))) ⌝ }
+    ensures within { λ r. ⌜ Counts r (now (line .exit)) ⌝ }
+{
+    match case_in(feed) {
+        Case::Check { room, size } => checked(bytes_behind(feed, size), &mut image[..room], line),
+        Case::Read { size } => measured(bytes_behind(feed, size), line),
+        Case::Pick { row, nth, size } => part_picked(bytes_behind(feed, size), row, nth, line),
+        Case::Broken => put_broken(number, line),
+    }
+}

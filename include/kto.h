@@ -1,0 +1,84 @@
+/* kto.h: the reconciliation unit for C.
+ *
+ * Three calls: a statement file (camt.053.001.08, Austrian subset) is checked and its record image written; a run of bytes is read as an image;
+ * a value is picked from an image. Link with libunit.a (x86-64 Linux); it needs the C library and nothing else.
+ *
+ * Every call takes any bytes and any numbers. There is nothing to set up, no memory is allocated, nothing is kept between calls, and
+ * calls from several threads do not meet as long as they lend different buffers.
+ *
+ * What is lent. A buffer is a pointer and its length in bytes. While a call runs, nobody else may change what is lent for reading, or read or
+ * change what is lent for writing, and what is lent for writing may not overlap anything else that is lent to the same call. Of a
+ * buffer of length 0 the pointer must not be null either, but nothing is read or written through it. The pointers to single numbers must point
+ * to numbers of 64 bits that may be written, each to its own; the call sets each of them, whatever its answer is.
+ *
+ * What comes back. The result is the code: KTO_ACCEPTED, or the number of the one refusal. With it go a row (the number of the element in the
+ * house list, 0 for none) and a place (a byte offset, from 0).
+ */
+#ifndef KTO_H
+#define KTO_H
+
+#include <stdint.h>
+
+#ifdef __cplusplus
+extern "C" {
+#endif
+
+/* The most bytes that a file or a run may have. */
+#define KTO_LIMIT 1048576
+
+enum {
+    KTO_ACCEPTED = 0,
+    /* of a file */
+    KTO_TOO_LONG = 1,          /* more than KTO_LIMIT bytes; also of a run */
+    KTO_NOT_UTF8 = 2,          /* place: the start of the first bad sequence */
+    KTO_NOT_HOUSE_XML = 3,     /* place: the most leading bytes that still begin some good text */
+    KTO_WRONG_ROOT = 4,
+    KTO_NO_CHILD = 5,          /* row: the parent's */
+    KTO_OUT_OF_ORDER = 6,
+    KTO_TOO_MANY = 7,
+    KTO_ABSENT = 8,            /* row: the lowest absent one; place: its parent's */
+    KTO_WRONG_ATTRIBUTES = 9,
+    KTO_TEXT_IN_GROUP = 10,    /* place: the first byte of it */
+    KTO_EMPTY = 11,
+    KTO_BAD_VALUE = 12,
+    KTO_RULE_BROKEN = 13,
+    KTO_NO_ROOM = 14,          /* the file is good; place: the bytes that its image needs */
+    /* of a run */
+    KTO_NO_HEADER = 15,
+    KTO_WRONG_VERSION = 16,
+    KTO_BROKEN_IMAGE = 17,     /* place: behind the most whole items that begin some image */
+    /* of a pick */
+    KTO_NO_SUCH_LEAF = 18
+};
+
+/* Checks the file in[0 .. in_len) and writes its image into out.
+ *
+ * KTO_ACCEPTED: out[0 .. *place) is the image, the bytes of out behind it are as they were, *row is 0.
+ * Any other code: no byte of out is changed. Of the codes 4 to 13, *row is the element's row and *place its '<', but for what is said at the code.
+ *
+ * A buffer as long as the file is always long enough: an image is never longer than its file. A shorter one is safe: where the image
+ * does not fit, the answer is KTO_NO_ROOM and *place says how many bytes it needs. Any in_len is safe; above KTO_LIMIT the answer is KTO_TOO_LONG.
+ */
+uint64_t kto_check(const uint8_t *in, uint64_t in_len, uint8_t *out, uint64_t out_len, uint64_t *row, uint64_t *place);
+
+/* Reads the image that run[0 .. run_len) begins with; what stands behind it does not matter.
+ *
+ * KTO_ACCEPTED: *place is its length. To go over a run of images, call again with run + *place and run_len - *place.
+ * Any other code is 1, 15, 16 or 17, and *place says where.
+ */
+uint64_t kto_read(const uint8_t *run, uint64_t run_len, uint64_t *place);
+
+/* Picks the value of the n-th leaf, counted from 0, of a row in the image that run[0 .. run_len) begins with.
+ *
+ * KTO_ACCEPTED: the value is run[*place .. *place + *len), a part of the run that was lent, without row byte and text length. It is not copied:
+ * it lives as long as the run does.
+ * Any other code: *len is 0. The whole image is judged first, so an image that is broken behind the value is refused as kto_read refuses it;
+ * KTO_NO_SUCH_LEAF (*place 0) where the row is no leaf or has no such item. Any row and any n are safe.
+ */
+uint64_t kto_pick(const uint8_t *run, uint64_t run_len, uint64_t row, uint64_t n, uint64_t *place, uint64_t *len);
+
+#ifdef __cplusplus
+}
+#endif
+
+#endif

@@ -1,0 +1,93 @@
+/* Links the archive and checks a handful of answers against document 01's examples. Says what differs; ends with 1 if anything does. */
+#include "kto.h"
+
+/* The C library's, without its headers: the kit's compiler has none. */
+int printf(const char *form, ...);
+int memcmp(const void *one, const void *other, __SIZE_TYPE__ length);
+void *memset(void *bytes, int value, __SIZE_TYPE__ length);
+
+static int faults;
+
+static void same(const char *what, uint64_t is, uint64_t should) {
+    if (is != should) {
+        printf("c: %s is %llu, should be %llu\n", what, (unsigned long long)is, (unsigned long long)should);
+        faults++;
+    }
+}
+
+#define SPACE "urn:iso:std:iso:20022:tech:xsd:camt.053.001.08"
+
+/* "A whole one", and its image of 67 bytes. */
+static const char whole[] =
+    "<Document xmlns=\"" SPACE "\"><BkToCstmrStmt>"
+    "<GrpHdr><MsgId>M1</MsgId><CreDtTm>2024-03-01T06:00:00Z</CreDtTm></GrpHdr>"
+    "<Stmt><Id>S1</Id><Acct><Id><Othr><Id>9</Id></Othr></Id></Acct>"
+    "<Bal><Tp><CdOrPrtry><Cd>CLBD</Cd></CdOrPrtry></Tp><Amt Ccy=\"EUR\">5.00</Amt><CdtDbtInd>CRDT</CdtDbtInd>"
+    "<Dt><Dt>2024-02-29</Dt></Dt></Bal></Stmt></BkToCstmrStmt></Document>";
+
+static const uint8_t image[67] = {
+    0x4B, 0x54, 0x4F, 0x00, 0x01, 0x01, 0x02, 0x03, 0x04, 0x00, 0x02, 0x4D, 0x31, 0x05, 0x07, 0xE8, 0x03, 0x01, 0x06, 0x00, 0x00, 0x00, 0x00,
+    0x00, 0x00, 0x03, 0x48, 0x06, 0x07, 0x00, 0x02, 0x53, 0x31, 0x09, 0x0A, 0x0C, 0x0D, 0x00, 0x01, 0x39, 0x0F, 0x10, 0x11, 0x12, 0x02, 0x13,
+    0x45, 0x55, 0x52, 0x00, 0x00, 0x00, 0x00, 0x00, 0x00, 0x00, 0x00, 0x05, 0x14, 0x01, 0x15, 0x16, 0x07, 0xE8, 0x02, 0x1D, 0x00,
+};
+
+static uint8_t out[KTO_LIMIT];
+static uint8_t large[KTO_LIMIT + 1];
+
+/* A check of a text for so much room: the answer, and what is left in the buffer. */
+static void checks(const char *what, const char *text, uint64_t length, uint64_t room, uint64_t code, uint64_t row, uint64_t place) {
+    uint64_t r = 77, p = 77;
+    memset(out, 0xA5, sizeof out);
+    printf("c: check of %s\n", what);
+    same("the code", kto_check((const uint8_t *)text, length, out, room, &r, &p), code);
+    same("the row", r, row);
+    same("the place", p, place);
+    uint64_t kept = code == KTO_ACCEPTED ? place : 0;
+    for (uint64_t i = kept; i < sizeof out; i++) {
+        if (out[i] != 0xA5) {
+            same("a byte that must stay", out[i], 0xA5);
+            break;
+        }
+    }
+}
+
+static void reads(const char *what, const uint8_t *run, uint64_t length, uint64_t code, uint64_t place) {
+    uint64_t p = 77;
+    printf("c: read of %s\n", what);
+    same("the code", kto_read(run, length, &p), code);
+    same("the place", p, place);
+}
+
+static void picks(uint64_t row, uint64_t n, uint64_t code, uint64_t place, uint64_t length) {
+    uint64_t p = 77, l = 77;
+    printf("c: pick of row %llu, number %llu\n", (unsigned long long)row, (unsigned long long)n);
+    same("the code", kto_pick(image, sizeof image, row, n, &p, &l), code);
+    same("the place", p, place);
+    same("the length", l, length);
+}
+
+int main(void) {
+    uint64_t length = sizeof whole - 1;
+    checks("nothing", "", 0, sizeof out, KTO_NOT_HOUSE_XML, 0, 0);
+    checks("<a></b>", "<a></b>", 7, sizeof out, KTO_NOT_HOUSE_XML, 0, 5);
+    checks("<Document/>", "<Document/>", 11, sizeof out, KTO_WRONG_ROOT, 1, 0);
+    checks("the whole example", whole, length, sizeof out, KTO_ACCEPTED, 0, 67);
+    same("the image", memcmp(out, image, 67) == 0, 1);
+    checks("the whole example for 67 bytes", whole, length, 67, KTO_ACCEPTED, 0, 67);
+    checks("the whole example for 66 bytes", whole, length, 66, KTO_NO_ROOM, 0, 67);
+    checks("a file that is too long", (const char *)large, sizeof large, sizeof out, KTO_TOO_LONG, 0, KTO_LIMIT);
+
+    reads("the image", image, sizeof image, KTO_ACCEPTED, 67);
+    reads("four bytes of it", image, 4, KTO_NO_HEADER, 0);
+    reads("all but its last byte", image, 66, KTO_BROKEN_IMAGE, 66);
+    reads("a run that is too long", large, sizeof large, KTO_TOO_LONG, KTO_LIMIT);
+
+    picks(4, 0, KTO_ACCEPTED, 11, 2);
+    picks(19, 0, KTO_ACCEPTED, 46, 12);
+    picks(4, 1, KTO_NO_SUCH_LEAF, 0, 0);
+    picks(6, 0, KTO_NO_SUCH_LEAF, 0, 0);
+    picks(UINT64_MAX, UINT64_MAX, KTO_NO_SUCH_LEAF, 0, 0);
+
+    printf("c: %d faults\n", faults);
+    return faults != 0;
+}
