@@ -16,6 +16,7 @@
 pub mod any;
 pub mod checks;
 pub mod feed;
+pub mod inputs;
 pub mod message;
 pub mod random;
 pub mod runs;

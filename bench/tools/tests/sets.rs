@@ -41,7 +41,7 @@ fn sets_are_large_enough_and_have_every_answer() {
 
 #[test]
 fn sets_are_the_same_each_time() {
-    for kind in ["xml", "values", "runs", "checks"] {
+    for kind in ["xml", "values", "runs", "checks", "feed"] {
         assert!(set(kind, "one") == set(kind, "two"), "{kind}");
     }
 }
@@ -60,7 +60,7 @@ fn replayed(feed: Vec<u8>) -> String {
 
 #[test]
 fn replay_answers_the_sets() {
-    for kind in ["runs", "checks"] {
+    for kind in ["runs", "checks", "feed"] {
         let (feed, lines) = set(kind, "replay");
         assert!(replayed(feed) == lines, "{kind}");
     }

@@ -1,5 +1,5 @@
 //! `sets KIND DIR`: writes a stored set for a program of the gate, the feed as DIR/stdin and the lines that the independent
-//! program expects as DIR/stdout. KIND is xml, values, runs or checks. The sets are fixed: each run writes the same bytes.
+//! program expects as DIR/stdout. KIND is xml, values, runs, checks, feed or kto. The sets are fixed: each run writes the same bytes.
 
 use std::fs;
 use std::path::Path;
@@ -32,6 +32,8 @@ fn main() -> ExitCode {
         Some("values") => values(),
         Some("runs") => replayed(cases::runs::fixed_set()),
         Some("checks") => replayed(cases::checks::fixed_set()),
+        Some("feed") => broken_off(replayed([cases::checks::fixed_set(), cases::runs::fixed_set()].concat())),
+        Some("kto") => return inputs(&arguments),
         _ => return usage(),
     };
     let [kind, folder] = &arguments[..] else {
@@ -50,7 +52,7 @@ fn main() -> ExitCode {
 }
 
 fn usage() -> ExitCode {
-    eprintln!("usage: sets xml|values|runs|checks DIR");
+    eprintln!("usage: sets xml|values|runs|checks|feed|kto DIR");
     ExitCode::from(2)
 }
 
@@ -94,4 +96,41 @@ fn replayed(cases: Vec<Case>) -> Set {
         set.add(&case.feed(), &case.line());
     }
     set
+}
+
+/// The same with a case behind it that the feed breaks off in.
+fn broken_off(mut set: Set) -> Set {
+    let whole = Case::read("KTO").feed();
+    let line = format!("feed broken at case {}", set.count);
+    set.add(&whole[..whole.len() - 1], &line);
+    set
+}
+
+/// One run for each input: the first as stdin and stdout, and each as NUMBER.in and NUMBER.out.
+fn inputs(arguments: &[String]) -> ExitCode {
+    let [kind, folder] = arguments else {
+        return usage();
+    };
+    let runs = cases::inputs::fixed_set();
+    let written = runs.iter().enumerate().try_for_each(|(number, input)| {
+        let folder = Path::new(folder);
+        let said = independent::program(input);
+        fs::create_dir_all(folder)?;
+        if number == 0 {
+            fs::write(folder.join("stdin"), input)?;
+            fs::write(folder.join("stdout"), &said)?;
+        }
+        fs::write(folder.join(format!("{number}.in")), input)?;
+        fs::write(folder.join(format!("{number}.out")), &said)
+    });
+    match written {
+        Ok(()) => {
+            println!("{kind}: {} inputs", runs.len());
+            ExitCode::SUCCESS
+        }
+        Err(error) => {
+            eprintln!("sets: {folder}: {error}");
+            ExitCode::from(2)
+        }
+    }
 }

@@ -1,0 +1,126 @@
+//! Who is timed. Each judges a whole file, or a whole image, in one call, and says whether it accepts.
+
+use crate::files::File;
+
+pub struct Contender {
+    pub name: &'static str,
+    pub reads_image: bool,
+    pub is_unit: bool,
+    pub judge: fn(&[u8]) -> bool,
+}
+
+impl Contender {
+    pub fn input<'a>(&self, file: &'a File) -> &'a [u8] {
+        if self.reads_image {
+            &file.image
+        } else {
+            &file.text
+        }
+    }
+}
+
+/// The unit's check comes first: the others are compared with it.
+pub fn all(schema: &str) -> Result<Vec<Contender>, String> {
+    let mut all = vec![
+        Contender { name: "unit check", reads_image: false, is_unit: true, judge: unit::check },
+        Contender { name: "unit read", reads_image: true, is_unit: true, judge: unit::read },
+        Contender { name: "independent check", reads_image: false, is_unit: false, judge: independent_check },
+        Contender {
+            name: "independent read",
+            reads_image: true,
+            is_unit: false,
+            judge: |image| independent::read(image).code.number() == 0,
+        },
+    ];
+    others::add(&mut all, schema)?;
+    Ok(all)
+}
+
+fn independent_check(text: &[u8]) -> bool {
+    // An image is never longer than its file.
+    let mut image = vec![0; text.len()];
+    independent::check(text, &mut image).code.number() == 0
+}
+
+/// The unit, by its C exports (include/kto.h).
+mod unit {
+    use std::cell::RefCell;
+
+    extern "C" {
+        fn kto_check(
+            input: *const u8,
+            input_len: usize,
+            out: *mut u8,
+            out_len: usize,
+            row: *mut u64,
+            place: *mut u64,
+        ) -> u64;
+        fn kto_read(run: *const u8, run_len: usize, place: *mut u64) -> u64;
+    }
+
+    // Lent to every call, so that no sample pays for making it.
+    thread_local! {
+        static IMAGE: RefCell<Vec<u8>> = RefCell::new(vec![0; independent::LIMIT]);
+    }
+
+    pub fn check(text: &[u8]) -> bool {
+        IMAGE.with_borrow_mut(|image| {
+            let (mut row, mut place) = (0, 0);
+            // SAFETY: the lengths are those of the slices, and the two numbers live on this stack.
+            unsafe { kto_check(text.as_ptr(), text.len(), image.as_mut_ptr(), image.len(), &mut row, &mut place) == 0 }
+        })
+    }
+
+    pub fn read(image: &[u8]) -> bool {
+        let mut place = 0;
+        // SAFETY: as above.
+        unsafe { kto_read(image.as_ptr(), image.len(), &mut place) == 0 && place == image.len() as u64 }
+    }
+}
+
+#[cfg(others)]
+mod others {
+    use super::Contender;
+    use std::ffi::{c_char, c_int, CString};
+
+    extern "C" {
+        fn others_schema(path: *const c_char) -> c_int;
+        fn others_expat(file: *const u8, length: usize) -> c_int;
+        fn others_tree(file: *const u8, length: usize) -> c_int;
+        fn others_stream(file: *const u8, length: usize) -> c_int;
+    }
+
+    pub fn add(all: &mut Vec<Contender>, schema: &str) -> Result<(), String> {
+        let path = CString::new(schema).map_err(|_| "the schema's path holds a zero byte".to_string())?;
+        // SAFETY: the path ends with a zero byte and lives until the call is over; the same of the files below, with their lengths.
+        if unsafe { others_schema(path.as_ptr()) } == 0 {
+            return Err(format!("the schema {schema} can't be read"));
+        }
+        all.push(Contender {
+            name: "expat",
+            reads_image: false,
+            is_unit: false,
+            judge: |file| unsafe { others_expat(file.as_ptr(), file.len()) == 1 },
+        });
+        all.push(Contender {
+            name: "libxml2 schema, tree",
+            reads_image: false,
+            is_unit: false,
+            judge: |file| unsafe { others_tree(file.as_ptr(), file.len()) == 1 },
+        });
+        all.push(Contender {
+            name: "libxml2 schema, stream",
+            reads_image: false,
+            is_unit: false,
+            judge: |file| unsafe { others_stream(file.as_ptr(), file.len()) == 1 },
+        });
+        Ok(())
+    }
+}
+
+#[cfg(not(others))]
+mod others {
+    pub fn add(_: &mut Vec<super::Contender>, _: &str) -> Result<(), String> {
+        Ok(())
+    }
+}

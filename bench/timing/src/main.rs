@@ -1,0 +1,89 @@
+//! Times the unit, the independent program and, where they are linked, expat and libxml2 on the same files.
+//!
+//! Every contender judges every file once before any clock runs, and has to accept it: a program that refuses early would look fast.
+//! Samples are interleaved, so that a slow moment of the machine falls on all of them, and the median counts.
+
+mod clock;
+mod contenders;
+mod files;
+mod stack;
+
+use clock::Sample;
+use contenders::Contender;
+use files::File;
+use std::{env, process::exit};
+
+fn main() {
+    let schema = env::args().nth(1).unwrap_or_default();
+    let rounds = env::var("SPEED_ROUNDS").ok().and_then(|n| n.parse().ok()).unwrap_or(15);
+    let contenders = match contenders::all(&schema) {
+        Ok(contenders) => contenders,
+        Err(fault) => fail(&fault),
+    };
+    let files = files::all();
+    for file in &files {
+        for contender in &contenders {
+            let input = contender.input(file);
+            if !(contender.judge)(input) {
+                fail(&format!("{} does not accept the file {}", contender.name, file.name));
+            }
+        }
+    }
+    let samples = measure(&contenders, &files, rounds);
+    print_table(&contenders, &files, &samples, rounds);
+    print_stack(&contenders, &files);
+}
+
+fn fail(fault: &str) -> ! {
+    eprintln!("speed: {fault}");
+    exit(2)
+}
+
+/// For each file, for each contender, its samples in MB/s.
+fn measure(contenders: &[Contender], files: &[File], rounds: usize) -> Vec<Vec<Sample>> {
+    let mut samples = vec![vec![Sample::default(); contenders.len()]; files.len()];
+    for _ in 0..rounds {
+        for (file, row) in files.iter().zip(&mut samples) {
+            for (contender, sample) in contenders.iter().zip(row) {
+                let input = contender.input(file);
+                sample.add(clock::megabytes_per_second(input.len(), || (contender.judge)(input)));
+            }
+        }
+    }
+    samples
+}
+
+fn print_table(contenders: &[Contender], files: &[File], samples: &[Vec<Sample>], rounds: usize) {
+    println!("MB/s (10^6 bytes), median of {rounds} interleaved samples; in brackets how many times as fast the unit's check is\n");
+    print!("| File | Bytes | Image |");
+    for contender in contenders {
+        print!(" {} |", contender.name);
+    }
+    println!("\n|---|---|---|{}", "---|".repeat(contenders.len()));
+    for (file, row) in files.iter().zip(samples) {
+        print!("| {} | {} | {} |", file.name, file.text.len(), file.image.len());
+        let check = row[0].median();
+        for (contender, sample) in contenders.iter().zip(row) {
+            let median = sample.median();
+            if contender.reads_image {
+                print!(" {median:.0} |");
+            } else {
+                print!(" {median:.0} ({:.1}) |", check / median);
+            }
+        }
+        println!();
+    }
+    if !cfg!(others) {
+        println!("\nexpat and libxml2 are missing: their development packages are not installed");
+    }
+    println!("\nWho reads an image is timed by the image's bytes.");
+}
+
+/// The deepest of the unit's calls over all the files.
+fn print_stack(contenders: &[Contender], files: &[File]) {
+    println!();
+    for contender in contenders.iter().filter(|contender| contender.is_unit) {
+        let deepest = files.iter().map(|file| stack::used(contender.judge, contender.input(file))).max().unwrap_or(0);
+        println!("{}: at most {deepest} bytes of stack below the entry, over these files", contender.name);
+    }
+}
