@@ -14,26 +14,13 @@ use Rattle.text.specs.Utf8.{Scalar, encode, encodeAll, Utf8}
 use Rattle.text.specs.Pieces.{less, ampersand, XmlChar, low, Piece, char, entity, GoodPiece}
 use Rattle.text.proofs.Classes.{and-is}
 use Rattle.list.specs.Test.{every, begins}
+use Rattle.list.proofs.Tests.{clash}
+use Rattle.list.proofs.Sound.{every-is, begins-is}
 use Rattle.xml.specs.House.{IsName, Quote, mark, GoodValue, Attr, GoodAttr, GoodAttrs, Tag, GoodTag, Content, end, piece, empty, full, cut, Good, OneElement, Tree, GoodTree}
-
-clash : {P : Type 0} (b : Bool) → b ≡ true → b ≡ false → P
-clash b e f = absurd (false≢true (sym f ∙ e))
 
 pub not-is : (b : Bool) → not b ≡ true → b ≡ false
 not-is true e = absurd (false≢true e)
 not-is false e = refl
-
--- ---- lists of bytes
-
-all-is : (p : ℕ → Bool) (s : List ℕ) → every p s ≡ true → All p s
-unfolding every
-all-is p [] e = tt
-all-is p (x ∷ s) e = let a = and-is (p x) (every p s) e in (a .0, all-is p s (a .1))
-
-begins-is : (p q : ℕ → Bool) (s : List ℕ) → begins p q s ≡ true → Begins p q s
-unfolding begins
-begins-is p q [] e = absurd (false≢true e)
-begins-is p q (x ∷ s) e = let a = and-is (p x) (every q s) e in (a .0, all-is q s (a .1))
 
 -- ---- pieces
 
@@ -83,8 +70,8 @@ attr-good a e =
     record {
       gap = begins-is isBlank isBlank (a .gap) (p .0);
       name = begins-is isNameStart isNamePart (a .name) (q .0);
-      before = all-is isBlank (a .before) (r .0);
-      after = all-is isBlank (a .after) (s .0);
+      before = every-is isBlank (a .before) (r .0);
+      after = every-is isBlank (a .after) (s .0);
       value = value-good (a .quote) (a .value) (s .1);
     }
 
@@ -107,7 +94,7 @@ tag-good : (t : Tag) → tagTest t ≡ true → GoodTag t
 tag-good t e =
     let p = and-is (begins isNameStart isNamePart (t .name)) (attrsTest (t .attributes) && every isBlank (t .gap)) e in
     let q = and-is (attrsTest (t .attributes)) (every isBlank (t .gap)) (p .1) in
-    record { name = begins-is isNameStart isNamePart (t .name) (p .0); attributes = attrs-good (t .attributes) (q .0); gap = all-is isBlank (t .gap) (q .1) }
+    record { name = begins-is isNameStart isNamePart (t .name) (p .0); attributes = attrs-good (t .attributes) (q .0); gap = every-is isBlank (t .gap) (q .1) }
 
 abbrev pub contentTest : ℕ → Content → Bool
 contentTest d end = true
@@ -130,7 +117,7 @@ content-good (full t i g k) (suc d) e =
     let a = and-is (tagTest t) (contentTest d i && (every isBlank g && contentTest (suc d) k)) e in
     let b = and-is (contentTest d i) (every isBlank g && contentTest (suc d) k) (a .1) in
     let c = and-is (every isBlank g) (contentTest (suc d) k) (b .1) in
-    (tag-good t (a .0), content-good i d (b .0), all-is isBlank g (c .0), content-good k (suc d) (c .1))
+    (tag-good t (a .0), content-good i d (b .0), every-is isBlank g (c .0), content-good k (suc d) (c .1))
 
 -- one element, with nothing around it
 abbrev pub rootTree : Content → Tree

@@ -8,13 +8,15 @@ use native.Mathlib.Omega.{arith}
 use lib.Dec.{eqb}
 use lib.ListN.{length}
 use borrow.Author.Tests.{eq-eqb, ne-eqb, eqb-true, eqb-false}
+use Rattle.text.proofs.Classes.{and-is, or-is, or-not}
 use Rattle.text.specs.Lists.{Each}
 use Rattle.list.specs.Words.{times, Ordered}
 use Rattle.list.specs.Listing.{Kind, group, choice, leaf, Count, one, optional, some, any, alternative, Rule, both, Listing, size, rowAt, Child, required}
 use Rattle.list.specs.WellFormed.{BothOk, RuleOk, WellFormed}
 use Rattle.list.specs.Content.{Counts, Keeps, Children}
 use Rattle.image.specs.Follow.{repeats, parentOf, countOf, kindOf, paired, ruled, due, Clear, Fits, Shut}
-use Rattle.image.proofs.Rows.{Cmp, less, same, more, cmp, and-parts, or-cases, or-left, or-right, Well, well}
+use Rattle.list.proofs.Words.{times-hit, times-miss}
+use Rattle.image.proofs.Rows.{Cmp, less, same, more, cmp, or-left, or-right, Well, well}
 
 -- each at least the one before it, the first at least q
 abbrev pub Rising : ℕ → List ℕ → Type 0
@@ -30,16 +32,10 @@ pub record Level (l : Listing) (p : ℕ) (rs : List ℕ) : Type 0 where
   pub counts : (s : ℕ) → Child l p s → Counts (countOf l s) (times s rs)
   pub rules : (a b : ℕ) → ruled l a b ≡ true → Child l p a → (0 < times a rs) ↔ (0 < times b rs)
 
-times-same : (s r : ℕ) (rs : List ℕ) → r ≡ s → times s (r ∷ rs) ≡ suc (times s rs)
-times-same s r rs e = rw (eq-eqb r s e)
-
-times-other : (s r : ℕ) (rs : List ℕ) → (r ≡ s → ⊥) → times s (r ∷ rs) ≡ times s rs
-times-other s r rs e = rw (ne-eqb r s e)
-
 -- what is below all is not there
 low : (s q : ℕ) (rs : List ℕ) → Rising q rs → s < q → times s rs ≡ 0
 low s q [] o h = refl
-low s q (r ∷ rs) o h = times-other s r rs (λ e. omega arith) ∙ low s r rs (o .1) (omega arith)
+low s q (r ∷ rs) o h = times-miss s r rs (λ e. omega arith) ∙ low s r rs (o .1) (omega arith)
 
 -- counts
 within-none : (k : Count) → required k ≡ false → Counts k 0
@@ -77,13 +73,9 @@ repeats-or some n h = inl refl
 repeats-or any n h = inl refl
 repeats-or alternative n h = inr (omega arith)
 
-or-parts : (a b : Bool) → (a || b) ≡ false → (a ≡ false) × (b ≡ false)
-or-parts true b e = absurd (true≢false e)
-or-parts false b e = (refl, e)
-
-or-false : (a b : Bool) → a ≡ false → (b ≡ true → ⊥) → (a || b) ≡ false
-or-false a true e f = absurd (f refl)
-or-false a false e f = rw e
+pub or-neither : (a b : Bool) → a ≡ false → (b ≡ true → ⊥) → (a || b) ≡ false
+or-neither a true e f = absurd (f refl)
+or-neither a false e f = rw e
 
 module _ (l : Listing) where
   abbrev pub Chain : ℕ → ℕ → List ℕ → Type 0
@@ -113,10 +105,10 @@ module _ (l : Listing) where
     mate-of a b e ca = subst (λ (z : ℕ). Child l z b) (ca .parent) (w .rules a b e .right)
 
     required-not : (q s : ℕ) → due l q s ≡ false → required (countOf l s) ≡ false
-    required-not q s e = or-parts (required (countOf l s)) (ruled l q s) e .0
+    required-not q s e = or-not (required (countOf l s)) (ruled l q s) e .0
 
     not-ruled : (q s : ℕ) → due l q s ≡ false → ruled l q s ≡ true → ⊥
-    not-ruled q s e h = false≢true (sym (or-parts (required (countOf l s)) (ruled l q s) e .1) ∙ h)
+    not-ruled q s e h = false≢true (sym (or-not (required (countOf l s)) (ruled l q s) e .1) ∙ h)
 
     -- from the steps to the whole
     chain-order : (p q : ℕ) (rs : List ℕ) → Chain p q rs → Rising q rs
@@ -129,7 +121,7 @@ module _ (l : Listing) where
 
     chain-again : (p q : ℕ) (rs : List ℕ) → Chain p q rs → (repeats (countOf l q) ≡ true) ⊎ (times q rs ≡ 0)
     chain-again p q [] c = inr refl
-    chain-again p q (r ∷ rs) c = ⊎-elim (λ h. inr (times-other q r rs (λ e. omega arith) ∙ low q r rs (chain-order p r rs (c .1)) h)) (λ h. inl (subst (λ (z : ℕ). repeats (countOf l z) ≡ true) (sym (h .0)) (h .1))) (c .0 .order)
+    chain-again p q (r ∷ rs) c = ⊎-elim (λ h. inr (times-miss q r rs (λ e. omega arith) ∙ low q r rs (chain-order p r rs (c .1)) h)) (λ h. inl (subst (λ (z : ℕ). repeats (countOf l z) ≡ true) (sym (h .0)) (h .1))) (c .0 .order)
 
     chain-one : (p q : ℕ) (rs : List ℕ) → Chain p q rs → kindOf l p ≡ choice → (q ≡ 0 → length rs ≡ 1) × (0 < q → length rs ≡ 0)
     chain-one p q [] c k = (λ e. absurd (omega (arith, c .some)), λ h. refl)
@@ -140,14 +132,14 @@ module _ (l : Listing) where
     count-on : (p q r : ℕ) (rs : List ℕ) → Fits l p q r → Chain p r rs → (s : ℕ) → Child l p s → q < s
         → (r < s → Counts (countOf l s) (times s rs)) → Cmp s r → Counts (countOf l s) (times s (r ∷ rs))
     count-on p q r rs f c s cs h rec (less g) =
-        rw (times-other s r rs (λ e. omega arith), low s r rs (chain-order p r rs c) g) (within-none (countOf l s) (required-not q s (f .clear s cs h g)))
+        rw (times-miss s r rs (λ e. omega arith), low s r rs (chain-order p r rs c) g) (within-none (countOf l s) (required-not q s (f .clear s cs h g)))
     count-on p q r rs f c s cs h rec (same e) =
-        rw (times-same s r rs (sym e)) (subst (λ (z : ℕ). Counts (countOf l z) (suc (times z rs))) (sym e) (again (chain-again p r rs c)))
+        rw (times-hit s r rs (sym e)) (subst (λ (z : ℕ). Counts (countOf l z) (suc (times z rs))) (sym e) (again (chain-again p r rs c)))
       where
         again : (repeats (countOf l r) ≡ true) ⊎ (times r rs ≡ 0) → Counts (countOf l r) (suc (times r rs))
         again (inl o) = within-repeats (countOf l r) (times r rs) o
         again (inr z) = rw z (within-one (countOf l r))
-    count-on p q r rs f c s cs h rec (more g) = rw (times-other s r rs (λ e. omega arith)) (rec g)
+    count-on p q r rs f c s cs h rec (more g) = rw (times-miss s r rs (λ e. omega arith)) (rec g)
 
     chain-counts : (p q : ℕ) (rs : List ℕ) → Chain p q rs → (s : ℕ) → Child l p s → q < s → Counts (countOf l s) (times s rs)
     chain-counts p q [] c s cs h = within-none (countOf l s) (required-not q s (c .clear s cs h (omega (arith, cs .last))))
@@ -155,7 +147,7 @@ module _ (l : Listing) where
 
     -- behind the first row of a rule comes the second
     owed-on : (p q r b : ℕ) (rs : List ℕ) → Fits l p q r → Child l p q → ruled l q b ≡ true → Cmp r b → 0 < times b (r ∷ rs)
-    owed-on p q r b rs f cq e (same g) = rw (times-same b r rs g) (omega arith)
+    owed-on p q r b rs f cq e (same g) = rw (times-hit b r rs g) (omega arith)
     owed-on p q r b rs f cq e (less g) = ⊎-elim (λ h. absurd (in-rule q b r e cq (f .child) h g)) (λ h. absurd (once q b e .0 (subst (λ (z : ℕ). repeats (countOf l z) ≡ true) (sym (h .0)) (h .1)))) (f .order)
     owed-on p q r b rs f cq e (more g) = absurd (not-ruled q b (f .clear b (mate-of q b e cq) (w .rules q b e .order) g) e)
 
@@ -171,17 +163,17 @@ module _ (l : Listing) where
         → (r < a → (0 < times a rs) ↔ (0 < times b rs)) → Cmp r a → Cmp r b → (0 < times a (r ∷ rs)) ↔ (0 < times b (r ∷ rs))
     rules-on p q r rs f c a b e ca h rec (less g) d =
         let o = w .rules a b e .order in
-        rw (times-other a r rs (λ z. omega arith), times-other b r rs (λ z. omega arith)) (rec g)
+        rw (times-miss a r rs (λ z. omega arith), times-miss b r rs (λ z. omega arith)) (rec g)
     rules-on p q r rs f c a b e ca h rec (same g) d =
         let o = w .rules a b e .order in
         let cr = f .child in
         let t = chain-owed p r rs c cr b (subst (λ (z : ℕ). ruled l z b ≡ true) (sym g) e) in
-        rw (times-same a r rs g, times-other b r rs (λ z. omega arith)) ((λ z. t), (λ z. omega arith))
+        rw (times-hit a r rs g, times-miss b r rs (λ z. omega arith)) ((λ z. t), (λ z. omega arith))
     rules-on p q r rs f c a b e ca h rec (more g) (less k) = absurd (in-rule a b r e ca (f .child) g k)
     rules-on p q r rs f c a b e ca h rec (more g) (same k) = absurd (omega (arith, f .mate a (subst (λ (z : ℕ). ruled l a z ≡ true) (sym k) e)))
     rules-on p q r rs f c a b e ca h rec (more g) (more k) =
         let o = chain-order p r rs c in
-        neither a b (r ∷ rs) (times-other a r rs (λ z. omega arith) ∙ low a r rs o g) (times-other b r rs (λ z. omega arith) ∙ low b r rs o k)
+        neither a b (r ∷ rs) (times-miss a r rs (λ z. omega arith) ∙ low a r rs o g) (times-miss b r rs (λ z. omega arith) ∙ low b r rs o k)
 
     chain-rules : (p q : ℕ) (rs : List ℕ) → Chain p q rs → (a b : ℕ) → ruled l a b ≡ true → Child l p a → q < a → (0 < times a rs) ↔ (0 < times b rs)
     chain-rules p q [] c a b e ca h = neither a b [] refl refl
@@ -205,7 +197,7 @@ module _ (l : Listing) where
     from-clear : (p q x : ℕ) (rs : List ℕ) → From p q rs → Rising x rs → Clear l p q x
     from-clear p q x rs f o s cs h g =
         let z : times s rs ≡ 0 = low s x rs o g in
-        or-false (required (countOf l s)) (ruled l q s) (none-required (countOf l s) (rw z at (f .counts s cs h))) (λ e. omega (arith, f .owed s e))
+        or-neither (required (countOf l s)) (ruled l q s) (none-required (countOf l s) (rw z at (f .counts s cs h))) (λ e. omega (arith, f .owed s e))
 
     pub from-first : (p q r : ℕ) (rs : List ℕ) → (q ≡ 0) ⊎ Child l p q → From p q (r ∷ rs) → Fits l p q r
     from-first p q r rs cq f = record {
@@ -217,7 +209,7 @@ module _ (l : Listing) where
     }
       where
         here : 0 < times r (r ∷ rs)
-        here = rw (times-same r r rs refl) (omega arith)
+        here = rw (times-hit r r rs refl) (omega arith)
 
         first : kindOf l p ≡ choice → Cmp 0 q → q ≡ 0
         first k (less h) = absurd (omega (arith, f .one k .1 h))
@@ -255,14 +247,14 @@ module _ (l : Listing) where
       order = f .order .1;
       some = inl (g .child .first);
       one = λ k. ((λ z. absurd (omega (arith, g .child .first))), (λ h. one k));
-      counts = λ s cs h. rw (times-other s r rs (λ e. omega arith)) at (f .counts s cs (omega (arith, f .order .0)));
-      again = ⊎-elim (λ h. repeats-or (countOf l r) (times r rs) (rw (times-same r r rs refl) at (f .counts r (g .child) h))) (λ h. inl (h .1)) (g .order);
-      rules = λ a b e ca h. let o = w .rules a b e .order in rw (times-other a r rs (λ z. omega arith), times-other b r rs (λ z. omega arith)) at (f .rules a b e ca (omega (arith, f .order .0)));
-      owed = λ b e. let o = w .rules r b e .order in rw (times-other b r rs (λ z. omega arith)) at (⊎-elim (λ h. f .rules r b e (g .child) h .0 here) (λ h. absurd (once r b e .0 (h .1))) (g .order));
+      counts = λ s cs h. rw (times-miss s r rs (λ e. omega arith)) at (f .counts s cs (omega (arith, f .order .0)));
+      again = ⊎-elim (λ h. repeats-or (countOf l r) (times r rs) (rw (times-hit r r rs refl) at (f .counts r (g .child) h))) (λ h. inl (h .1)) (g .order);
+      rules = λ a b e ca h. let o = w .rules a b e .order in rw (times-miss a r rs (λ z. omega arith), times-miss b r rs (λ z. omega arith)) at (f .rules a b e ca (omega (arith, f .order .0)));
+      owed = λ b e. let o = w .rules r b e .order in rw (times-miss b r rs (λ z. omega arith)) at (⊎-elim (λ h. f .rules r b e (g .child) h .0 here) (λ h. absurd (once r b e .0 (h .1))) (g .order));
     }
       where
         here : 0 < times r (r ∷ rs)
-        here = rw (times-same r r rs refl) (omega arith)
+        here = rw (times-hit r r rs refl) (omega arith)
 
         one : kindOf l p ≡ choice → length rs ≡ 0
         one k = let z = g .first k in omega (arith, f .one k .0 z)
@@ -285,7 +277,7 @@ module _ (l : Listing) where
       where
         zero-times : (rs : List ℕ) → Each (Child l p) rs → times 0 rs ≡ 0
         zero-times [] o = refl
-        zero-times (r ∷ rs) o = times-other 0 r rs (λ e. omega (arith, o .0 .first)) ∙ zero-times rs (o .1)
+        zero-times (r ∷ rs) o = times-miss 0 r rs (λ e. omega (arith, o .0 .first)) ∙ zero-times rs (o .1)
 
 -- the definition's own words
 ordered-rising : (q : ℕ) (rs : List ℕ) → Each (λ r. q ≤ r) rs → Ordered rs → Rising q rs
@@ -317,9 +309,9 @@ each-keeps : (l : Listing) (p : ℕ) (rs : List ℕ) (us : List Rule) → Each (
     → (a b : ℕ) → paired us a b ≡ true → Child l p a → (0 < times a rs) ↔ (0 < times b rs)
 each-keeps l p rs [] o k a b e c = absurd (false≢true e)
 each-keeps l p rs (both g x y ∷ us) o k a b e c = ⊎-elim
-    (λ h. let q = and-parts (eqb a x) (eqb b y) h in here (eqb-true a x (q .0)) (eqb-true b y (q .1)))
+    (λ h. let q = and-is (eqb a x) (eqb b y) h in here (eqb-true a x (q .0)) (eqb-true b y (q .1)))
     (λ h. each-keeps l p rs us (o .1) (k .1) a b h c)
-    (or-cases (eqb a x && eqb b y) (paired us a b) e)
+    (or-is (eqb a x && eqb b y) (paired us a b) e)
   where
     here : a ≡ x → b ≡ y → (0 < times a rs) ↔ (0 < times b rs)
     here ea eb =

@@ -6,6 +6,7 @@ use mathlib.Core.List.{List, [], _∷_, _++_, append-assoc, append-nil, head-eq-
 use mathlib.Core.Option.{Option}
 use Prim.Native.Nat.{ℕ, zero, suc, _+_, _-_, _≤_, _<_}
 use native.Mathlib.Omega.{arith}
+use Rattle.text.proofs.Classes.{and-is, or-is}
 use Rattle.list.specs.Listing.{Leaf, Kind, group, choice, leaf, Listing, size, rowAt, Child, isGroup}
 use Rattle.list.specs.Content.{Content, end, value, node, rows, items, ValueOf, GroupOf, Good, Meets}
 use Rattle.image.specs.Image.{Values, Lawful, Item}
@@ -15,7 +16,7 @@ use Rattle.list.specs.Listing.{required}
 use Rattle.list.specs.WellFormed.{BothOk}
 use Rattle.image.specs.Follow.{parentOf, countOf, kindOf, Simple, Compound, ruled, due, Clear, Fits, Shut}
 use Rattle.image.proofs.Derive.{After, Rest, root, more, Takes, after, inside, above}
-use Rattle.image.proofs.Rows.{Cmp, less, same, more as greater, cmp, and-parts, or-cases, Well}
+use Rattle.image.proofs.Rows.{Cmp, less, same, more as greater, cmp, Well}
 
 -- the least number above a with a property, up to a + k
 pub record Least (P : ℕ → Bool) (a k : ℕ) : Type 0 where
@@ -65,7 +66,7 @@ module _ (vs : Values) (lw : Lawful vs) (l : Listing) (w : Well l) where
   }
 
   no-due : (p q s : ℕ) → 0 < p → Child l p s → kindOf l p ≡ choice → due l q s ≡ true → ⊥
-  no-due p q s z c k d = ⊎-elim (λ m. false≢true (rw (w .freed p s c k) at m)) (λ e. kinds-clash (subst (λ (z : ℕ). kindOf l z ≡ choice) (sym (c .parent) ∙ w .rules q s e .right .parent) k) (w .rules q s e .sequence)) (or-cases (required (countOf l s)) (ruled l q s) d)
+  no-due p q s z c k d = ⊎-elim (λ m. false≢true (rw (w .freed p s c k) at m)) (λ e. kinds-clash (subst (λ (z : ℕ). kindOf l z ≡ choice) (sym (c .parent) ∙ w .rules q s e .right .parent) k) (w .rules q s e .sequence)) (or-is (required (countOf l s)) (ruled l q s) d)
     where
       kinds-clash : {k : Kind} → k ≡ choice → k ≡ group → ⊥
       kinds-clash a b = let z : _≡_ {A = ℕ} 0 1 = cc in omega arith
@@ -77,7 +78,7 @@ module _ (vs : Values) (lw : Lawful vs) (l : Listing) (w : Well l) where
     first = λ k. absurd (no-due p q x z cx k d);
     order = inl h;
     clear = λ s cs a b. rw (mine-yes p s cs) at (low s a b);
-    mate = λ a e. mate a e (or-cases (required (countOf l x)) (ruled l q x) d);
+    mate = λ a e. mate a e (or-is (required (countOf l x)) (ruled l q x) d);
   }
     where
       between : (a b s : ℕ) → ruled l a x ≡ true → Child l p s → a < s → s < x → ⊥
@@ -126,7 +127,7 @@ module _ (vs : Values) (lw : Lawful vs) (l : Listing) (w : Well l) where
       (λ n′. let s = w .filled p a b n in absurd (false≢true (sym (n′ (s .0) (s .1 .first) (omega (arith, s .1 .last))) ∙ mine-yes p (s .0) (s .1))))
       (least (mine p) 0 (size l))
   fill (suc k) p q (within a c h) = ⊎-elim
-      (λ m. let e = and-parts (mine p (m .at)) (due l q (m .at)) (m .is) in
+      (λ m. let e = and-is (mine p (m .at)) (due l q (m .at)) (m .is) in
       let cx = mine-child p (m .at) (omega (arith, m .lo)) (omega (arith, m .hi, c .last)) (e .0) in
       give k p q (m .at) a (due-fits p q (m .at) a c cx (m .lo) (e .1) (m .none)) (omega (arith, m .lo)) (fill k))
       (λ n. (end, record { some = c .first; clear = λ s cs i j. rw (mine-yes p s cs) at (n s i (omega (arith, c .last))) }))

@@ -8,6 +8,7 @@ use native.Mathlib.Omega.{arith}
 use native.Mathlib.Decide.{decLt}
 use lib.Dec.{eqb}
 use borrow.Author.Tests.{eq-eqb, eqb-true}
+use Rattle.text.proofs.Classes.{and-is, or-is}
 use Rattle.text.specs.Lists.{Each}
 use Rattle.list.specs.Listing.{Leaf, Kind, group, choice, leaf, Count, optional, alternative, Row, Rule, both, Listing, size, rowAt, Child, isGroup, up}
 use Rattle.list.specs.WellFormed.{LeafOk, KindOk, BothOk, RuleOk, WellFormed}
@@ -27,14 +28,6 @@ cmp a b = go (decLt a b) (decLt b a)
     go (yes h) d = less h
     go (no h) (yes g) = more g
     go (no h) (no g) = same (omega arith)
-
-pub and-parts : (a b : Bool) → (a && b) ≡ true → (a ≡ true) × (b ≡ true)
-and-parts true b e = (refl, e)
-and-parts false b e = absurd (false≢true e)
-
-pub or-cases : (a b : Bool) → (a || b) ≡ true → (a ≡ true) ⊎ (b ≡ true)
-or-cases true b e = inl refl
-or-cases false b e = inr e
 
 pub or-left : (a b : Bool) → a ≡ true → (a || b) ≡ true
 or-left a b e = rw e
@@ -67,9 +60,9 @@ module _ {A : Type 0} (Is : Leaf → A → Type 0) (l : Listing) where
 pub in-rules : (l : Listing) (rs : List Rule) → Each (RuleOk l) rs → (a b : ℕ) → paired rs a b ≡ true → BothOk l (parentOf l a) a b
 in-rules l [] o a b e = absurd (false≢true e)
 in-rules l (both g x y ∷ rs) o a b e = ⊎-elim
-    (λ h. let p = and-parts (eqb a x) (eqb b y) h in here (eqb-true a x (p .0)) (eqb-true b y (p .1)))
+    (λ h. let p = and-is (eqb a x) (eqb b y) h in here (eqb-true a x (p .0)) (eqb-true b y (p .1)))
     (λ h. in-rules l rs (o .1) a b h)
-    (or-cases (eqb a x && eqb b y) (paired rs a b) e)
+    (or-is (eqb a x && eqb b y) (paired rs a b) e)
   where
     here : a ≡ x → b ≡ y → BothOk l (parentOf l a) a b
     here ea eb =

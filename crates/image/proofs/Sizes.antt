@@ -3,11 +3,11 @@ use mathlib.Core.Path.{_≡_, refl}
 use mathlib.Core.Bool.{Bool}
 use mathlib.Core.List.{List, [], _∷_, _++_}
 use Prim.Native.Nat.{ℕ, _+_}
-use native.Mathlib.Omega.{arith}
-use lib.ListN.{length, length-append}
+use lib.ListN.{length}
 use Rattle.text.specs.Numbers.{bigEndian}
 use Rattle.text.specs.Utf8.{encodeAll}
 use Rattle.list.specs.Listing.{amt}
+use Rattle.types.proofs.Values.{text-bytes, money-bytes, day-bytes, moment-bytes}
 use Rattle.types.specs.Value.{Value, text, place, truth, natural, amount, day, moment, IsValue, money, bytes}
 
 -- a text's own bytes stand behind the two of its length; the other kinds have as many bytes as docs/IMAGE.md says, whatever the value
@@ -25,16 +25,15 @@ unfolding bigEndian
 eight n = refl
 
 amounts : (v : Value) → IsValue amt v → length (bytes v) ≡ 12
-amounts v (money {w} {k} {c} h b) = omega (arith, length-append w (k ∷ bigEndian 8 c), h .three, eight c)
+amounts v (money {w} {k} {c} h b) = money-bytes w k c h
 
 pub sizes : Sizes
-unfolding bigEndian
 sizes = record {
-  ofText = λ cs. omega (arith, length-append (bigEndian 2 (length (encodeAll cs))) (encodeAll cs));
+  ofText = text-bytes;
   ofEnum = λ n. refl;
   ofBool = λ b. refl;
   ofNum = eight;
   ofAmt = amounts;
-  ofDate = λ y m d. refl;
-  ofDtm = λ y mo d h mi s u z. refl;
+  ofDate = day-bytes;
+  ofDtm = moment-bytes;
 }

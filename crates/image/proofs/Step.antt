@@ -7,6 +7,7 @@ use Prim.Native.Nat.{ℕ, zero, suc, _+_, _-_, _≤_, _<_}
 use native.Mathlib.Omega.{arith}
 use lib.Dec.{leb, ltb, eqb}
 use borrow.Author.Tests.{eq-eqb, ne-eqb, eqb-true, eqb-false, lt-ltb, ltb-true, le-ltb, le-leb, leb-true, lt-leb}
+use Rattle.text.proofs.Classes.{and-is, or-is}
 use Rattle.list.specs.Listing.{Kind, group, choice, leaf, Count, one, optional, some, any, alternative, Rule, both, Listing, size, rowAt, Child, isGroup, isChoice, required, nextDue, up}
 use Rattle.list.specs.WellFormed.{BothOk, WellFormed}
 use Rattle.list.specs.Table.{cell}
@@ -14,7 +15,8 @@ use Rattle.list.specs.Sound.{firstOf, secondOf}
 use Rattle.list.proofs.Next.{Due, next-due, none-due}
 use Rattle.image.specs.Follow.{repeats, parentOf, countOf, kindOf, Simple, Compound, paired, ruled, due, Clear, Fits, Shut, Climb, beside as side, out, Next, down, on, Over, top}
 use Rattle.image.specs.Step.{isLeaf, again, owed, before, mated, inOrder, beside, inside, climbs, follows, rests, ended}
-use Rattle.image.proofs.Rows.{Cmp, less, same, more, cmp, and-parts, or-cases, or-left, or-right, clash, Well, well}
+use Rattle.image.proofs.Levels.{or-neither}
+use Rattle.image.proofs.Rows.{Cmp, less, same, more, cmp, or-left, or-right, clash, Well, well}
 
 -- a test and what it says
 pub record Says (b : Bool) (P : Type 0) : Type 0 where
@@ -77,8 +79,8 @@ second-of (both g x y ∷ rs) q = go (eqb x q) refl (second-of rs q)
     go false e (inl d) = inl (
       d .0,
       (λ b h. ⊎-elim
-          (λ z. eqb-false x q e (sym (eqb-true q x (and-parts (eqb q x) (eqb b y) z .0))))
-          (λ z. d .1 b z) (or-cases (eqb q x && eqb b y) (paired rs q b) h)),
+          (λ z. eqb-false x q e (sym (eqb-true q x (and-is (eqb q x) (eqb b y) z .0))))
+          (λ z. d .1 b z) (or-is (eqb q x && eqb b y) (paired rs q b) h)),
     )
     go false e (inr d) = inr (or-right (eqb q x && eqb (secondOf rs q) y) (paired rs q (secondOf rs q)) d)
 
@@ -95,8 +97,8 @@ first-of (both g u y ∷ rs) x = go (eqb y x) refl (first-of rs x)
     go false e (inl d) = inl (
       d .0,
       (λ a h. ⊎-elim
-          (λ z. eqb-false y x e (sym (eqb-true x y (and-parts (eqb a u) (eqb x y) z .1))))
-          (λ z. d .1 a z) (or-cases (eqb a u && eqb x y) (paired rs a x) h)),
+          (λ z. eqb-false y x e (sym (eqb-true x y (and-is (eqb a u) (eqb x y) z .1))))
+          (λ z. d .1 a z) (or-is (eqb a u && eqb x y) (paired rs a x) h)),
     )
     go false e (inr d) = inr (or-right (eqb (firstOf rs x) u && eqb x y) (paired rs (firstOf rs x) x) d)
 
@@ -141,17 +143,13 @@ module _ (l : Listing) (w : Well l) where
     back = λ k. absurd (false≢true (sym (k .clear n c h (omega (arith, c .last))) ∙ d));
   }
 
-  or-first : (a b : Bool) → a ≡ false → (b ≡ true → ⊥) → (a || b) ≡ false
-  or-first a true e f = absurd (f refl)
-  or-first a false e f = rw e
-
   -- no rule has q first: what is due is what is required
   plain : (p q n : ℕ) → ((b : ℕ) → ruled l q b ≡ true → ⊥) → nextDue l p q ≡ n → Lowest p q n
-  plain p q zero f e = nothing refl (λ s c h. or-first (required (countOf l s)) (ruled l q s) (none-due l p q e s c h) (f s))
+  plain p q zero f e = nothing refl (λ s c h. or-neither (required (countOf l s)) (ruled l q s) (none-due l p q e s c h) (f s))
   plain p q (suc n) f e =
       let d = next-due l p q (suc n) e (omega arith) in
       lies (d .its) (d .above) (or-left (required (countOf l (suc n))) (ruled l q (suc n)) (d .due))
-      (λ s c h g. or-first (required (countOf l s)) (ruled l q s) (d .lowest s c h g) (f s))
+      (λ s c h g. or-neither (required (countOf l s)) (ruled l q s) (d .lowest s c h g) (f s))
 
   -- a rule has q first: its second row is the next sibling
   ruling : (p q n : ℕ) → Child l p q → ruled l q n ≡ true → Lowest p q n

@@ -25,12 +25,12 @@ use Rattle.list.proofs.Next.{next-child}
 
 -- ---- texts
 
-every-is : (p : ℕ → Bool) (xs : List ℕ) → every p xs ≡ true → All p xs
+pub every-is : (p : ℕ → Bool) (xs : List ℕ) → every p xs ≡ true → All p xs
 unfolding every
 every-is p [] e = tt
 every-is p (x ∷ xs) e = let w = and-is (p x) (every p xs) e in (w .0, every-is p xs (w .1))
 
-begins-is : (p q : ℕ → Bool) (xs : List ℕ) → begins p q xs ≡ true → Begins p q xs
+pub begins-is : (p q : ℕ → Bool) (xs : List ℕ) → begins p q xs ≡ true → Begins p q xs
 unfolding begins
 begins-is p q [] e = false≢true e
 begins-is p q (x ∷ xs) e = let w = and-is (p x) (every q xs) e in (w .0, every-is q xs (w .1))

@@ -14,13 +14,6 @@ use Rattle.text.proofs.Numbers.{Byte}
 use Rattle.types.specs.Judged.{Exactly}
 use Rattle.stored.specs.Tests.{isByte, every, some}
 
--- two tests of one thing
-pub exactly-one : {P : Type 0} (a b : Bool) → Exactly a P → Exactly b P → a ≡ b
-exactly-one true true p q = refl
-exactly-one false false p q = refl
-exactly-one true false p q = absurd (true≢false (sym (q .1 (p .0 refl))))
-exactly-one false true p q = absurd (true≢false (sym (p .1 (q .0 refl))))
-
 pub or-so : (a b : Bool) → b ≡ true → (a || b) ≡ true
 or-so true b e = refl
 or-so false b e = e

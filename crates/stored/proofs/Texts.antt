@@ -20,7 +20,7 @@ use Rattle.types.specs.Code.{Iban, Ccy, isLetterOrDigit}
 use Rattle.types.specs.Value.{Value, text, IsValue}
 use Rattle.types.proofs.Classes.{each-all, each-map, each-append, digit-range, capital-range, solid-either}
 use Rattle.types.proofs.Encoding.{encoded-most}
-use Rattle.types.proofs.Raw.{one-byte}
+use Rattle.text.proofs.Decoding.{encode1}
 use Rattle.stored.specs.Tests.{every, some, apart}
 use Rattle.stored.specs.Chars.{chars}
 use Rattle.stored.specs.Judges.{textFrom, isReference, isWriting, isAccount, isCurrency}
@@ -91,7 +91,7 @@ Low x = x < 128
 
 low-encoded : (cs : List ℕ) → Each Low cs → encodeAll cs ≡ cs
 low-encoded [] h = refl
-low-encoded (c ∷ cs) h = rw (one-byte c (h .0)) (ap (λ (l : List ℕ). c ∷ l) (low-encoded cs (h .1)))
+low-encoded (c ∷ cs) h = rw (encode1 c (h .0)) (ap (λ (l : List ℕ). c ∷ l) (low-encoded cs (h .1)))
 
 low-scalars : (cs : List ℕ) → Each Low cs → Each Scalar cs
 low-scalars = each-map Low Scalar (λ x h. record { below = omega arith; outside = omega arith })

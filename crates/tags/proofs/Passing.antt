@@ -10,7 +10,7 @@ use lib.ListN.{length, getD, drop, drop-of-length-le}
 use lib.Seq.{drop-append-seam, drop-append-add, drop-drop, drop-cons}
 use borrow.Author.Tests.{eq-eqb, ne-eqb}
 use Rattle.text.specs.Lists.{All, span}
-use Rattle.text.proofs.Spans.{span-of, span-le, span-stop, span-go}
+use Rattle.text.proofs.Spans.{span-of, span-le, span-stop, span-go, span-append}
 use Rattle.tags.specs.Passing.{but, noQuote, pass, one, headIs}
 
 -- ---- all that pass a test
@@ -35,11 +35,6 @@ but-by p b f x h = but-other b x (λ e. true≢false (sym h ∙ ap p e ∙ f))
 pub stops : (p : ℕ → Bool) (x : ℕ) (l : List ℕ) → p x ≡ false → span p (x ∷ l) ≡ 0
 unfolding span
 stops p x l e = rw e
-
-pub span-append : (p : ℕ → Bool) (a w : List ℕ) → All p a → span p (a ++ w) ≡ length a + span p w
-unfolding span
-span-append p [] w h = omega arith
-span-append p (x ∷ a) w h = rw (h .0) (omega (arith, span-append p a w (h .1)))
 
 -- ---- passing
 

@@ -20,7 +20,8 @@ use Rattle.text.proofs.Resolving.{Head, head-of, complete, next-of, next-one, p
 use Rattle.xml.proofs.Basics.{by-blank}
 use Rattle.tags.specs.Tokens.{inkIn}
 use Rattle.tags.specs.Story.{chars, inkOf, Text, Reads, over, next}
-use Rattle.tags.proofs.Passing.{stops, span-append}
+use Rattle.text.proofs.Spans.{span-append}
+use Rattle.tags.proofs.Passing.{stops}
 use Rattle.tags.proofs.Slices.{drop-is, slice-drop, slice-end}
 
 -- ---- the characters

@@ -93,21 +93,21 @@ tail-yes x = tail .is (0x80 + x % 64) ∙ within (from 128 191) (0x80 + x % 64) 
 
 -- ---- an encoding by its length
 
-enc1 : (c : ℕ) → c < 0x80 → encode c ≡ c ∷ []
+pub encode1 : (c : ℕ) → c < 0x80 → encode c ≡ c ∷ []
 unfolding encode
-enc1 c h = rw (lt-ltb c 0x80 h)
+encode1 c h = rw (lt-ltb c 0x80 h)
 
-enc2 : (c : ℕ) → 0x80 ≤ c → c < 0x800 → encode c ≡ (0xC0 + c / 64) ∷ (0x80 + c % 64) ∷ []
+pub encode2 : (c : ℕ) → 0x80 ≤ c → c < 0x800 → encode c ≡ (0xC0 + c / 64) ∷ (0x80 + c % 64) ∷ []
 unfolding encode
-enc2 c h k = rw (le-ltb c 0x80 h, lt-ltb c 0x800 k)
+encode2 c h k = rw (le-ltb c 0x80 h, lt-ltb c 0x800 k)
 
-enc3 : (c : ℕ) → 0x800 ≤ c → c < 0x10000 → encode c ≡ (0xE0 + c / 4096) ∷ (0x80 + c / 64 % 64) ∷ (0x80 + c % 64) ∷ []
+pub encode3 : (c : ℕ) → 0x800 ≤ c → c < 0x10000 → encode c ≡ (0xE0 + c / 4096) ∷ (0x80 + c / 64 % 64) ∷ (0x80 + c % 64) ∷ []
 unfolding encode
-enc3 c h k = rw (le-ltb c 0x80 (omega arith), le-ltb c 0x800 h, lt-ltb c 0x10000 k)
+encode3 c h k = rw (le-ltb c 0x80 (omega arith), le-ltb c 0x800 h, lt-ltb c 0x10000 k)
 
-enc4 : (c : ℕ) → 0x10000 ≤ c → encode c ≡ (0xF0 + c / 262144) ∷ (0x80 + c / 4096 % 64) ∷ (0x80 + c / 64 % 64) ∷ (0x80 + c % 64) ∷ []
+pub encode4 : (c : ℕ) → 0x10000 ≤ c → encode c ≡ (0xF0 + c / 262144) ∷ (0x80 + c / 4096 % 64) ∷ (0x80 + c / 64 % 64) ∷ (0x80 + c % 64) ∷ []
 unfolding encode
-enc4 c h = rw (le-ltb c 0x80 (omega arith), le-ltb c 0x800 (omega arith), le-ltb c 0x10000 h)
+encode4 c h = rw (le-ltb c 0x80 (omega arith), le-ltb c 0x800 (omega arith), le-ltb c 0x10000 h)
 
 -- by its length, what holds of every encoding
 pub by-length : (P : List ℕ → Type 0) (c : ℕ)
@@ -119,10 +119,10 @@ pub by-length : (P : List ℕ → Type 0) (c : ℕ)
 by-length P c f g h k = go (decLt c 0x80) (decLt c 0x800) (decLt c 0x10000)
   where
     go : Dec (c < 0x80) → Dec (c < 0x800) → Dec (c < 0x10000) → P (encode c)
-    go (yes a) d e = rw (enc1 c a) (f a)
-    go (no a) (yes b) e = rw (enc2 c (omega arith) b) (g (omega arith) b)
-    go (no a) (no b) (yes d) = rw (enc3 c (omega arith) d) (h (omega arith) d)
-    go (no a) (no b) (no d) = rw (enc4 c (omega arith)) (k (omega arith))
+    go (yes a) d e = rw (encode1 c a) (f a)
+    go (no a) (yes b) e = rw (encode2 c (omega arith) b) (g (omega arith) b)
+    go (no a) (no b) (yes d) = rw (encode3 c (omega arith) d) (h (omega arith) d)
+    go (no a) (no b) (no d) = rw (encode4 c (omega arith)) (k (omega arith))
 
 pub encode-some : (c : ℕ) → 0 < length (encode c)
 encode-some c =
@@ -198,7 +198,7 @@ module _ (x y : ℕ) (hy : isTail y ≡ true) where
       let v = is-in tail y hy in
       let p : 0xC0 + c / 64 ≡ x = omega arith in
       let q : 0x80 + c % 64 ≡ y = omega arith in
-      made c (x ∷ y ∷ []) t sc (enc2 c h (omega arith) ∙ rw (p, q))
+      made c (x ∷ y ∷ []) t sc (encode2 c h (omega arith) ∙ rw (p, q))
 
   made3 : (z : ℕ) → isTail z ≡ true → (t : List ℕ) → 0xE0 ≤ x → x < 0xF0 → (c : ℕ) → c ≡ x % 16 * 4096 + y % 64 * 64 + z % 64
       → 0x800 ≤ c → Scalar c → Begins (x ∷ y ∷ z ∷ t) (charOf 3 c)
@@ -208,7 +208,7 @@ module _ (x y : ℕ) (hy : isTail y ≡ true) where
       let p : 0xE0 + c / 4096 ≡ x = omega arith in
       let q : 0x80 + c / 64 % 64 ≡ y = omega arith in
       let r : 0x80 + c % 64 ≡ z = omega arith in
-      made c (x ∷ y ∷ z ∷ []) t sc (enc3 c h (omega arith) ∙ rw (p, q, r))
+      made c (x ∷ y ∷ z ∷ []) t sc (encode3 c h (omega arith) ∙ rw (p, q, r))
 
   made4 : (z w : ℕ) → isTail z ≡ true → isTail w ≡ true → (t : List ℕ) → 0xF0 ≤ x → x < 0xF8 → (c : ℕ)
       → c ≡ x % 8 * 262144 + y % 64 * 4096 + z % 64 * 64 + w % 64 → 0x10000 ≤ c → Scalar c → Begins (x ∷ y ∷ z ∷ w ∷ t) (charOf 4 c)
@@ -220,7 +220,7 @@ module _ (x y : ℕ) (hy : isTail y ≡ true) where
       let q : 0x80 + c / 4096 % 64 ≡ y = omega arith in
       let r : 0x80 + c / 64 % 64 ≡ z = omega arith in
       let m : 0x80 + c % 64 ≡ w = omega arith in
-      made c (x ∷ y ∷ z ∷ w ∷ []) t sc (enc4 c h ∙ rw (p, q, r, m))
+      made c (x ∷ y ∷ z ∷ w ∷ []) t sc (encode4 c h ∙ rw (p, q, r, m))
 
 abbrev Found : List ℕ → Char → Type 0
 Found s r = (r ≡ charOf 0 0) ⊎ Begins s r
@@ -266,7 +266,7 @@ four-sound x (y ∷ z ∷ w ∷ t) a b =
     (λ e. inl refl)
 
 one-sound : (x : ℕ) (t : List ℕ) → x < 0x80 → Found (x ∷ t) (charOf 1 x)
-one-sound x t h = inr (made x (x ∷ []) t (record { below = omega arith; outside = omega arith }) (enc1 x h))
+one-sound x t h = inr (made x (x ∷ []) t (record { below = omega arith; outside = omega arith }) (encode1 x h))
 
 pub sound : (s : List ℕ) → Found s (decoded s)
 unfolding decoded

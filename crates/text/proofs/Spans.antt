@@ -76,6 +76,12 @@ module _ (p : ℕ → Bool) where
       omega
       (arith, span-many n (drop i s) (omega (arith, length-drop i s)) (λ k j. rw (getD-drop i s k 0) (f k j)), ap (span p) (drop-drop n i s))
 
+  -- over a list that passes
+  pub span-append : (a w : List ℕ) → All p a → span p (a ++ w) ≡ length a + span p w
+  unfolding span
+  span-append [] w h = sym (zero-add (span p w))
+  span-append (x ∷ a) w h = rw (h .0, suc-add) (ap suc (span-append a w (h .1)))
+
   -- ---- a loop that has come to i: what is still to come makes up the answer n
 
   module _ (s : List ℕ) (i n : ℕ) (w : i + span p (drop i s) ≡ n) where

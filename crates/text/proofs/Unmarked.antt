@@ -5,12 +5,10 @@ use mathlib.Core.Logic.{_⊎_, inl, inr, _≢_}
 use mathlib.Core.List.{List, [], _∷_, _++_}
 use Prim.Native.Nat.{ℕ, _≤_, _<_}
 use native.Mathlib.Omega.{arith}
-use lib.Dec.{ltb}
-use borrow.Author.Tests.{lt-ltb}
-use Rattle.text.specs.Lists.{Each, All, same}
-use Rattle.text.specs.Utf8.{encode}
+use Rattle.text.specs.Lists.{All}
 use Rattle.text.specs.Pieces.{XmlChar, low, Entity, amp, lt, gt, quot, apos, stands, Piece, char, entity, spell, spells, resolved, resolvedAll, GoodPiece, Spells, isUnmarked}
 use Rattle.text.proofs.Classes.{Named, only, from, _or_, is-in}
+use Rattle.text.proofs.Decoding.{encode1}
 use Rattle.text.proofs.Spelling.{one-text}
 
 pub unmarked : Named isUnmarked (only 33 or from 35 37 or from 40 59 or only 61 or from 63 126)
@@ -32,10 +30,6 @@ own c e = elim (is-in unmarked c e) [
   | inr h ↦ record { low = omega arith; high = omega arith; notLess = λ z. omega arith; notAmp = λ z. omega arith }
 ]
 
-encode-own : (c : ℕ) → c < 0x80 → encode c ≡ c ∷ []
-unfolding encode
-encode-own c h = rw (lt-ltb c 0x80 h)
-
 -- no entity stands for one
 marked : (e : Entity) → isUnmarked (stands e) ≡ false
 unfolding isUnmarked
@@ -51,7 +45,7 @@ unmarked-is s cs w a = w .is ∙ go (w .pieces) (subst (All isUnmarked) (w .char
   where
     go : (ps : List Piece) → All isUnmarked (resolvedAll ps) → spells ps ≡ resolvedAll ps
     go [] h = refl
-    go (char c ∷ ps) h = ap₂ _++_ (encode-own c (let o = own c (h .0) in let k = o .high in omega arith)) (go ps (h .1))
+    go (char c ∷ ps) h = ap₂ _++_ (encode1 c (let o = own c (h .0) in let k = o .high in omega arith)) (go ps (h .1))
     go (entity e ∷ ps) h = absurd (true≢false (sym (h .0) ∙ marked e))
 
 pub unmarked-own : (s : List ℕ) → All isUnmarked s → Spells s s
@@ -64,7 +58,7 @@ unmarked-own (c ∷ s) h =
     record {
       pieces = char c ∷ r .pieces;
       good = ((low (omega arith) (omega arith), o .notLess, o .notAmp), r .good);
-      is = ap₂ _++_ (sym (encode-own c (omega arith))) (r .is);
+      is = ap₂ _++_ (sym (encode1 c (omega arith))) (r .is);
       chars = ap (λ (u : List ℕ). c ∷ u) (r .chars);
     }
 

@@ -97,7 +97,7 @@ ccy-third (a ∷ []) w = absurd (omega (arith, w .three))
 ccy-third (a ∷ b ∷ []) w = absurd (omega (arith, w .three))
 ccy-third (a ∷ b ∷ c ∷ t) w = w .capitals .1 .1 .0
 
-ccy-make : (t : List ℕ) → length t ≡ 3 → isCapital (getD t 0 0) ≡ true → isCapital (getD t 1 0) ≡ true → isCapital (getD t 2 0) ≡ true → Ccy t
+pub ccy-make : (t : List ℕ) → length t ≡ 3 → isCapital (getD t 0 0) ≡ true → isCapital (getD t 1 0) ≡ true → isCapital (getD t 2 0) ≡ true → Ccy t
 ccy-make (a ∷ b ∷ c ∷ []) h p q r = record { three = refl; capitals = (p, (q, (r, tt))) }
 ccy-make [] h p q r = absurd (omega arith)
 ccy-make (a ∷ []) h p q r = absurd (omega arith)

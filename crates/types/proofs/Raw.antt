@@ -6,13 +6,13 @@ use mathlib.Core.Logic.{_≢_, ⊎-elim}
 use Prim.Native.Nat.{ℕ, _+_, _≤_, _<_}
 use native.Mathlib.Omega.{arith}
 use lib.ListN.{length, length-append}
-use borrow.Author.Tests.{lt-ltb}
 use Rattle.text.specs.Bytes.{isBlank}
 use Rattle.text.specs.Lists.{Each}
 use Rattle.text.specs.Utf8.{encode, encodeAll}
 use Rattle.text.specs.Pieces.{XmlChar, amp, lt, gt, quot, apos, Piece, char, entity, spells, resolvedAll, Spells}
 use Rattle.types.proofs.Classes.{Solid}
 use Rattle.text.proofs.Classes.{is-in, blank}
+use Rattle.text.proofs.Decoding.{encode1}
 use Rattle.types.proofs.Encoding.{encoded-long}
 
 -- a character that stands for itself alone
@@ -37,10 +37,6 @@ blank-tame x e =
     (λ a. record { below = omega arith; known = XmlChar.return a; amp = omega arith; less = omega arith; greater = omega arith; quotes = omega arith })
     (is-in blank x e)
 
-pub one-byte : (x : ℕ) → x < 128 → encode x ≡ x ∷ []
-unfolding encode
-one-byte x h = rw (lt-ltb x 128 h)
-
 pub raw-to : (s : List ℕ) → Each Tame s → Spells s s
 raw-to [] t = record { pieces = []; good = tt; is = refl; chars = refl }
 raw-to (x ∷ s) t =
@@ -49,13 +45,13 @@ raw-to (x ∷ s) t =
     record {
       pieces = char x ∷ w .pieces;
       good = ((h .known, h .less, h .amp), w .good);
-      is = rw (one-byte x (h .below)) (ap (λ (u : List ℕ). x ∷ u) (w .is));
+      is = rw (encode1 x (h .below)) (ap (λ (u : List ℕ). x ∷ u) (w .is));
       chars = ap (λ (u : List ℕ). x ∷ u) (w .chars);
     }
 
 raw-go : (ps : List Piece) → Each Tame (resolvedAll ps) → spells ps ≡ resolvedAll ps
 raw-go [] t = refl
-raw-go (char x ∷ ps) t = rw (one-byte x (t .0 .below)) (ap (λ (u : List ℕ). x ∷ u) (raw-go ps (t .1)))
+raw-go (char x ∷ ps) t = rw (encode1 x (t .0 .below)) (ap (λ (u : List ℕ). x ∷ u) (raw-go ps (t .1)))
 raw-go (entity amp ∷ ps) t = absurd (t .0 .amp refl)
 raw-go (entity lt ∷ ps) t = absurd (t .0 .less refl)
 raw-go (entity gt ∷ ps) t = absurd (t .0 .greater refl)
@@ -85,4 +81,4 @@ spelt-long s cs w = omega (arith, encoded-short s cs w, encoded-long cs)
 -- and its bytes are its characters
 pub plain-encode : (cs : List ℕ) → Each Solid cs → encodeAll cs ≡ cs
 plain-encode [] h = refl
-plain-encode (c ∷ cs) h = ap (λ (u : List ℕ). u ++ encodeAll cs) (one-byte c (omega (arith, h .0 .high))) ∙ ap (λ (u : List ℕ). c ∷ u) (plain-encode cs (h .1))
+plain-encode (c ∷ cs) h = ap (λ (u : List ℕ). u ++ encodeAll cs) (encode1 c (omega (arith, h .0 .high))) ∙ ap (λ (u : List ℕ). c ∷ u) (plain-encode cs (h .1))

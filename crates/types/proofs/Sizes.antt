@@ -17,7 +17,7 @@ use Rattle.text.specs.declared.utf8.Char.{Char}
 use Rattle.text.proofs.Spelling as spelling
 use Rattle.types.specs.Texts.{Spelled, spelled, widthOf}
 use Rattle.types.specs.declared.judged.Judged.the-variants as J
-use Rattle.types.proofs.Raw.{one-byte}
+use Rattle.text.proofs.Decoding.{encode1}
 
 pub width-one : (len code : ℕ) → code < 128 → widthOf len code ≡ 1
 unfolding widthOf
@@ -32,13 +32,13 @@ piece-width : (p : Piece) → length (encode (resolved p)) ≡ widthOf (length (
 piece-width (char c) = go (decLt c 128)
   where
     go : Dec (c < 128) → length (encode c) ≡ widthOf (length (encode c)) c
-    go (yes h) = ap length (one-byte c h) ∙ sym (width-one (length (encode c)) c h)
+    go (yes h) = ap length (encode1 c h) ∙ sym (width-one (length (encode c)) c h)
     go (no h) = sym (width-len (length (encode c)) c (omega arith))
-piece-width (entity amp) = ap length (one-byte 38 (omega arith)) ∙ sym (width-one 5 38 (omega arith))
-piece-width (entity lt) = ap length (one-byte 60 (omega arith)) ∙ sym (width-one 4 60 (omega arith))
-piece-width (entity gt) = ap length (one-byte 62 (omega arith)) ∙ sym (width-one 4 62 (omega arith))
-piece-width (entity quot) = ap length (one-byte 34 (omega arith)) ∙ sym (width-one 6 34 (omega arith))
-piece-width (entity apos) = ap length (one-byte 39 (omega arith)) ∙ sym (width-one 6 39 (omega arith))
+piece-width (entity amp) = ap length (encode1 38 (omega arith)) ∙ sym (width-one 5 38 (omega arith))
+piece-width (entity lt) = ap length (encode1 60 (omega arith)) ∙ sym (width-one 4 60 (omega arith))
+piece-width (entity gt) = ap length (encode1 62 (omega arith)) ∙ sym (width-one 4 62 (omega arith))
+piece-width (entity quot) = ap length (encode1 34 (omega arith)) ∙ sym (width-one 6 34 (omega arith))
+piece-width (entity apos) = ap length (encode1 39 (omega arith)) ∙ sym (width-one 6 39 (omega arith))
 
 pub next-width : (l : List ℕ) (r : Char) → NextChar l r → 0 < r .len → length (encode (r .code)) ≡ widthOf (r .len) (r .code)
 next-width l r f h =

@@ -202,16 +202,16 @@ left-long dtm cs t e = trim-long cs t e
 left-long (txt n) cs t e = omega (arith, ap length e)
 left-long (enum ws) cs t e = omega (arith, ap length e)
 
-text-bytes : (cs : List ℕ) → length (bytes (text cs)) ≡ 2 + length (encodeAll cs)
+pub text-bytes : (cs : List ℕ) → length (bytes (text cs)) ≡ 2 + length (encodeAll cs)
 text-bytes cs = omega (arith, length-append (bigEndian 2 (length (encodeAll cs))) (encodeAll cs), big-length 2 (length (encodeAll cs)))
 
-money-bytes : (w : List ℕ) (k c : ℕ) → Ccy w → length (bytes (amount w k c)) ≡ 12
+pub money-bytes : (w : List ℕ) (k c : ℕ) → Ccy w → length (bytes (amount w k c)) ≡ 12
 money-bytes w k c r = omega (arith, r .three, length-append w (k ∷ bigEndian 8 c), big-length 8 c)
 
-day-bytes : (y m d : ℕ) → length (bytes (day y m d)) ≡ 4
+pub day-bytes : (y m d : ℕ) → length (bytes (day y m d)) ≡ 4
 day-bytes y m d = omega (arith, length-append (bigEndian 2 y) (m ∷ d ∷ []), big-length 2 y)
 
-moment-bytes : (y mo d h mi s u z : ℕ) → length (bytes (moment y mo d h mi s u z)) ≡ 13
+pub moment-bytes : (y mo d h mi s u z : ℕ) → length (bytes (moment y mo d h mi s u z)) ≡ 13
 moment-bytes y mo d h mi s u z = omega (arith, length-append (bigEndian 2 y) (mo ∷ d ∷ h ∷ mi ∷ s ∷ (bigEndian 4 u ++ bigEndian 2 z)), length-append (bigEndian 4 u) (bigEndian 2 z), big-length 2 y, big-length 4 u, big-length 2 z)
 
 moment-long : {t : List ℕ} {y mo d h mi s u z : ℕ} → MomentText t y mo d h mi s u z → 19 ≤ length t

@@ -36,7 +36,8 @@ use Rattle.walk.proofs.Answers.{kinds}
 use Rattle.walk.proofs.Sound.{Placed}
 use Rattle.walk.proofs.Joint.{judged}
 use Rattle.walk.proofs.Own.{Coins}
-use Rattle.walk.proofs.Turning.{turned}
+use Rattle.walk.proofs.Turning.{turned, judged-group}
+use Rattle.list.proofs.Tests.{byCases}
 use Rattle.walk.proofs.Beginning.{one-element, began, first-is}
 use Rattle.walk.proofs.Accept.{accept}
 use Rattle.walk.proofs.Items.{opens-group, closes-group, items-are}
@@ -104,21 +105,12 @@ module _ (k : Kinds) (t pool s : List ℕ) (sd : Sound t pool) where
   opens-leaf choice r g = absurd (true≢false g)
   opens-leaf (leaf f) r g = refl
 
-  judged-group : (q : Kind) (r o : ℕ) (ats : Attrs) (cs : List ℕ) → isGroup q ≡ true → judged T q r o ats cs ≡ fine
-  judged-group group r o ats cs g = refl
-  judged-group choice r o ats cs g = refl
-  judged-group (leaf f) r o ats cs g = absurd (false≢true g)
-
   -- a row's kind, by the list and by the cells
   kind-of : (lv : Level) → Placed t pool sd lv → rowAt l (lv .row) .kind ≡ kindIn t pool (lv .row)
   kind-of lv p = kind-is t pool (lv .row) (p .low) (omega (arith, p .high, size-is t pool))
 
   pub row-byte : (lv : Level) → Placed t pool sd lv → lv .row ≤ 255
   row-byte lv p = omega (arith, p .high, sd .well .bytes)
-
-  by-bool : {P : Type 0} (b : Bool) → (b ≡ true → P) → (b ≡ false → P) → P
-  by-bool true f g = f refl
-  by-bool false f g = g refl
 
   module _ (x : HouseXml s) where
     abbrev found-all : Found
@@ -283,7 +275,7 @@ module _ (k : Kinds) (t pool s : List ℕ) (sd : Sound t pool) where
               q-is = kind-of (turn .here .level) (w .stands .placed)
 
               put-in : Puts d at (itemsOf (opens T l (rowAt l (turn .here .level .row) .kind) (turn .here .level .row))) r d′
-              put-in = by-bool (isGroup q)
+              put-in = byCases (isGroup q)
                   (λ b. puts-as d at (turn .here .level .row ∷ []) (itemsOf (opens T l q (turn .here .level .row))) r d′ (sym (opens-bytes q (turn .here .level .row) refl b))
                   (o .group pool (ap isGroup (sym q-is) ∙ b)))
                   (λ b. puts-as d at [] (itemsOf (opens T l q (turn .here .level .row))) r d′ (ap itemsOf (sym (opens-leaf q (turn .here .level .row) b)))
@@ -334,7 +326,7 @@ module _ (k : Kinds) (t pool s : List ℕ) (sd : Sound t pool) where
             spelt f = T .spell f (currency (g .ats)) (w .chars)
 
             by-group : isGroup (rowAt l row .kind) ≡ true → Going d′ st′ (turn .here) r
-            by-group b = goes-by (judged-group (rowAt l row .kind) row (here .level .place) (g .ats) (w .chars) b)
+            by-group b = goes-by (judged-group T l (rowAt l row .kind) row (here .level .place) (g .ats) (w .chars) b)
                 (puts-as d at [] (itemsOf new) r d′ (ap itemsOf (sym (closes-group T l (rowAt l row .kind) row (g .ats) (w .chars) b))) (o .group (ap isGroup (sym kind-here) ∙ b)))
 
             item-of : (f : Leaf) → rowAt l row .kind ≡ leaf f → (v : Option (T .A)) → spelt f ≡ v → ItemPut k t pool row f v d at r d′

@@ -10,6 +10,7 @@ use walk::begin::begin;
 use walk::step::Here;
 use walk::step::Met;
 use walk::step::step;
+use walk::tag::is_group;
 use walk::verdict::Verdict;
 use written::place::place;
 use written::write::size;
@@ -19,7 +20,6 @@ ghost use mathlib.Core.List.{[], _∷_, _++_};
 ghost use Prim.Native.Nat.{_+_, _≤_};
 ghost use lib.ListN.{length};
 ghost use lib.Seq.{slice};
-ghost use Rattle.walk.specs.Tables.{isGroupIn};
 ghost use Rattle.image.specs.Image.{header};
 ghost use Rattle.list.specs.Table.{cell, wordsIn, listOf};
 ghost use Rattle.demands.specs.Instance.{houseKinds};
@@ -35,16 +35,6 @@ fn put_head(out: &mut [u8]) -> usize
     let head = HEAD;
     copy(&head, 0, 6, out, 0);
     6
-}
-
-// Whether a kind's number is no leaf's.
-fn is_group(kind: usize) -> bool
-    ensures { λ r. ⌜ r ≡ isGroupIn kind ⌝ }
-{
-    match kind {
-        2..=11 => false,
-        _ => true,
-    }
 }
 
 // The item of a group of this row, which is its row byte; of a leaf nothing yet. The place behind it.

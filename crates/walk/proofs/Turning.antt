@@ -47,7 +47,7 @@ use Rattle.walk.proofs.Telling.{Told, byOpen, byEmpty, byClose, byEnd, 
 use Rattle.walk.proofs.Turned.{Closing, Nested, Stands, finds, hands, Turned, refused, opened, closed, whole}
 
 module _ (T : Types) (l : Listing) where
-  judged-group : (k : Kind) (r o : ℕ) (ats : Attrs) (cs : List ℕ) → isGroup k ≡ true → judged T k r o ats cs ≡ fine
+  pub judged-group : (k : Kind) (r o : ℕ) (ats : Attrs) (cs : List ℕ) → isGroup k ≡ true → judged T k r o ats cs ≡ fine
   judged-group group r o ats cs g = refl
   judged-group choice r o ats cs g = refl
   judged-group (leaf f) r o ats cs g = absurd (false≢true g)

@@ -12,7 +12,7 @@ ghost use mathlib.Core.Path.{_≡_};
 ghost use Rattle.walk.specs.Tables.{isGroupIn, passedIn, againIn, openingIn, brokenIn, groupEndIn};
 
 // Whether a kind is a group's or a choice's: what is no leaf's number is.
-pub(crate) fn is_group(kind: usize) -> bool
+pub fn is_group(kind: usize) -> bool
     ensures { λ r. ⌜ r ≡ isGroupIn kind ⌝ }
 {
     match kind {

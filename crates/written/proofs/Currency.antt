@@ -12,6 +12,7 @@ use borrow.Author.Tests.{not-true, not-false}
 use Rattle.text.specs.Bytes.{isCapital}
 use Rattle.text.specs.Lists.{All}
 use Rattle.text.proofs.Parts.{part-at, part-room}
+use Rattle.types.proofs.Codes.{ccy-make}
 use Rattle.types.specs.Code.{Ccy}
 use Rattle.types.specs.Judged.{Exactly}
 
@@ -19,13 +20,6 @@ all-at : (p : ℕ → Bool) (t : List ℕ) (k : ℕ) → All p t → k < length 
 all-at p [] k a h = absurd (omega arith)
 all-at p (x ∷ t) zero a h = a .0
 all-at p (x ∷ t) (suc k) a h = all-at p t k (a .1) (omega arith)
-
-three-of : (t : List ℕ) → length t ≡ 3 → isCapital (getD t 0 0) ≡ true → isCapital (getD t 1 0) ≡ true → isCapital (getD t 2 0) ≡ true → Ccy t
-three-of [] e a b c = absurd (omega arith)
-three-of (x ∷ []) e a b c = absurd (omega arith)
-three-of (x ∷ y ∷ []) e a b c = absurd (omega arith)
-three-of (x ∷ y ∷ z ∷ []) e a b c = record { three = refl; capitals = (a, (b, (c, tt))) }
-three-of (x ∷ y ∷ z ∷ u ∷ t) e a b c = absurd (omega arith)
 
 not-any : {P : Type 0} → (P → ⊥) → Exactly false P
 not-any f = (λ e. absurd (true≢false (sym e)), λ p. absurd (f p))
@@ -56,6 +50,6 @@ module _ (s : List ℕ) (c d n : ℕ) (e : n ≡ length (slice c d s)) where
     pub ccy-last : (p q r : Bool) → p ≡ isCapital (getD s c 0) → not p ≡ false → q ≡ isCapital (getD s (c + 1) 0) → not q ≡ false
         → r ≡ isCapital (getD s (c + 2) 0) → Exactly r (Ccy (slice c d s))
     ccy-last p q r a x b y z = (
-      λ t. three-of (slice c d s) (sym e ∙ h) (ap isCapital (at 0 (omega arith) ∙ sym first) ∙ sym a ∙ not-false p x) (ap isCapital (at 1 (omega arith)) ∙ sym b ∙ not-false q y) (ap isCapital (at 2 (omega arith)) ∙ sym z ∙ t),
+      λ t. ccy-make (slice c d s) (sym e ∙ h) (ap isCapital (at 0 (omega arith) ∙ sym first) ∙ sym a ∙ not-false p x) (ap isCapital (at 1 (omega arith)) ∙ sym b ∙ not-false q y) (ap isCapital (at 2 (omega arith)) ∙ sym z ∙ t),
       λ w. z ∙ nth w 2 (omega arith),
     )

@@ -20,7 +20,7 @@ use Rattle.text.proofs.Chars as firsts
 use Rattle.text.proofs.Decoding as decoding
 use Rattle.text.proofs.Parts.{part-take, part-length}
 use Rattle.text.proofs.Pasting.{pasted-none, pasted-then}
-use Rattle.text.proofs.Spans.{span-le, span-stop, span-go}
+use Rattle.text.proofs.Spans.{span-le, span-stop, span-go, span-append}
 use Rattle.text.proofs.Spelling.{Begins, Leads, next-begins, leads, none-spells, one-text}
 use Rattle.written.specs.Runs.{isOwn, Roomy, CharsPut}
 use Rattle.written.proofs.Putting.{kept}
@@ -87,11 +87,6 @@ stands-one quot = refl
 stands-one apos = refl
 
 -- ---- spans of lists one behind the other
-
-span-append : (p : ℕ → Bool) (a t : List ℕ) → All p a → span p (a ++ t) ≡ length a + span p t
-unfolding span
-span-append p [] t h = sym (zero-add (span p t))
-span-append p (x ∷ a) t h = rw (h .0, suc-add) (ap suc (span-append p a t (h .1)))
 
 span-ends : (p : ℕ → Bool) (l : List ℕ) → span p (drop (span p l) l) ≡ 0
 unfolding span

@@ -11,6 +11,7 @@ use Rattle.text.specs.Bytes.{ascii, inRange}
 use Rattle.text.specs.Pieces.{XmlChar, tab, line, return, low, middle, high}
 use Rattle.text.specs.Utf8.{encode}
 use Rattle.text.proofs.Classes.{in-range, in-range-is}
+use Rattle.text.proofs.Decoding.{encode1, encode2, encode3, encode4}
 use Rattle.text.specs.Pieces.{Entity, amp, lt, gt, quot, apos, word, Piece, char, entity, spell, GoodPiece}
 use Rattle.xml.proofs.Runs.{cuts, brackets}
 use Rattle.xml.specs.Auto.{Part, one, two, three, e0, ed, ef, efbf, f0, f4, ampersand, ampersandA, rest, Read, bad, all, more, toWord, asciiLead, long, lead, go-on, takes}
@@ -42,10 +43,6 @@ pub record Short (x : ℕ) : Type 0 where
   pub good : GoodPiece (char x)
   pub is : encode x ≡ x ∷ []
 
-one-byte : (c : ℕ) → c < 128 → encode c ≡ c ∷ []
-unfolding encode
-one-byte c h = rw (lt-ltb c 128 h)
-
 ascii-char : (x : ℕ) → x < 128 → (leb 32 x || eqb x 9 || eqb x 10 || eqb x 13) ≡ true → XmlChar x
 ascii-char x h e = go (leb 32 x) (eqb x 9) (eqb x 10) (eqb x 13) refl refl refl refl e
   where
@@ -76,7 +73,7 @@ short x e =
     (λ h e. by (eqb x 38) e (λ _ f. not-more f)
     (λ n e. by (eqb x 60) e (λ _ f. not-bad f)
     (λ m e. by (leb 32 x || eqb x 9 || eqb x 10 || eqb x 13) e
-    (λ k _. record { good = (ascii-char x (ltb-true x 128 h) k, eqb-false x 60 m, eqb-false x 38 n); is = one-byte x (ltb-true x 128 h) })
+    (λ k _. record { good = (ascii-char x (ltb-true x 128 h) k, eqb-false x 60 m, eqb-false x 38 n); is = encode1 x (ltb-true x 128 h) })
     (λ _ f. not-bad f))))
     (λ _ e. long-not-all x e)
 
@@ -370,26 +367,14 @@ ok3 : (x y z : ℕ) → 128 ≤ x → x ≤ 191 → 128 ≤ y → y ≤ 191 → 
 ok3 x y z a b c d p q = tested 128 191 x (y ∷ z ∷ []) (more two) bad a b (ok2 y z c d p q)
 
 -- a character's bytes
-bytes2 : (c : ℕ) → 0x80 ≤ c → c < 0x800 → encode c ≡ (0xC0 + c / 64) ∷ (0x80 + c % 64) ∷ []
-unfolding encode
-bytes2 c a b = rw (le-ltb c 0x80 a, lt-ltb c 0x800 b)
-
-bytes3 : (c : ℕ) → 0x800 ≤ c → c < 0x10000 → encode c ≡ (0xE0 + c / 4096) ∷ (0x80 + c / 64 % 64) ∷ (0x80 + c % 64) ∷ []
-unfolding encode
-bytes3 c a b = rw (le-ltb c 0x80 (omega arith), le-ltb c 0x800 a, lt-ltb c 0x10000 b)
-
-bytes4 : (c : ℕ) → 0x10000 ≤ c → encode c ≡ (0xF0 + c / 262144) ∷ (0x80 + c / 4096 % 64) ∷ (0x80 + c / 64 % 64) ∷ (0x80 + c % 64) ∷ []
-unfolding encode
-bytes4 c a = rw (le-ltb c 0x80 (omega arith), le-ltb c 0x800 (omega arith), le-ltb c 0x10000 a)
-
 seen2 : (c : ℕ) → 0x80 ≤ c → c < 0x800 → Seen (char c)
-seen2 c a b = s-long a (0xC0 + c / 64) ((0x80 + c % 64) ∷ []) one (bytes2 c a b) (lead-one (0xC0 + c / 64) (omega arith) (omega arith)) (ok1 (0x80 + c % 64) (omega arith) (omega arith))
+seen2 c a b = s-long a (0xC0 + c / 64) ((0x80 + c % 64) ∷ []) one (encode2 c a b) (lead-one (0xC0 + c / 64) (omega arith) (omega arith)) (ok1 (0x80 + c % 64) (omega arith) (omega arith))
 
 seen3 : (c : ℕ) (k : Part) → 0x800 ≤ c → c < 0x10000 → lead (0xE0 + c / 4096) ≡ more k → takes ((0x80 + c / 64 % 64) ∷ (0x80 + c % 64) ∷ []) (more k) ≡ true → Seen (char c)
-seen3 c k a b e h = s-long (omega arith) (0xE0 + c / 4096) ((0x80 + c / 64 % 64) ∷ (0x80 + c % 64) ∷ []) k (bytes3 c a b) e h
+seen3 c k a b e h = s-long (omega arith) (0xE0 + c / 4096) ((0x80 + c / 64 % 64) ∷ (0x80 + c % 64) ∷ []) k (encode3 c a b) e h
 
 seen4 : (c : ℕ) (k : Part) → 0x10000 ≤ c → lead (0xF0 + c / 262144) ≡ more k → takes ((0x80 + c / 4096 % 64) ∷ (0x80 + c / 64 % 64) ∷ (0x80 + c % 64) ∷ []) (more k) ≡ true → Seen (char c)
-seen4 c k a e h = s-long (omega arith) (0xF0 + c / 262144) ((0x80 + c / 4096 % 64) ∷ (0x80 + c / 64 % 64) ∷ (0x80 + c % 64) ∷ []) k (bytes4 c a) e h
+seen4 c k a e h = s-long (omega arith) (0xF0 + c / 262144) ((0x80 + c / 4096 % 64) ∷ (0x80 + c / 64 % 64) ∷ (0x80 + c % 64) ∷ []) k (encode4 c a) e h
 
 split : {Q : Type 0} (a b : ℕ) → (a < b → Q) → (b ≤ a → Q) → Q
 split {Q} a b f g = go (ltb a b) refl
@@ -400,10 +385,10 @@ split {Q} a b f g = go (ltb a b) refl
 
 seen-ascii : (c : ℕ) → 32 ≤ c → c < 128 → c ≢ 60 → c ≢ 38 → Seen (char c)
 unfolding lead
-seen-ascii c a b n m = s-short c refl (rw (lt-ltb c 128 b, ne-eqb c 38 m, ne-eqb c 60 n, le-leb 32 c a)) (one-byte c b)
+seen-ascii c a b n m = s-short c refl (rw (lt-ltb c 128 b, ne-eqb c 38 m, ne-eqb c 60 n, le-leb 32 c a)) (encode1 c b)
 
 seen-control : (c d : ℕ) → c ≡ d → lead d ≡ all → d < 128 → Seen (char c)
-seen-control c d e h k = s-short c refl (ap lead e ∙ h) (one-byte c (omega arith))
+seen-control c d e h k = s-short c refl (ap lead e ∙ h) (encode1 c (omega arith))
 
 seen-low : (c : ℕ) → 32 ≤ c → c ≤ 0xD7FF → c ≢ 60 → c ≢ 38 → Seen (char c)
 seen-low c a b n m =

@@ -11,7 +11,7 @@ use lib.ListN.{length, getD, take, drop, length-take}
 use borrow.Author.Tests.{le-leb, lt-leb, le-ltb, lt-ltb, ne-eqb, eq-eqb, not-true, not-false}
 use Rattle.text.specs.Numbers.{number}
 use Rattle.stored.specs.Judges.{isCurrency, isAmount}
-use Rattle.stored.proofs.Listed.{exactly-one}
+use Rattle.types.proofs.Ones.{exactly-one}
 use Rattle.stored.proofs.Codes.{currency-exactly}
 
 returns : tie.Need-returns

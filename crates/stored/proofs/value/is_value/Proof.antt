@@ -3,7 +3,7 @@ use borrow.Author.Needs.{needs}
 use Rattle.stored.proofs.value.is_value.Statement.{statement}
 use Rattle.stored.proofs.value.is_value.Tie as tie
 use Rattle.stored.specs.Ends.{isValue}
-use Rattle.stored.proofs.Listed.{exactly-one}
+use Rattle.types.proofs.Ones.{exactly-one}
 use Rattle.stored.proofs.Codes.{account-exactly, currency-exactly}
 use Rattle.stored.proofs.Numbered.{other-value}
 
