@@ -6,7 +6,6 @@ use Prim.Native.Nat.{ℕ, _+_, _≤_, _<_}
 use native.Mathlib.Omega.{arith}
 use lib.ListN.{length, getD, drop}
 use Rattle.text.specs.Bytes.{isBlank, isNamePart}
-use Rattle.text.specs.Plain.{isPlain}
 use Rattle.text.specs.Lists.{span}
 use Rattle.xml.specs.Auto.{At, done, start, root, St, dead, at, next}
 use Rattle.xml.proofs.Theorem.{longest-one}

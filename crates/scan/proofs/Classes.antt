@@ -10,11 +10,10 @@ use native.Mathlib.Decide.{decLt}
 use lib.ListN.{length, getD, List·getD-eq-default}
 use borrow.Author.Tests.{lt-ltb, le-ltb, ltb-true, eqb-true, not-true}
 use Rattle.text.specs.Bytes.{isBlank, isNamePart}
-use Rattle.text.specs.Plain.{isPlain}
 use Rattle.xml.specs.Auto.{Read, bad, all, more, lead}
 use Rattle.xml.proofs.Jump.{Easy}
-use Rattle.text.proofs.Classes.{Class, only, from, _or_, Within, Named, is-in, and-is, not-so, every, passes, blank, name-part, plain}
-use Rattle.scan.specs.Classes.{classOf, above, Classed}
+use Rattle.text.proofs.Classes.{Class, only, from, _or_, Within, Named, is-in, and-is, not-so, every, passes, blank, name-part}
+use Rattle.scan.specs.Classes.{isPlain, classOf, above, Classed}
 
 -- ---- a byte that was looked up
 
@@ -54,6 +53,10 @@ is-below n (p or q) x e (inr h) = is-below n q x (and-is (below n p) (below n q)
 
 far : {f : ℕ → Bool} {p : Class} → Named f p → below 128 p ≡ true → (x : ℕ) → 128 ≤ x → f x ≡ false
 far {f} {p} d e x h = not-so (f x) (λ t. let k : x < 128 = is-below 128 p x e (is-in d x t) in omega arith)
+
+plain : Named isPlain (from 32 37 or from 39 59 or only 61 or from 63 92 or from 94 127)
+unfolding isPlain
+plain = record { is = λ x. refl }
 
 class-far : (x : ℕ) → 128 ≤ x → classOf x ≡ 0
 unfolding classOf

@@ -17,10 +17,10 @@ use Rattle.xml.specs.House.{Blanks, SomeBlanks, IsName, Quote, single, double, 
 use Rattle.xml.proofs.Basics.{by-blank, blank-no-rest, blank-no-start}
 use Rattle.tags.specs.declared.attribute.Attribute.{Attribute}
 use Rattle.tags.specs.declared.attribute.Passed.{Passed}
-use Rattle.tags.specs.Passing.{but, noQuote, pass}
+use Rattle.tags.specs.Passing.{but, noQuote, inName, pass}
 use Rattle.tags.specs.Attributes.{nowhere, valueAt, quoteAt, namedAt, attributeAt, isNone, counted, passedFrom, passedAt}
 use Rattle.tags.specs.Places.{nameOf, attributeOf, firstOf}
-use Rattle.tags.proofs.Passing.{all-append, all-weaken, stops, pass-over, pass-any, one-le}
+use Rattle.tags.proofs.Passing.{all-append, all-weaken, stops, pass-over, pass-any, one-le, blank-stops}
 use Rattle.tags.proofs.Avoid.{value-avoids}
 
 -- ---- on any bytes: the places stand in order, between o and e
@@ -163,14 +163,15 @@ some-blanks : (g : List ℕ) → SomeBlanks g → Blanks g
 some-blanks [] b = absurd b
 some-blanks (x ∷ g) b = b
 
--- a blank ends a name
-pub blanks-end-name : (g w : List ℕ) → Blanks g → span isNamePart w ≡ 0 → span isNamePart (g ++ w) ≡ 0
-blanks-end-name [] w b e = e
-blanks-end-name (x ∷ g) w b e = stops isNamePart x (g ++ w) (blank-no-rest x (b .0))
+-- a blank ends a name, be it a tag's or an attribute's
+module _ (p : ℕ → Bool) (f : (x : ℕ) → isBlank x ≡ true → p x ≡ false) where
+  blanks-end-name : (g w : List ℕ) → Blanks g → span p w ≡ 0 → span p (g ++ w) ≡ 0
+  blanks-end-name [] w b e = e
+  blanks-end-name (x ∷ g) w b e = stops p x (g ++ w) (f x (b .0))
 
-some-end-name : (g w : List ℕ) → SomeBlanks g → span isNamePart (g ++ w) ≡ 0
-some-end-name [] w b = absurd b
-some-end-name (x ∷ g) w b = stops isNamePart x (g ++ w) (blank-no-rest x (b .0))
+  some-end-name : (g w : List ℕ) → SomeBlanks g → span p (g ++ w) ≡ 0
+  some-end-name [] w b = absurd b
+  some-end-name (x ∷ g) w b = stops p x (g ++ w) (f x (b .0))
 
 -- ---- an attribute of a tree
 
@@ -218,7 +219,7 @@ unfolding attributeAt
 attribute-is o a w g =
     ap (attributeAt o) (attr-shape (a .gap) (a .name) (a .before) (a .after) (spells (a .value)) w (mark (a .quote)))
     ∙ pass-over isBlank namedAt o (a .gap) (a .name ++ (equals ++ value)) (some-blanks (a .gap) (g .gap)) (name-ink (a .name) (equals ++ value) (g .name))
-    ∙ named-is (nameOf o a) (a .name) (equals ++ value) (g .name) (rw append-assoc (blanks-end-name (a .before) _ (g .before) (equal-ends _)))
+    ∙ named-is (nameOf o a) (a .name) (equals ++ value) (g .name) (rw append-assoc (blanks-end-name isNamePart blank-no-rest (a .before) _ (g .before) (equal-ends _)))
     ∙ pass-over noQuote (valueAt (nameOf o a) (nameOf o a + length (a .name))) (nameOf o a + length (a .name)) equals value (equals-all (a .before) (a .after) (g .before) (g .after)) (stops noQuote (mark (a .quote)) _ (mark-quote (a .quote)))
     ∙ value-is (nameOf o a) (nameOf o a + length (a .name)) _ (a .quote) (a .value) w (g .value)
     ∙ ap (valued (nameOf o a) (nameOf o a + length (a .name)) (length (spells (a .value)))) (omega (arith, length-append (a .before) (61 ∷ a .after)))
@@ -283,9 +284,9 @@ module _ (g w : List ℕ) (b : Blanks g) (e : span isBlank w ≡ 0) (f : span is
   first-is o [] h = attribute-none o g w b e f
   first-is o (a ∷ l) h = ap (attributeAt o) (append-assoc (attr a) (attrs l) (g ++ w)) ∙ attribute-is o a (attrs l ++ (g ++ w)) (h .0)
 
-  -- no name goes on into what stands behind it
-  pub attrs-end-name : (l : List Attr) → GoodAttrs 4 [] l → span isNamePart (attrs l ++ (g ++ w)) ≡ 0
-  attrs-end-name [] h = blanks-end-name g w b f
-  attrs-end-name (a ∷ l) h =
-      ap (span isNamePart) (append-assoc (attr a) (attrs l) (g ++ w) ∙ append-assoc (a .gap) _ (attrs l ++ (g ++ w)))
-      ∙ some-end-name (a .gap) _ (h .0 .gap)
+-- a tag's name does not go on into what stands behind it
+pub attrs-end-name : (g w : List ℕ) → Blanks g → span inName w ≡ 0 → (l : List Attr) → GoodAttrs 4 [] l → span inName (attrs l ++ (g ++ w)) ≡ 0
+attrs-end-name g w b f [] h = blanks-end-name inName blank-stops g w b f
+attrs-end-name g w b f (a ∷ l) h =
+    ap (span inName) (append-assoc (attr a) (attrs l) (g ++ w) ∙ append-assoc (a .gap) _ (attrs l ++ (g ++ w)))
+    ∙ some-end-name inName blank-stops (a .gap) _ (h .0 .gap)

@@ -1,17 +1,21 @@
 -- Bytes that are passed at once, in a list that is known and at a place of any list. Assumes nothing.
-use mathlib.Core.Path.{_≡_, sym, _∙_, ap}
-use mathlib.Core.Bool.{Bool, true, false, not, true≢false}
+use mathlib.Core.Path.{_≡_, refl, sym, _∙_, ap}
+use mathlib.Core.Bool.{Bool, true, false, not, _||_, true≢false}
 use mathlib.Core.List.{List, [], _∷_, _++_}
 use Prim.Native.Nat.{ℕ, _+_, _≤_, _<_}
 use native.Mathlib.Omega.{arith}
 use native.Mathlib.Decide.{decLt}
 use lib.Dec.{eqb}
-use lib.ListN.{length, getD, drop, drop-of-length-le}
-use lib.Seq.{drop-append-seam, drop-append-add, drop-drop, drop-cons}
+use lib.ListN.{length, getD, take, drop, take-append-drop, drop-of-length-le}
+use lib.Seq.{drop-append-seam, drop-append-add, drop-drop, drop-cons, length-take-le}
 use borrow.Author.Tests.{eq-eqb, ne-eqb}
+use Rattle.text.specs.Bytes.{isBlank, isNamePart}
 use Rattle.text.specs.Lists.{All, span}
-use Rattle.text.proofs.Spans.{span-of, span-le, span-stop, span-go, span-append}
-use Rattle.tags.specs.Passing.{but, noQuote, pass, one, headIs}
+use Rattle.text.specs.Pieces.{solidus, greater}
+use Rattle.text.proofs.Classes as classes
+use Rattle.text.proofs.Classes.{Named, only, _or_}
+use Rattle.text.proofs.Spans.{span-of, span-le, span-all, span-stop, span-go, span-append}
+use Rattle.tags.specs.Passing.{but, noQuote, inName, pass, one, headIs}
 
 -- ---- all that pass a test
 
@@ -35,6 +39,21 @@ but-by p b f x h = but-other b x (λ e. true≢false (sym h ∙ ap p e ∙ f))
 pub stops : (p : ℕ → Bool) (x : ℕ) (l : List ℕ) → p x ≡ false → span p (x ∷ l) ≡ 0
 unfolding span
 stops p x l e = rw e
+
+-- a wider test passes all that a narrower one does, and goes on from there
+pub span-wider : (p q : ℕ → Bool) → ((x : ℕ) → p x ≡ true → q x ≡ true) → (l : List ℕ) → span q l ≡ span p l + span q (drop (span p l) l)
+span-wider p q f l =
+    let n = span p l in
+    ap (span q) (sym (take-append-drop n l))
+    ∙ span-append q (take n l) (drop n l) (all-weaken p q f (take n l) (span-all p l))
+    ∙ ap (λ (m : ℕ). m + span q (drop n l)) (length-take-le n l (span-le p l))
+
+pub wider-at : (p q : ℕ → Bool) → ((x : ℕ) → p x ≡ true → q x ≡ true) → (s : List ℕ) (at m r : ℕ) → m ≡ at + span p (drop at s)
+    → r ≡ m + span q (drop m s) → r ≡ at + span q (drop at s)
+wider-at p q f s at m r e h =
+    let d : drop (span p (drop at s)) (drop at s) ≡ drop m s = drop-drop (span p (drop at s)) at s ∙ ap (λ (x : ℕ). drop x s) (sym e) in
+    let w : span q (drop at s) ≡ span p (drop at s) + span q (drop m s) = span-wider p q f (drop at s) ∙ ap (λ (l : List ℕ). span p (drop at s) + span q l) d in
+    omega (arith, w, e, h)
 
 -- ---- passing
 
@@ -103,3 +122,21 @@ module _ (b : ℕ) (s : List ℕ) (i n : ℕ) (w : i + span (but b) (drop i s) �
 pub no-quote : (x : ℕ) → (x ≡ 34 → ⊥) → (x ≡ 39 → ⊥) → noQuote x ≡ true
 unfolding noQuote
 no-quote x a b = rw (ne-eqb x 34 a, ne-eqb x 39 b)
+
+-- ---- a name in a tag
+
+-- the bytes that end it
+pub name-stop : Named (λ (x : ℕ). isBlank x || eqb x solidus || eqb x greater) (only 32 or only 9 or only 10 or only 13 or only 47 or only 62)
+unfolding isBlank
+name-stop = record { is = λ x. refl }
+
+pub blank-stops : (x : ℕ) → isBlank x ≡ true → inName x ≡ false
+unfolding inName
+blank-stops x e = rw e
+
+-- it goes on over all that a good name has
+pub part-in-name : (x : ℕ) → isNamePart x ≡ true → inName x ≡ true
+unfolding inName isNamePart
+part-in-name x e =
+    let other : (k : ℕ) → isNamePart k ≡ false → x ≡ k → ⊥ = λ k f q. true≢false (sym e ∙ ap isNamePart q ∙ f) in
+    ap not (sym (classes.no name-stop (((((other 32 refl, other 9 refl), other 10 refl), other 13 refl), other 47 refl), other 62 refl)))

@@ -22,16 +22,16 @@ root-from : (o : ℕ) (b w : List ℕ) → Blanks b → rootFrom o (b ++ (60 ∷
 unfolding rootFrom isBlank
 root-from o b w h = ap (λ (n : ℕ). o + n) (span-of isBlank b (60 ∷ w) h (stops isBlank 60 w refl))
 
-name-no-question : (n w : List ℕ) → IsName n → headIs 63 (n ++ w) ≡ false
-unfolding isNameStart
-name-no-question [] w i = absurd i
-name-no-question (x ∷ n) w i = ne-eqb x 63 (λ e. true≢false (sym (i .0) ∙ ap isNameStart e))
+-- a name begins with no byte that begins none
+pub name-not : (b : ℕ) → isNameStart b ≡ false → (n w : List ℕ) → IsName n → headIs b (n ++ w) ≡ false
+name-not b f [] w i = absurd i
+name-not b f (x ∷ n) w i = ne-eqb x b (λ e. true≢false (sym (i .0) ∙ ap isNameStart e ∙ f))
 
 pub start-is : (d : Bool) (b n w : List ℕ) → Blanks b → IsName n
     → startOf (declaration d ++ (b ++ (60 ∷ (n ++ w)))) ≡ length (declaration d) + length b
-unfolding startOf declared isBlank
+unfolding startOf declared isBlank isNameStart
 start-is true b n w h i =
     pass-over (but greater) (λ o m. rootFrom (o + one m) (drop (one m) m)) 0 declared (62 ∷ (b ++ (60 ∷ (n ++ w)))) (all-passed (but greater) declared refl) (stops (but greater) 62 _ refl)
     ∙ root-from (length (declaration true)) b (n ++ w) h
-start-is false [] n w h i = rw (name-no-question n w i) (root-from 0 [] (n ++ w) h)
+start-is false [] n w h i = rw (name-not 63 refl n w i) (root-from 0 [] (n ++ w) h)
 start-is false (x ∷ b) n w h i = rw (ne-eqb x 60 (λ e. true≢false (sym (h .0) ∙ ap isBlank e))) (root-from 0 (x ∷ b) (n ++ w) h)

@@ -1,24 +1,30 @@
 -- The mirrors at a place of any text s, from what the code's calls told. Assumes nothing.
 use mathlib.Core.Path.{_≡_, refl, sym, _∙_, ap, subst}
-use mathlib.Core.Bool.{true, false}
+use mathlib.Core.Bool.{Bool, true, false}
 use mathlib.Core.List.{List, _∷_}
 use Prim.Native.Nat.{ℕ, _+_, _-_, _≤_, _<_}
 use native.Mathlib.Numerals.{add-one}
 use native.Mathlib.Omega.{arith}
+use lib.Dec.{eqb}
 use lib.ListN.{length, getD, drop, length-drop, drop-of-length-le}
 use lib.Seq.{drop-drop, drop-cons}
-use borrow.Author.Tests.{eq-eqb, ne-eqb}
+use borrow.Author.Tests.{eqb-true, eq-eqb, ne-eqb}
 use Rattle.text.specs.Bytes.{isBlank, isNamePart}
 use Rattle.text.specs.Lists.{span}
 use Rattle.text.specs.Pieces.{less, greater}
+use Rattle.text.proofs.Spans.{span-stop}
 use Rattle.tags.specs.declared.attribute.Attribute.{Attribute}
 use Rattle.tags.specs.declared.attribute.Passed.{Passed}
 use Rattle.tags.specs.declared.token.Kind.the-variants.{Open, Empty, Close, End}
-use Rattle.tags.specs.Passing.{but, noQuote, one, headIs, behind}
+use Rattle.tags.specs.Passing.{but, noQuote, inName, one, headIs, behind}
 use Rattle.tags.specs.Attributes.{nowhere, valueAt, quoteAt, namedAt, attributeAt, isNone, counted, passedAt}
-use Rattle.tags.specs.Tokens.{bare, shutAt, tailAt, tagAt, tokenAt, rootFrom, isDeclared, startOf}
-use Rattle.tags.proofs.Passing.{pass-at}
+use Rattle.tags.specs.Tokens.{bare, shutAt, tailAt, tagAt, openAt, tokenAt, rootFrom, isDeclared, startOf}
+use Rattle.tags.proofs.Passing.{but-by, wider-at, pass-at, past-go, head-at, head-in}
 use Rattle.tags.proofs.Attributes.{attribute-lies, some-end, passed-none, passed-some, passed-between}
+
+greater-ends : isNamePart 62 ≡ false
+unfolding isNamePart
+greater-ends = refl
 
 module _ (s : List ℕ) where
   -- a later place, reached from an earlier one
@@ -154,6 +160,26 @@ module _ (s : List ℕ) where
         sym
         (rw (f .counts, ← e, ← q) (ap (shutAt o stop (m .count + 1) a (m .end)) (drop-to stop (m .end) (omega (arith, f .on)))))
 
+  greater-there : (i : ℕ) → headIs 62 (drop i s) ≡ true → getD s i 0 ≡ 62
+  greater-there i h = eqb-true (getD s i 0) 62 (head-at 62 s i (head-in 62 s i h) ∙ h)
+
+  -- a test that `>` fails goes no further from there
+  greater-stays : (p : ℕ → Bool) (i : ℕ) → headIs 62 (drop i s) ≡ true → p 62 ≡ false → i ≡ i + span p (drop i s)
+  greater-stays p i h f =
+      let z = span-stop p s i (head-in 62 s i h) (ap p (greater-there i h) ∙ f) in
+      omega (arith, z)
+
+  -- behind the name stands `>`
+  pub tail-greater : (o stop : ℕ) (a : Attribute) → headIs 62 (drop stop s) ≡ true → a ≡ nowhere stop
+      → record { kind = Open; less = o; stop = stop; attributes = 0; first = a; end = stop + 1 } ≡ tailAt o stop (drop stop s)
+  unfolding isBlank
+  tail-greater o stop a h e =
+      let i = head-in 62 s stop h in
+      let n = attribute-nowhere stop stop stop (greater-stays isBlank stop h refl) (greater-stays isNamePart stop h greater-ends) refl in
+      shut-open o stop 0 a stop (stop + 1) (sym (head-at 47 s stop i) ∙ ap (λ (z : ℕ). eqb z 47) (greater-there stop h)) (past-go s stop i)
+      ∙ ap (λ (x : Attribute). shutAt o stop 0 x stop (drop stop s)) e
+      ∙ tail-none o stop (nowhere stop) n refl
+
   module _ (at o : ℕ) (h : o ≡ at + span (but less) (drop at s)) where
     pub next-end : length s ≤ o → bare End o o ≡ tokenAt at (drop at s)
     unfolding tokenAt tagAt
@@ -170,14 +196,36 @@ module _ (s : List ℕ) where
           ∙ ap (tagAt o) (drop-byte o g)
           ∙ rw b (ap (bare Close o) (pass-at (but greater) (λ z l. z + one l) s (o + 1) q e ∙ sym f)))
 
-      pub next-open : (stop : ℕ) → headIs 47 (drop (o + 1) s) ≡ false → stop ≡ o + 1 + span isNamePart (drop (o + 1) s)
-          → tailAt o stop (drop stop s) ≡ tokenAt at (drop at s)
-      unfolding tokenAt tagAt
-      next-open stop b e =
-          sym
-          (pass-at (but less) tagAt s at o h
-          ∙ ap (tagAt o) (drop-byte o g)
-          ∙ rw b (pass-at isNamePart (tailAt o) s (o + 1) stop e))
+      module _ (stop : ℕ) (b : headIs 47 (drop (o + 1) s) ≡ false) (e : stop ≡ o + 1 + span inName (drop (o + 1) s)) where
+        pub next-open : tailAt o stop (drop stop s) ≡ tokenAt at (drop at s)
+        unfolding tokenAt tagAt
+        next-open =
+            sym
+            (pass-at (but less) tagAt s at o h
+            ∙ ap (tagAt o) (drop-byte o g)
+            ∙ rw b (pass-at inName (tailAt o) s (o + 1) stop e))
+
+        -- behind the name stands `>`
+        pub next-plain : (a : Attribute) → headIs 62 (drop stop s) ≡ true → a ≡ nowhere stop
+            → record { kind = Open; less = o; stop = stop; attributes = 0; first = a; end = stop + 1 } ≡ tokenAt at (drop at s)
+        next-plain a f k = tail-greater o stop a f k ∙ next-open
+
+  -- an opening tag
+  pub open-end : (o : ℕ) → length s ≤ o → bare End o o ≡ openAt o (drop o s)
+  unfolding openAt
+  open-end o g = sym (ap (openAt o) (drop-of-length-le s g))
+
+  pub open-tail : (o stop : ℕ) → o < length s → stop ≡ o + 1 + span inName (drop (o + 1) s) → tailAt o stop (drop stop s) ≡ openAt o (drop o s)
+  unfolding openAt
+  open-tail o stop g e = sym (ap (openAt o) (drop-byte o g) ∙ pass-at inName (tailAt o) s (o + 1) stop e)
+
+  -- a token from any place of the blanks before it
+  pub token-later : (at m : ℕ) → m ≡ at + span isBlank (drop at s) → tokenAt m (drop m s) ≡ tokenAt at (drop at s)
+  unfolding tokenAt isBlank
+  token-later at m e =
+      let r = m + span (but less) (drop m s) in
+      pass-at (but less) tagAt s m r refl
+      ∙ sym (pass-at (but less) tagAt s at r (wider-at isBlank (but less) (but-by isBlank less refl) s at m r e refl))
 
   -- ---- where the root begins
 

@@ -5,7 +5,7 @@ use Prim.Native.Nat.{ℕ, zero, suc, _+_}
 use native.Mathlib.Omega.{arith}
 use lib.ListN.{length, drop, length-append}
 use lib.Seq.{drop-append-seam}
-use Rattle.text.specs.Bytes.{isBlank}
+use Rattle.text.specs.Bytes.{isBlank, isNameStart}
 use Rattle.text.specs.Lists.{Each}
 use Rattle.text.specs.Pieces.{less, Piece, spell, spells, resolved, GoodPiece}
 use Rattle.xml.specs.House.{Blanks, IsName, attrs, Tag, tag, GoodTag, Content, end, piece, empty, full, render, Good, OneElement, declaration, Tree, whole, GoodTree}
@@ -14,12 +14,12 @@ use Rattle.xml.proofs.Lang.{endOn}
 use Rattle.tags.specs.declared.token.Kind.the-variants.{Open, Empty, Close}
 use Rattle.tags.specs.declared.token.Token.{Token}
 use Rattle.tags.specs.Passing.{but}
-use Rattle.tags.specs.Tokens.{tokenAt, startOf}
+use Rattle.tags.specs.Tokens.{tagAt, openAt, tokenAt, startOf}
 use Rattle.tags.specs.Story.{Event, char, enter, leave, events, chars, Text, tokenIn, Tagged, Tells, enters, passes, leaves, ends}
-use Rattle.tags.proofs.Passing.{all-weaken, but-by}
+use Rattle.tags.proofs.Passing.{all-weaken, but-by, stops, pass-none}
 use Rattle.tags.proofs.Slices.{drop-is}
 use Rattle.tags.proofs.Tokens.{token-end}
-use Rattle.tags.proofs.Start.{start-is}
+use Rattle.tags.proofs.Start.{start-is, name-not}
 use Rattle.tags.proofs.Elements.{text-at, empty-at, open-at, close-at, piece-shape, empty-shape, full-shape, full-length, empty-length}
 
 -- ---- a text with one piece more
@@ -175,6 +175,17 @@ root-drop t =
     let d = declaration (t .declared) in
     let w = render (t .root) ++ t .after in
     drop-is (length d) (rootAt t) (whole t) (t .before) w (drop-append-seam d (t .before ++ w)) refl
+
+-- where no text stands before its tag
+pub start-opens : (t : Tree) → GoodTree t → openAt (startOf (whole t)) (drop (startOf (whole t)) (whole t)) ≡ tokenAt (startOf (whole t)) (drop (startOf (whole t)) (whole t))
+unfolding tokenAt tagAt openAt isNameStart
+start-opens t g =
+    let r = root-shape (t .root) (t .after) (g .one) (g .root) in
+    let o = startOf (whole t) in
+    let l : List ℕ = 60 ∷ (r .0 ++ r .1) in
+    let d : drop o (whole t) ≡ l = ap (λ (z : ℕ). drop z (whole t)) (start-root t g) ∙ root-drop t ∙ r .3 in
+    let n : tagAt o l ≡ openAt o l = rw (name-not 47 refl (r .0) (r .1) (r .2)) in
+    ap (openAt o) d ∙ sym n ∙ sym (pass-none (but less) tagAt o l (stops (but less) 60 (r .0 ++ r .1) refl)) ∙ ap (tokenAt o) (sym d)
 
 -- and from there on it tells the message
 pub told : (t : Tree) → GoodTree t → Tells (whole t) (startOf (whole t)) (events (messageOf t) [])

@@ -16,11 +16,11 @@ use Rattle.xml.specs.House.{Blanks, IsName, attrs, Tag, tag, GoodTag}
 use Rattle.tags.specs.declared.attribute.Attribute.{Attribute}
 use Rattle.tags.specs.declared.token.Kind.the-variants.{Open, Empty, Close, End}
 use Rattle.tags.specs.declared.token.Token.{Token}
-use Rattle.tags.specs.Passing.{but, pass, one, headIs, behind}
+use Rattle.tags.specs.Passing.{but, inName, pass, one, headIs, behind}
 use Rattle.tags.specs.Attributes.{attributeAt, passedAt}
 use Rattle.tags.specs.Tokens.{bare, shutAt, tailAt, tagAt, tokenAt}
 use Rattle.tags.specs.Places.{firstOf, tagOf}
-use Rattle.tags.proofs.Passing.{all-append, all-weaken, but-by, stops, pass-over, pass-skip, pass-none, pass-any, one-le}
+use Rattle.tags.proofs.Passing.{all-append, all-weaken, but-by, stops, span-wider, pass-over, pass-skip, pass-none, pass-any, one-le, part-in-name}
 use Rattle.tags.proofs.Avoid.{piece-avoids, text-avoids}
 use Rattle.tags.proofs.Attributes.{name-all, passed-between, passed-is, first-is, attrs-end-name}
 
@@ -53,12 +53,12 @@ unfolding tagAt behind tailAt
 tag-ahead y o [] h = record { text = h; tag = omega arith; within = omega arith; on = λ n. absurd (n refl) }
 tag-ahead y o (x ∷ l) h = go (headIs solidus l)
   where
-    go : (b : Bool) → Ahead y (o + suc (length l)) (cond b (bare Close o (behind greater (o + 1) l)) (pass isNamePart (tailAt o) (o + 1) l))
+    go : (b : Bool) → Ahead y (o + suc (length l)) (cond b (bare Close o (behind greater (o + 1) l)) (pass inName (tailAt o) (o + 1) l))
     go true =
         pass-any (but greater) (λ z m. z + one m) (λ (z : ℕ). Ahead y (o + suc (length l)) (bare Close o z)) (o + 1) l
         (λ n k. bare-ahead y (o + suc (length l)) o (o + 1 + n + one (drop n l)) h (omega arith) (omega (arith, one-le (drop n l), length-drop n l)))
     go false =
-        pass-any isNamePart (tailAt o) (Ahead y (o + suc (length l))) (o + 1) l
+        pass-any inName (tailAt o) (Ahead y (o + suc (length l))) (o + 1) l
         (λ n k.
         let e = o + 1 + n in
         let p = passedAt e (drop n l) in
@@ -115,15 +115,15 @@ tail-is o e t w g b n =
     let d : e + length a + length (t .gap) - e ≡ length (a ++ t .gap) = omega (arith, length-append a (t .gap)) in
     rw (passed-is (t .gap) w (g .gap) b n e (t .attributes) (g .attributes), first-is (t .gap) w (g .gap) b n e (t .attributes) (g .attributes), d, ← append-assoc a (t .gap) w, drop-append-seam (a ++ t .gap) w)
 
-tag-is : (o : ℕ) (t : Tag) (w : List ℕ) → GoodTag t → span isBlank w ≡ 0 → span isNamePart w ≡ 0
+tag-is : (o : ℕ) (t : Tag) (w : List ℕ) → GoodTag t → span isBlank w ≡ 0 → span inName w ≡ 0
     → tokenAt o (60 ∷ (tag t ++ w)) ≡ shutAt o (o + 1 + length (t .name)) (length (t .attributes)) (firstOf (o + 1 + length (t .name)) (t .attributes) (t .gap)) (o + 1 + length (tag t)) w
 unfolding tagAt
 tag-is o t w g b n =
     less-stops o (tag t ++ w)
     ∙ ap (λ (l : List ℕ). tagAt o (60 ∷ l)) shape
-    ∙ ap (λ (z : Bool). cond z (bare Close o (behind greater (o + 1) (t .name ++ rest))) (pass isNamePart (tailAt o) (o + 1) (t .name ++ rest))) (name-no-solidus (t .name) rest (g .name))
-    ∙ pass-over isNamePart (tailAt o) (o + 1) (t .name) rest (name-all (t .name) (g .name)) (attrs-end-name (t .gap) w (g .gap) b n (t .attributes) (g .attributes))
-    ∙ tail-is o (o + 1 + length (t .name)) t w g b n
+    ∙ ap (λ (z : Bool). cond z (bare Close o (behind greater (o + 1) (t .name ++ rest))) (pass inName (tailAt o) (o + 1) (t .name ++ rest))) (name-no-solidus (t .name) rest (g .name))
+    ∙ pass-over inName (tailAt o) (o + 1) (t .name) rest (all-weaken isNamePart inName part-in-name (t .name) (name-all (t .name) (g .name))) (attrs-end-name (t .gap) w (g .gap) n (t .attributes) (g .attributes))
+    ∙ tail-is o (o + 1 + length (t .name)) t w g b (omega (arith, span-wider isNamePart inName part-in-name w))
     ∙ ap (λ (z : ℕ). shutAt o (o + 1 + length (t .name)) (length (t .attributes)) (firstOf (o + 1 + length (t .name)) (t .attributes) (t .gap)) z w)
     (omega (arith, length-append (t .name) (attrs (t .attributes) ++ t .gap), length-append (attrs (t .attributes)) (t .gap)))
   where
@@ -138,15 +138,15 @@ tag-is o t w g b n =
 -- `<a ..>`
 pub token-open : (o : ℕ) (t : Tag) (w : List ℕ) → GoodTag t
     → tokenAt o (60 ∷ (tag t ++ (62 ∷ w))) ≡ tagOf Open o t (o + (length (tag t) + 2))
-unfolding shutAt isBlank isNamePart
-token-open o t w g = tag-is o t (62 ∷ w) g (stops isBlank 62 w refl) (stops isNamePart 62 w refl) ∙ ap (tagOf Open o t) (omega arith)
+unfolding shutAt isBlank inName
+token-open o t w g = tag-is o t (62 ∷ w) g (stops isBlank 62 w refl) (stops inName 62 w refl) ∙ ap (tagOf Open o t) (omega arith)
 
 -- `<a ../>`
 pub token-empty : (o : ℕ) (t : Tag) (w : List ℕ) → GoodTag t
     → tokenAt o (60 ∷ (tag t ++ (47 ∷ 62 ∷ w))) ≡ tagOf Empty o t (o + (length (tag t) + 3))
-unfolding shutAt isBlank isNamePart
+unfolding shutAt isBlank inName
 token-empty o t w g =
-    tag-is o t (47 ∷ 62 ∷ w) g (stops isBlank 47 (62 ∷ w) refl) (stops isNamePart 47 (62 ∷ w) refl) ∙ ap (tagOf Empty o t) (omega arith)
+    tag-is o t (47 ∷ 62 ∷ w) g (stops isBlank 47 (62 ∷ w) refl) (stops inName 47 (62 ∷ w) refl) ∙ ap (tagOf Empty o t) (omega arith)
 
 -- ---- end tags
 

@@ -4,8 +4,9 @@ use mathlib.Core.List.{List, [], _∷_}
 use Prim.Native.Nat.{ℕ, _+_}
 use lib.Dec.{eqb}
 use lib.ListN.{drop}
+use Rattle.text.specs.Bytes.{isBlank}
 use Rattle.text.specs.Lists.{span}
-use Rattle.text.specs.Pieces.{apostrophe, quotation}
+use Rattle.text.specs.Pieces.{apostrophe, quotation, solidus, greater}
 
 -- any byte but this
 abbrev pub but : ℕ → ℕ → Bool
@@ -14,6 +15,10 @@ but b x = not (eqb x b)
 -- any byte but a quote
 unfoldable pub noQuote : ℕ → Bool
 noQuote x = not (eqb x quotation || eqb x apostrophe)
+
+-- a name in a tag goes up to the first blank, `/` or `>`
+unfoldable pub inName : ℕ → Bool
+inName x = not (isBlank x || eqb x solidus || eqb x greater)
 
 -- from o, over all bytes that pass the test, and then f
 unfoldable pub pass : {A : Type 0} → (ℕ → Bool) → (ℕ → List ℕ → A) → ℕ → List ℕ → A

@@ -3,14 +3,14 @@ use mathlib.Core.Bool.{Bool, cond, _&&_}
 use mathlib.Core.List.{List, [], _∷_}
 use Prim.Native.Nat.{ℕ, _+_, _-_, min}
 use lib.ListN.{drop}
-use Rattle.text.specs.Bytes.{isBlank, isNamePart}
+use Rattle.text.specs.Bytes.{isBlank}
 use Rattle.text.specs.Lists.{span}
 use Rattle.text.specs.Pieces.{less, greater, solidus}
 use Rattle.tags.specs.declared.attribute.Attribute.{Attribute}
 use Rattle.tags.specs.declared.token.Kind.{Kind}
 use Rattle.tags.specs.declared.token.Kind.the-variants.{Open, Empty, Close, End}
 use Rattle.tags.specs.declared.token.Token.{Token}
-use Rattle.tags.specs.Passing.{but, pass, one, headIs, behind}
+use Rattle.tags.specs.Passing.{but, inName, pass, one, headIs, behind}
 use Rattle.tags.specs.Attributes.{nowhere, attributeAt, passedAt}
 
 -- a token without name and attributes, whose text ends at o
@@ -31,7 +31,12 @@ tailAt o e l = shutAt o e (passedAt e l .count) (attributeAt e l) (passedAt e l 
 -- a tag's `<` is at o
 unfoldable pub tagAt : ℕ → List ℕ → Token
 tagAt o [] = bare End o o
-tagAt o (x ∷ l) = cond (headIs solidus l) (bare Close o (behind greater (o + 1) l)) (pass isNamePart (tailAt o) (o + 1) l)
+tagAt o (x ∷ l) = cond (headIs solidus l) (bare Close o (behind greater (o + 1) l)) (pass inName (tailAt o) (o + 1) l)
+
+-- an opening tag's `<` is at o, or the bytes end there
+unfoldable pub openAt : ℕ → List ℕ → Token
+openAt o [] = bare End o o
+openAt o (x ∷ l) = pass inName (tailAt o) (o + 1) l
 
 -- from o on
 unfoldable pub tokenAt : ℕ → List ℕ → Token

@@ -2,4 +2,4 @@
 // it answers something too: no place past the end, and each answer further on than the last.
 pub mod attribute; // attribute.rt: one attribute, and how many there are
 mod pass; // pass.rt: up to a byte, and over it
-pub mod token; // token.rt: a text and the tag behind it; where the root begins; where a text has ink
+pub mod token; // token.rt: a text and the tag behind it; where the root begins

@@ -5,12 +5,12 @@ use crate::attribute::attribute_at;
 use crate::attribute::attributes_at;
 use crate::pass::byte_is;
 use crate::pass::past;
+use crate::pass::tag_name_end;
 use crate::pass::until;
 use text::span::blanks_end;
-use text::span::name_end;
 ghost use mathlib.Core.Path.{_≡_};
 ghost use lib.ListN.{drop};
-ghost use Rattle.tags.specs.Tokens.{bare, shutAt, tailAt, tokenAt, isDeclared, startOf, inkIn};
+ghost use Rattle.tags.specs.Tokens.{bare, shutAt, tailAt, openAt, tokenAt, isDeclared, startOf};
 
 // What stands behind a text.
 pub enum Kind {
@@ -102,7 +102,31 @@ pub fn next(s: &[u8], at: usize) -> Token
         let end = past(s, until(s, name, b'>'));
         return Token::bare(Kind::Close, less, end);
     }
-    tail(s, less, name_end(s, name))
+    // Nearly all names have a `>` behind them: of these no more is asked.
+    let stop = tag_name_end(s, name);
+    if byte_is(s, stop, b'>') {
+        let end = stop + 1;
+        let first = Attribute::nowhere(stop);
+        return Token {
+            kind: Kind::Open,
+            less,
+            stop,
+            attributes: 0,
+            first,
+            end,
+        };
+    }
+    tail(s, less, stop)
+}
+
+// The opening tag whose `<` is at a place. The root's is read by this, so that `next` has the one caller that it is quick in.
+pub fn opening(s: &[u8], less: usize) -> Token
+    ensures { λ r. ⌜ r ≡ openAt less (drop less (now (s .entry))) ⌝ }
+{
+    if s.len() <= less {
+        return Token::bare(Kind::End, less, less);
+    }
+    tail(s, less, tag_name_end(s, less + 1))
 }
 
 // Whether s begins as a declaration does.
@@ -123,12 +147,4 @@ pub fn start(s: &[u8]) -> usize
         return blanks_end(s, past(s, until(s, 0, b'>')));
     }
     blanks_end(s, 0)
-}
-
-// The first character of the text a .. b that is no blank, or b.
-pub fn first_ink(s: &[u8], a: usize, b: usize) -> usize
-    ensures { λ r. ⌜ r ≡ inkIn (now (s .entry)) a b ⌝ }
-{
-    let ink = blanks_end(s, a);
-    if ink < b { ink } else { b }
 }

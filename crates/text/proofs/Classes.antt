@@ -10,7 +10,6 @@ use lib.Dec.{leb, eqb}
 use types.Run.{OneOf}
 use borrow.Author.Tests.{not-true, le-leb, eq-eqb, ne-eqb, leb-true, eqb-true, eqb-false}
 use Rattle.text.specs.Bytes.{inRange, isBlank, isCapital, isLetter, isDigit, isNameStart, isNamePart}
-use Rattle.text.specs.Plain.{isPlain}
 
 -- tests in the order in which `||` groups them, so that a test of the definitions is `test` of its class as it stands
 infixl 30 _or_
@@ -173,7 +172,7 @@ module _ {f : ℕ → Bool} {p : Class} (d : Named f p) where
   pub is-out : (x : ℕ) → f x ≡ false → Outside p x
   is-out x e = is-outside p x (sym (d .is x) ∙ e)
 
--- the classes of document 01, and plain text
+-- the classes of document 01
 pub blank : Named isBlank (only 32 or only 9 or only 10 or only 13)
 unfolding isBlank
 blank = record { is = λ x. refl }
@@ -197,7 +196,3 @@ name-start = record { is = λ x. refl }
 pub name-part : Named isNamePart (from 65 90 or from 97 122 or from 48 57 or only 46 or only 45 or only 95)
 unfolding isNamePart
 name-part = record { is = λ x. refl }
-
-pub plain : Named isPlain (from 32 37 or from 39 59 or only 61 or from 63 92 or from 94 127)
-unfolding isPlain
-plain = record { is = λ x. refl }

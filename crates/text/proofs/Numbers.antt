@@ -157,11 +157,19 @@ pub record Getting (s : List ℕ) (at w n r k : ℕ) : Type 0 where
   pub below : r < 256 ^ k
   pub here : numberFrom r (drop k (take w (drop at s))) ≡ number (take w (drop at s))
 
+-- of w bytes, as many as there are
+module _ (s : List ℕ) (at w m : ℕ) (e : m ≡ length (slice at (length s) s)) where
+  pub get-less : m < w → m ≡ length (take w (drop at s))
+  get-less h = omega (arith, part-length at (length s) s, length-take w (drop at s), length-drop at s)
+
+  pub get-whole : w ≤ m → w ≡ length (take w (drop at s))
+  get-whole h = omega (arith, part-length at (length s) s, length-take w (drop at s), length-drop at s)
+
 module _ (s : List ℕ) (at w n : ℕ) where
-  pub get-start : (m : ℕ) → m ≡ length (slice at (length s) s) → n ≡ min w m → Getting s at w n 0 0
-  get-start m e f =
+  pub get-start : n ≡ length (take w (drop at s)) → Getting s at w n 0 0
+  get-start e =
       record {
-        count = omega (arith, part-length at (length s) s, length-take w (drop at s), length-drop at s);
+        count = e;
         upto = zero-le;
         below = omega arith;
         here = refl;

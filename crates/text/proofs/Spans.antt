@@ -94,3 +94,7 @@ module _ (p : ℕ → Bool) where
 
       pub span-again : not r ≡ false → i + 1 + span p (drop (i + 1) s) ≡ n
       span-again f = omega (arith, span-go s i h (sym e ∙ not-false r f))
+
+    -- over a byte that is known, and known to pass
+    pub span-byte : (b : ℕ) → p b ≡ true → i < length s → getD s i 0 ≡ b → i + 1 + span p (drop (i + 1) s) ≡ n
+    span-byte b t h e = span-again h (sym (ap p e ∙ t)) refl

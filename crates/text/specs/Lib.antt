@@ -9,8 +9,6 @@ pub mod Utf8
 pub mod Numbers
 -- XML characters and entities
 pub mod Pieces
--- bytes of text that need no thought
-pub mod Plain
 -- a word at the front of a text
 pub mod Words
 -- one character at the front of a text

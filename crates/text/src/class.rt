@@ -3,7 +3,6 @@
 
 ghost use mathlib.Core.Path.{_≡_};
 ghost use Rattle.text.specs.Bytes.{isBlank, isCapital, isLetter, isDigit, isNameStart, isNamePart};
-ghost use Rattle.text.specs.Plain.{isPlain};
 
 pub fn is_blank(b: u8) -> bool
     ensures { λ r. ⌜ r ≡ isBlank b ⌝ }
@@ -61,17 +60,6 @@ pub fn is_name_part(b: u8) -> bool
         47 | 58 | 60 | 62 | 64 | 91 | 93 | 96 => false,
         59 | 61 | 63 | 92 | 94 => false,
         45..=122 => true,
-        _ => false,
-    }
-}
-
-// Bytes of text that need no thought: each is a character by itself, and none takes part in markup.
-pub fn is_plain(b: u8) -> bool
-    ensures { λ r. ⌜ r ≡ isPlain b ⌝ }
-{
-    match b {
-        38 | 60 | 62 | 93 => false,
-        32..=127 => true,
         _ => false,
     }
 }

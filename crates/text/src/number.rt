@@ -1,10 +1,9 @@
 // Numbers as big-endian bytes, and parts of slices, written into a lent buffer. Where they do not fit, nothing is changed.
 
-use crate::part::least;
 use crate::part::part_len;
 ghost use mathlib.Core.Path.{_≡_};
 ghost use Prim.Native.Nat.{_≤_, _<_, _^_};
-ghost use lib.ListN.{take, drop};
+ghost use lib.ListN.{length, take, drop};
 ghost use lib.Seq.{slice};
 ghost use Rattle.text.specs.Numbers.{bigEndian, number};
 ghost use Rattle.text.specs.Pasting.{pasted};
@@ -52,13 +51,12 @@ fn wide(x: u8) -> u64
     x as u64
 }
 
-// The number that w bytes write, or as many as there are.
-fn get(s: &[u8], at: usize, w: usize) -> u64
-    requires { ⌜ w ≤ 8 ⌝ }
+// The number that n bytes write: the w bytes from a place on, or as many as there are.
+fn gather(s: &[u8], at: usize, w: usize, n: usize) -> u64
+    requires { ⌜ (w ≤ 8) × (n ≡ length (take w (drop at (now s)))) ⌝ }
     ensures is { λ r. ⌜ r ≡ number (take w (drop at (now (s .entry)))) ⌝ }
     ensures fits { λ r. ⌜ r < 256 ^ w ⌝ }
 {
-    let n = least(w, part_len(s, at, s.len()));
     let mut r = 0;
     let mut k = 0;
     while k < n {
@@ -66,6 +64,19 @@ fn get(s: &[u8], at: usize, w: usize) -> u64
         k += 1;
     }
     r
+}
+
+// The number that w bytes write, or as many as there are. Where they are all there, the loop's length is known to the compiler.
+fn get(s: &[u8], at: usize, w: usize) -> u64
+    requires { ⌜ w ≤ 8 ⌝ }
+    ensures is { λ r. ⌜ r ≡ number (take w (drop at (now (s .entry)))) ⌝ }
+    ensures fits { λ r. ⌜ r < 256 ^ w ⌝ }
+{
+    let there = part_len(s, at, s.len());
+    if there < w {
+        return gather(s, at, w, there);
+    }
+    gather(s, at, w, w)
 }
 
 pub fn get16(s: &[u8], at: usize) -> u16

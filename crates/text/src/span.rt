@@ -1,35 +1,68 @@
 // How far a class reaches from a place. A place past the end is its own answer.
 
 use crate::class::is_blank;
-use crate::class::is_digit;
 use crate::class::is_name_part;
-use crate::class::is_plain;
 ghost use mathlib.Core.Path.{_≡_};
 ghost use Prim.Native.Nat.{_+_};
 ghost use lib.ListN.{drop};
 ghost use Rattle.text.specs.Lists.{span};
-ghost use Rattle.text.specs.Bytes.{isBlank, isDigit, isNamePart};
-ghost use Rattle.text.specs.Plain.{isPlain};
+ghost use Rattle.text.specs.Bytes.{isBlank, isNamePart};
 
-pub fn blanks_end(s: &[u8], at: usize) -> usize
-    ensures { λ r. ⌜ r ≡ at + span isBlank (drop at (now (s .entry))) ⌝ }
+// The end of the spaces from a place on, four a turn. It may stop early near the end of the bytes: what is left of the blanks is the same.
+fn spaces_end(s: &[u8], at: usize) -> usize
+    ensures { λ r. ⌜ r + span isBlank (drop r (now (s .entry))) ≡ at + span isBlank (drop at (now (s .entry))) ⌝ }
 {
+    if s.len() < 4 {
+        return at;
+    }
+    let last = s.len() - 3;
     let mut i = at;
-    while i < s.len() {
-        if !is_blank(s[i]) {
+    while i < last {
+        let j = i + 1;
+        let k = j + 1;
+        let l = k + 1;
+        if s[i] != 32 {
             return i;
         }
-        i += 1;
+        if s[j] != 32 {
+            return j;
+        }
+        if s[k] != 32 {
+            return k;
+        }
+        if s[l] != 32 {
+            return l;
+        }
+        i = l + 1;
     }
     i
 }
 
-pub fn digits_end(s: &[u8], at: usize) -> usize
-    ensures { λ r. ⌜ r ≡ at + span isDigit (drop at (now (s .entry))) ⌝ }
+// Over a line feed, where one stands there.
+fn line_end(s: &[u8], at: usize) -> usize
+    ensures { λ r. ⌜ r + span isBlank (drop r (now (s .entry))) ≡ at + span isBlank (drop at (now (s .entry))) ⌝ }
 {
-    let mut i = at;
+    if at < s.len() {
+        if s[at] == 10 {
+            return at + 1;
+        }
+    }
+    at
+}
+
+// Most places have nothing to pass, which one test tells; else it is mostly indentation, a line feed and then spaces.
+pub fn blanks_end(s: &[u8], at: usize) -> usize
+    ensures { λ r. ⌜ r ≡ at + span isBlank (drop at (now (s .entry))) ⌝ }
+{
+    if s.len() <= at {
+        return at;
+    }
+    if 32 < s[at] {
+        return at;
+    }
+    let mut i = spaces_end(s, line_end(s, at));
     while i < s.len() {
-        if !is_digit(s[i]) {
+        if !is_blank(s[i]) {
             return i;
         }
         i += 1;
@@ -43,19 +76,6 @@ pub fn name_end(s: &[u8], at: usize) -> usize
     let mut i = at;
     while i < s.len() {
         if !is_name_part(s[i]) {
-            return i;
-        }
-        i += 1;
-    }
-    i
-}
-
-pub fn plain_end(s: &[u8], at: usize) -> usize
-    ensures { λ r. ⌜ r ≡ at + span isPlain (drop at (now (s .entry))) ⌝ }
-{
-    let mut i = at;
-    while i < s.len() {
-        if !is_plain(s[i]) {
             return i;
         }
         i += 1;

@@ -35,6 +35,8 @@ pub mod Named
 pub mod Texting
 -- the bytes of the characters of a raw text
 pub mod Sizes
+-- a run of characters that are one byte each
+pub mod Quiet
 -- a judgement that no arm of a match takes
 pub mod Variants
 -- types by their numbers

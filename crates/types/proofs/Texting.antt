@@ -59,9 +59,6 @@ module _ (strict : Bool) (k : ℕ) (s : List ℕ) where
       fails : (r : Char) → NextChar (drop i s) r → ((cs : List ℕ) → textFrom strict k n ink slash (r .code ∷ cs) ≡ false) → Passes (textOf strict k) s → ⊥
       fails r f b = spelling.here-bad (textOf strict k) s i (textFrom strict k n ink slash) (w .here) h r f b
 
-      pub here-stuck : (r : Char) → NextChar (drop i s) r → r .len ≡ 0 → Passes (textOf strict k) s → ⊥
-      here-stuck r f z = spelling.here-stuck (textOf strict k) s i (textFrom strict k n ink slash) (w .here) h r f z
-
       pub here-full : k ≤ n → Passes (textOf strict k) s → ⊥
       here-full j = fails (charAt (drop i s)) (next-is (drop i s)) (λ cs. from-full strict k n ink slash (charAt (drop i s) .code) cs j)
 

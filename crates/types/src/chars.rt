@@ -1,15 +1,16 @@
-// REF and TXTk: one loop for both, over raw text with entities.
+// REF and TXTk: one loop for both, over raw text with entities. Its turn is a character of any kind, and the run of quiet bytes behind it,
+// each of which is a character of the class by itself: these are counted at once.
 
 use crate::judged::Judged;
 use text::piece::next_char;
-use text::utf8::Char;
 ghost use mathlib.Core.Path.{_≡_};
-ghost use mathlib.Core.Bool.{_&&_, _||_};
+ghost use mathlib.Core.Bool.{cond, _&&_, _||_};
+ghost use Prim.Native.Nat.{_+_};
 ghost use lib.Dec.{eqb};
 ghost use lib.ListN.{drop};
-ghost use Rattle.text.specs.Chars.{NextChar};
+ghost use Rattle.text.specs.Lists.{span};
 ghost use Rattle.types.specs.Text.{isTxt, isRef, notSpace};
-ghost use Rattle.types.specs.Texts.{classOf, textOf, Spelled, widthOf};
+ghost use Rattle.types.specs.Texts.{classOf, textOf, Spelled, widthOf, quietTxt, quietRef, quietOf};
 
 fn is_txt(c: u32) -> bool
     ensures { λ r. ⌜ r ≡ isTxt c ⌝ }
@@ -73,35 +74,70 @@ fn width(len: usize, code: u32) -> usize
     len
 }
 
-fn wide32(x: u8) -> u32
-    ensures { λ r. ⌜ r ≡ x ⌝ }
+// Whether a reference may not go on with a slash: a character and a run of bytes that are none stand before.
+fn slash_behind(strict: bool, code: u32, run: usize) -> bool
+    ensures { λ r. ⌜ r ≡ (eqb run 0 && (strict && eqb code 47)) ⌝ }
 {
-    x as u32
+    if run == 0 {
+        return slash_and(strict, code);
+    }
+    false
 }
 
-// The character at a place; most are one byte of ASCII that needs no second look.
-fn char_at(s: &[u8], at: usize) -> Char
-    ensures { λ r. ⌜ NextChar (drop at (now (s .entry))) r ⌝ }
+// A byte that a text may have and that stands for itself.
+fn is_quiet_txt(b: u8) -> bool
+    ensures { λ r. ⌜ r ≡ quietTxt b ⌝ }
 {
-    if s.len() <= at {
-        return next_char(s, at);
-    }
-    let b = s[at];
     match b {
-        32..=37 => Char {
-            len: 1,
-            code: wide32(b),
-        },
-        39..=59 => Char {
-            len: 1,
-            code: wide32(b),
-        },
-        61..=126 => Char {
-            len: 1,
-            code: wide32(b),
-        },
-        _ => next_char(s, at),
+        38 | 60 | 96 => false,
+        32..=126 => true,
+        _ => false,
     }
+}
+
+// A byte that a reference may have and that stands for itself; a slash must be looked at.
+fn is_quiet_ref(b: u8) -> bool
+    ensures { λ r. ⌜ r ≡ quietRef b ⌝ }
+{
+    match b {
+        42 | 47 | 59 | 61 | 64 | 91 | 93 | 95 => false,
+        60 | 62 | 92 | 94 | 96 => false,
+        39..=122 => true,
+        32 => true,
+        _ => false,
+    }
+}
+
+fn is_quiet(strict: bool, b: u8) -> bool
+    ensures { λ r. ⌜ r ≡ quietOf strict b ⌝ }
+{
+    if strict {
+        return is_quiet_ref(b);
+    }
+    is_quiet_txt(b)
+}
+
+fn quiet_end(s: &[u8], at: usize, strict: bool) -> usize
+    ensures { λ r. ⌜ r ≡ at + span (quietOf strict) (drop at (now (s .entry))) ⌝ }
+{
+    let mut i = at;
+    while i < s.len() {
+        if !is_quiet(strict, s[i]) {
+            return i;
+        }
+        i += 1;
+    }
+    i
+}
+
+// How many quiet bytes follow. While only spaces were read, none is passed over: one that is no space is looked for.
+fn run_of(s: &[u8], at: usize, strict: bool, ink: bool) -> usize
+    ensures { λ r. ⌜ r ≡ cond ink (span (quietOf strict) (drop at (now (s .entry)))) 0 ⌝ }
+{
+    if ink {
+        return quiet_end(s, at, strict) - at;
+    }
+    0
 }
 
 // The raw text of a reference (strict, k is 35) or of TXTk: how many bytes its characters have.
@@ -117,23 +153,25 @@ pub(crate) fn spelled(s: &[u8], strict: bool, k: usize) -> Judged
         if k <= n {
             return Judged::Refused;
         }
-        let c = char_at(s, i);
+        let c = next_char(s, i);
         let len = c.len;
         let code = c.code;
-        if len == 0 {
-            return Judged::Refused;
-        }
         if !fits(strict, code) {
             return Judged::Refused;
         }
         if slash_and(slash, code) {
             return Judged::Refused;
         }
-        i += len;
         n += 1;
-        size += width(len, code);
         ink = inked(ink, code);
-        slash = slash_and(strict, code);
+        let run = run_of(s, i + len, strict, ink);
+        if k - n < run {
+            return Judged::Refused;
+        }
+        i += len + run;
+        n += run;
+        size += width(len, code) + run;
+        slash = slash_behind(strict, code, run);
     }
     if slash {
         return Judged::Refused;

@@ -138,8 +138,8 @@ fn says(code: usize, row: usize, place: usize) -> Verdict
 }
 
 // From the root's tag to its end, one step after the other. No sum overflows: each step goes on in a text of at most 1,048,576 bytes, and
-// an item has at most 65,538.
-fn pass(rows: &[u16], pool: &[u8], s: &[u8], out: &mut [u8]) -> Verdict
+// an item has at most 65,538. The tables are arrays here and not slices: where their lengths are known, each lookup has one bound less.
+fn pass(rows: &[u16; 928], pool: &[u8; 311], s: &[u8], out: &mut [u8]) -> Verdict
     requires { ⌜ Ready (now rows) (now pool) (now s) ⌝ }
     ensures { λ v. ⌜ Passed houseKinds (listOf (now (rows .entry)) (now (pool .entry))) (now (s .entry)) (now (out .entry)) v (now (out .exit)) ⌝ }
 {
@@ -179,7 +179,7 @@ fn pass(rows: &[u16], pool: &[u8], s: &[u8], out: &mut [u8]) -> Verdict
 }
 
 // The first violation of a message, or its image's length.
-pub(crate) fn measure(rows: &[u16], pool: &[u8], s: &[u8]) -> Verdict
+pub(crate) fn measure(rows: &[u16; 928], pool: &[u8; 311], s: &[u8]) -> Verdict
     requires { ⌜ Ready (now rows) (now pool) (now s) ⌝ }
     ensures { λ v. ⌜ Measured houseKinds (listOf (now (rows .entry)) (now (pool .entry))) (now (s .entry)) v ⌝ }
 {
@@ -188,7 +188,7 @@ pub(crate) fn measure(rows: &[u16], pool: &[u8], s: &[u8]) -> Verdict
 }
 
 // The image of a message that has no violation, in a buffer that has room for it.
-pub(crate) fn fill(rows: &[u16], pool: &[u8], s: &[u8], out: &mut [u8])
+pub(crate) fn fill(rows: &[u16; 928], pool: &[u8; 311], s: &[u8], out: &mut [u8])
     requires { ⌜ Ready (now rows) (now pool) (now s) ⌝ }
     ensures { λ _. ⌜ FilledIn houseKinds (listOf (now (rows .entry)) (now (pool .entry))) (now (s .entry)) (now (out .entry)) (now (out .exit)) ⌝ }
 {

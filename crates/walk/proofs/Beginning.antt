@@ -30,7 +30,7 @@ use Rattle.tags.specs.declared.token.Token.{Token}
 use Rattle.tags.specs.Tokens.{startOf}
 use Rattle.tags.specs.Story.{Event, enter, leave, events, chars, tokenIn, attributeIn, Finds, Tagged, Tells}
 use Rattle.tags.proofs.Tokens.{Ahead, token-within}
-use Rattle.tags.proofs.Story.{start-root, told}
+use Rattle.tags.proofs.Story.{start-root, start-opens, told}
 use Rattle.walk.specs.declared.step.Turn.{Turn}
 use Rattle.walk.specs.declared.step.Met.the-variants.{Opened}
 use Rattle.walk.specs.Types.{Types}
@@ -127,7 +127,7 @@ module _ (T : Types) (t pool : List ℕ) (sd : Sound t pool) (m : Tree) (good : 
 
   by-kind : (q : Mark) → k .kind ≡ q → foundIn t pool s q k ≡ beginIn t pool s
   unfolding beginBy
-  by-kind q e = ap (λ z. foundIn t pool s z k) (sym e)
+  by-kind q e = ap (λ z. foundIn t pool s z k) (sym e) ∙ ap (beginBy t pool s) (sym (start-opens m good))
 
   root-group : isGroup (kindOf list 1) ≡ true
   root-group = ap isGroup (sd .well .root .1)

@@ -93,7 +93,7 @@ module _ (T : Types) (t pool s : List ℕ) (sd : Sound t pool) where
       -- a closing tag: the verdict over the tables, else 12 or nothing, and what follows
       pub close-run : (more : List Event)
           → run T l (at lv below ats (kept (isGroup (kindOf l (lv .row))) ps)) (leave ∷ more)
-          ≡ cond (eqb (endIn t lv a b .code) 0) (orElse (judged T (kindOf l (lv .row)) (lv .row) (lv .place) ats (resolvedAll ps)) (run T l (pop below) more)) (foundOf (endIn t lv a b))
+          ≡ cond (eqb (endIn t (isGroupIn (cell t (lv .row) 2)) lv a b .code) 0) (orElse (judged T (kindOf l (lv .row)) (lv .row) (lv .place) ats (resolvedAll ps)) (run T l (pop below) more)) (foundOf (endIn t (isGroupIn (cell t (lv .row) 2)) lv a b))
       unfolding run endIn foundOf
       close-run more = go (kindOf l (lv .row)) refl
         where

@@ -3,14 +3,13 @@ use mathlib.Core.Path.{_≡_, refl, sym, _∙_, ap, ap₂}
 use mathlib.Core.Bool.{Bool, true, false}
 use mathlib.Core.List.{List}
 use Prim.Native.Nat.{ℕ, _+_, _≤_, _<_}
-use lib.ListN.{length}
+use lib.ListN.{length, drop}
 use borrow.Author.Tests.{lt-ltb, le-ltb}
 use Rattle.tags.specs.declared.attribute.Attribute.{Attribute}
 use Rattle.tags.specs.declared.token.Kind.{Kind}
 use Rattle.tags.specs.declared.token.Kind.the-variants.{Open, Empty, Close, End}
 use Rattle.tags.specs.declared.token.Token.{Token}
-use Rattle.tags.specs.Story.{tokenIn}
-use Rattle.tags.specs.Tokens.{startOf}
+use Rattle.tags.specs.Tokens.{openAt, startOf}
 use Rattle.walk.specs.declared.level.Level.{Level}
 use Rattle.walk.specs.declared.step.Here.{Here}
 use Rattle.walk.specs.declared.step.Turn.{Turn}
@@ -50,11 +49,11 @@ module _ (b : Bool) (here : Here) (less : ℕ) where
   unfolding hollowIn
   hollow-yes x e f = rw e f
 
--- the token is the one where the root begins
-module _ (t pool s : List ℕ) (o : ℕ) (begins : o ≡ startOf s) (k : Token) (is : k ≡ tokenIn s o) where
+-- the tag is the one where the root begins
+module _ (t pool s : List ℕ) (o : ℕ) (begins : o ≡ startOf s) (k : Token) (is : k ≡ openAt o (drop o s)) where
   by-kind : (kind : Kind) → k .kind ≡ kind → (x : Turn) → x ≡ foundIn t pool s kind k → x ≡ beginIn t pool s
   unfolding beginBy
-  by-kind kind e x f = f ∙ ap (λ z. foundIn t pool s z k) (sym e) ∙ ap (λ z. foundIn t pool s (z .kind) z) (is ∙ ap (tokenIn s) begins)
+  by-kind kind e x f = f ∙ ap (λ z. foundIn t pool s z k) (sym e) ∙ ap (λ z. foundIn t pool s (z .kind) z) (is ∙ ap (λ (n : ℕ). openAt n (drop n s)) begins)
 
   module _ (lv : Level) (level : lv ≡ freshIn t 1 (k .less)) where
     abbrev root : Here

@@ -1,15 +1,17 @@
 -- One step over bytes and tables, from what the code's calls told. Assumes nothing.
 use mathlib.Core.Path.{_≡_, refl, sym, _∙_, ap, ap₂, subst}
 use mathlib.Core.Bool.{Bool, true, false, cond, _&&_, not}
-use mathlib.Core.List.{List, [], _∷_}
-use Prim.Native.Nat.{ℕ, _+_, _-_, _≤_, _<_}
+use mathlib.Core.List.{List}
+use mathlib.Core.Logic.{_≢_}
+use Prim.Native.Nat.{ℕ, _+_, _-_, _≤_, _<_, min}
+use native.Mathlib.Nat.{min-eq-left}
 use native.Mathlib.Omega.{arith}
 use lib.Dec.{eqb, ltb}
-use lib.ListN.{length, getD}
+use lib.ListN.{length, getD, drop}
 use lib.Seq.{slice}
 use borrow.Author.Tests.{eq-eqb, ne-eqb, lt-ltb, le-ltb}
-use Rattle.text.specs.Bytes.{ascii, isCapital}
-use Rattle.text.specs.Lists.{same}
+use Rattle.text.specs.Bytes.{ascii, isBlank, isCapital}
+use Rattle.text.specs.Lists.{same, span}
 use Rattle.text.proofs.Parts.{part-at, part-room}
 use Rattle.list.specs.Table.{cell, listOf}
 use Rattle.list.specs.Lookup.{childAlong}
@@ -19,13 +21,46 @@ use Rattle.tags.specs.declared.token.Kind.the-variants.{Open, Empty, Close, End
 use Rattle.tags.specs.declared.token.Token.{Token}
 use Rattle.tags.specs.Story.{tokenIn}
 use Rattle.tags.specs.Tokens.{inkIn}
+use Rattle.tags.proofs.Tokens.{token-ahead}
+use Rattle.tags.proofs.Steps.{token-later}
 use Rattle.walk.specs.declared.level.Level.{Level}
 use Rattle.walk.specs.declared.verdict.Verdict.{Verdict}
 use Rattle.walk.specs.declared.step.Here.{Here}
 use Rattle.walk.specs.declared.step.Turn.{Turn}
 use Rattle.walk.specs.declared.step.Met.the-variants.{Opened, Closed, Refused}
 use Rattle.walk.specs.Tables.{says, nothing, isGroupIn, freshIn, advanceIn, openingIn, groupEndIn, levelAt, pushed}
-use Rattle.walk.specs.Stride.{isCurrency, named, ownIn, spaceIn, inkBefore, endIn, refusedAt, refusal, outer, closedIn, rowIn, inner, enteredIn, belowIn, vacantIn, metIn, leftIn, inkAhead, stepBy, stackBy, stepIn, stackIn}
+use Rattle.walk.specs.Stride.{isCurrency, named, ownIn, spaceIn, inkBefore, textFrom, inkFrom, endIn, refusedAt, refusal, outer, closedIn, rowIn, inner, enteredIn, belowIn, vacantIn, numberOf, metIn, leftIn, inkAhead, stepBy, stackBy, stepIn, stackIn}
+
+-- ---- a kind by its number
+
+pub close-by : (k : Kind) (n : ℕ) → n ≡ numberOf k → n ≡ 2 → k ≡ Close
+unfolding numberOf
+close-by Open n e f = absurd (omega arith)
+close-by Empty n e f = absurd (omega arith)
+close-by Close n e f = refl
+close-by End n e f = absurd (omega arith)
+
+pub end-by : (k : Kind) (n : ℕ) → n ≡ numberOf k → n ≡ 3 → k ≡ End
+unfolding numberOf
+end-by Open n e f = absurd (omega arith)
+end-by Empty n e f = absurd (omega arith)
+end-by Close n e f = absurd (omega arith)
+end-by End n e f = refl
+
+pub empty-by : (k : Kind) (n : ℕ) → n ≡ numberOf k → n ≡ 1 → k ≡ Empty
+unfolding numberOf
+empty-by Open n e f = absurd (omega arith)
+empty-by Empty n e f = refl
+empty-by Close n e f = absurd (omega arith)
+empty-by End n e f = absurd (omega arith)
+
+-- a number that is none of the others'
+pub open-by : (k : Kind) (n : ℕ) → n ≡ numberOf k → n ≢ 2 → n ≢ 3 → n ≢ 1 → k ≡ Open
+unfolding numberOf
+open-by Open n e f g h = refl
+open-by Empty n e f g h = absurd (h e)
+open-by Close n e f g h = absurd (f e)
+open-by End n e f g h = absurd (g e)
 
 -- ---- attributes
 
@@ -93,60 +128,88 @@ module _ (t pool s : List ℕ) (count : ℕ) (a : Attribute) where
 
 -- ---- a text
 
-module _ (t s : List ℕ) (row at less : ℕ) (k : ℕ) (e : k ≡ cell t row 2) (g : Bool) (f : g ≡ isGroupIn k) where
-  is-group-cell : (b : Bool) → g ≡ b → isGroupIn (cell t row 2) ≡ b
-  is-group-cell b h = ap isGroupIn (sym e) ∙ sym f ∙ h
+pub group-is : (t : List ℕ) (row k : ℕ) (g : Bool) → k ≡ cell t row 2 → g ≡ isGroupIn k → g ≡ isGroupIn (cell t row 2)
+group-is t row k g e f = f ∙ ap isGroupIn e
 
-  pub ink-group : (i : ℕ) → g ≡ true → i ≡ inkIn s at less → i ≡ inkBefore t s row at less
-  unfolding inkBefore
-  ink-group i h j = rw (is-group-cell true h) j
+module _ (g : Bool) (at : ℕ) where
+  pub from-group : (s : List ℕ) (i : ℕ) → g ≡ true → i ≡ at + span isBlank (drop at s) → i ≡ textFrom s g at
+  unfolding textFrom
+  from-group s i h j = rw h j
 
-  pub ink-leaf : g ≡ false → less ≡ inkBefore t s row at less
-  unfolding inkBefore
-  ink-leaf h = rw (is-group-cell false h)
+  pub from-leaf : (s : List ℕ) → g ≡ false → at ≡ textFrom s g at
+  unfolding textFrom
+  from-leaf s h = rw h
+
+  pub ink-group : (less : ℕ) → g ≡ true → at ≡ inkFrom g at less
+  unfolding inkFrom
+  ink-group less h = rw h
+
+  pub ink-leaf : (less : ℕ) → g ≡ false → less ≡ inkFrom g at less
+  unfolding inkFrom
+  ink-leaf less h = rw h
+
+-- a text that is looked at from behind its blanks: the tag behind it, and its first ink
+module _ (s : List ℕ) (g : Bool) (at o : ℕ) (k : Token) (e : o ≡ textFrom s g at) (is : k ≡ tokenIn s o) where
+  pub token-from : k ≡ tokenIn s at
+  unfolding textFrom
+  token-from = is ∙ go g e
+    where
+      go : (b : Bool) → o ≡ cond b (at + span isBlank (drop at s)) at → tokenIn s o ≡ tokenIn s at
+      go true h = token-later s at o h
+      go false h = ap (tokenIn s) h
+
+  pub ink-from : (t : List ℕ) (row i : ℕ) → g ≡ isGroupIn (cell t row 2) → i ≡ inkFrom g o (k .less) → i ≡ inkBefore t s row at (k .less)
+  unfolding textFrom inkFrom inkBefore
+  ink-from t row i j f = f ∙ go g e ∙ ap (λ (b : Bool). cond b (inkIn s at (k .less)) (k .less)) j
+    where
+      on : o ≤ k .less
+      on = subst (λ (z : Token). o ≤ z .less) (sym is) (token-ahead o (drop o s) .text)
+
+      go : (b : Bool) → o ≡ cond b (at + span isBlank (drop at s)) at → cond b o (k .less) ≡ cond b (inkIn s at (k .less)) (k .less)
+      go true h = sym (min-eq-left on) ∙ ap (λ (z : ℕ). min z (k .less)) h
+      go false h = refl
 
 -- ---- a closing tag
 
-module _ (t : List ℕ) (lv : Level) (at less : ℕ) (k : ℕ) (e : k ≡ cell t (lv .row) 2) (g : Bool) (f : g ≡ isGroupIn k) where
-  pub end-group : (v : Verdict) → g ≡ true → v ≡ groupEndIn t lv → v ≡ endIn t lv at less
+module _ (t : List ℕ) (g : Bool) (lv : Level) (at less : ℕ) where
+  pub end-group : (v : Verdict) → g ≡ true → v ≡ groupEndIn t lv → v ≡ endIn t g lv at less
   unfolding endIn
-  end-group v h j = rw (is-group-cell t [] (lv .row) 0 0 k e g f true h) j
+  end-group v h j = rw h j
 
-  pub end-empty : g ≡ false → less ≡ at → says 11 (lv .row) (lv .place) ≡ endIn t lv at less
+  pub end-empty : g ≡ false → less ≡ at → says 11 (lv .row) (lv .place) ≡ endIn t g lv at less
   unfolding endIn
-  end-empty h j = rw (is-group-cell t [] (lv .row) 0 0 k e g f false h, eq-eqb less at j)
+  end-empty h j = rw (h, eq-eqb less at j)
 
-  pub end-some : g ≡ false → (less ≡ at → ⊥) → nothing ≡ endIn t lv at less
+  pub end-some : g ≡ false → (less ≡ at → ⊥) → nothing ≡ endIn t g lv at less
   unfolding endIn
-  end-some h j = rw (is-group-cell t [] (lv .row) 0 0 k e g f false h, ne-eqb less at j)
+  end-some h j = rw (h, ne-eqb less at j)
 
 code-is : (v w : Verdict) → v ≡ w → (n : ℕ) → v .code ≡ n → w .code ≡ n
 code-is v w e n f = sym (ap (λ (x : Verdict). x .code) e) ∙ f
 
-module _ (t st : List ℕ) (here : Here) (less end : ℕ) (v : Verdict) (e : v ≡ endIn t (here .level) (here .at) less) where
-  pub closed-refused : (x : Turn) → (v .code ≡ 0 → ⊥) → x ≡ refusal here v → x ≡ closedIn t st here less end
+module _ (t : List ℕ) (g : Bool) (st : List ℕ) (here : Here) (less end : ℕ) (v : Verdict) (e : v ≡ endIn t g (here .level) (here .at) less) where
+  pub closed-refused : (x : Turn) → (v .code ≡ 0 → ⊥) → x ≡ refusal here v → x ≡ closedIn t g st here less end
   unfolding closedIn
-  closed-refused x h f = rw (ne-eqb (endIn t (here .level) (here .at) less .code) 0 (λ z. h (ap (λ (w : Verdict). w .code) e ∙ z))) (f ∙ ap (refusal here) e)
+  closed-refused x h f = rw (ne-eqb (endIn t g (here .level) (here .at) less .code) 0 (λ z. h (ap (λ (w : Verdict). w .code) e ∙ z))) (f ∙ ap (refusal here) e)
 
   module _ (h : v .code ≡ 0) where
-    well : eqb (endIn t (here .level) (here .at) less .code) 0 ≡ true
-    well = eq-eqb (endIn t (here .level) (here .at) less .code) 0 (code-is v _ e 0 h)
+    well : eqb (endIn t g (here .level) (here .at) less .code) 0 ≡ true
+    well = eq-eqb (endIn t g (here .level) (here .at) less .code) 0 (code-is v _ e 0 h)
 
-    pub closed-root : here .depth ≡ 0 → record { met = Closed; here = here; less = less; verdict = nothing } ≡ closedIn t st here less end
+    pub closed-root : here .depth ≡ 0 → record { met = Closed; here = here; less = less; verdict = nothing } ≡ closedIn t g st here less end
     unfolding closedIn
     closed-root f = rw (well, eq-eqb (here .depth) 0 f)
 
     module _ (f : here .depth ≡ 0 → ⊥) where
-      pub closed-deep : (x : Turn) → 16 < here .depth → x ≡ refusedAt here 3 0 less → x ≡ closedIn t st here less end
+      pub closed-deep : (x : Turn) → 16 < here .depth → x ≡ refusedAt here 3 0 less → x ≡ closedIn t g st here less end
       unfolding closedIn
-      closed-deep x g j = rw (well, ne-eqb (here .depth) 0 f, lt-ltb 16 (here .depth) g) j
+      closed-deep x i j = rw (well, ne-eqb (here .depth) 0 f, lt-ltb 16 (here .depth) i) j
 
-      pub closed-outer : (lv : Level) → here .depth ≤ 16 → lv ≡ levelAt st (here .depth - 1)
-          → record { met = Closed; here = record { level = lv; depth = here .depth - 1; at = end; value = 0; quote = 0 }; less = less; verdict = nothing } ≡ closedIn t st here less end
+      pub closed-outer : (o : Here) → here .depth ≤ 16 → o ≡ outer st (here .depth - 1) end
+          → record { met = Closed; here = o; less = less; verdict = nothing } ≡ closedIn t g st here less end
       unfolding closedIn
-      closed-outer lv g j =
-          rw (well, ne-eqb (here .depth) 0 f, le-ltb 16 (here .depth) g)
-          (ap (λ (x : Level). record { met = Closed; here = record { level = x; depth = here .depth - 1; at = end; value = 0; quote = 0 }; less = less; verdict = nothing }) j)
+      closed-outer o i j =
+          rw (well, ne-eqb (here .depth) 0 f, le-ltb 16 (here .depth) i) (ap (λ (z : Here). record { met = Closed; here = z; less = less; verdict = nothing }) j)
 
 -- ---- an opening tag
 
@@ -219,8 +282,8 @@ module _ (t pool s st : List ℕ) (here : Here) (k : Token) (is : k ≡ tokenIn 
   step-ink x h f = told x st (by-ink t pool s st here k i e x h f)
 
   module _ (h : k .less ≤ i) where
-    pub step-close : (x : Turn) → k .kind ≡ Close → x ≡ closedIn t st here (k .less) (k .end) → Steps x st
-    step-close x f g = told x st (by-kind t pool s st here k i e Close h f x st g refl)
+    pub step-close : (x : Turn) (g : Bool) → k .kind ≡ Close → g ≡ isGroupIn (cell t (here .level .row) 2) → x ≡ closedIn t g st here (k .less) (k .end) → Steps x st
+    step-close x g f j c = told x st (by-kind t pool s st here k i e Close h f x st (c ∙ ap (λ (b : Bool). closedIn t b st here (k .less) (k .end)) j) refl)
 
     pub step-end : (x : Turn) → k .kind ≡ End → x ≡ refusedAt here 3 0 (k .less) → Steps x st
     step-end x f g = told x st (by-kind t pool s st here k i e End h f x st g refl)

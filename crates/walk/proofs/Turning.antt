@@ -100,9 +100,9 @@ module _ (t : List ℕ) (lv : Level) where
   unfolding openingIn
   opening-fits r own o e = open-fits (eqb r 0) (passedIn t lv r) (againIn t lv r) own (lv .row) r o e
 
-  pub end-code : (a b : ℕ) → endIn t lv a b .code ≢ 0 → 3 < endIn t lv a b .code
+  pub end-code : (g : Bool) (a b : ℕ) → endIn t g lv a b .code ≢ 0 → 3 < endIn t g lv a b .code
   unfolding endIn groupEndIn
-  end-code a b h = end-codes (isGroupIn (cell t (lv .row) 2)) (eqb (lv .last) 0) (ltb 0 (lv .due)) (brokenIn t lv) (eqb b a) (lv .due) (lv .row) (lv .place) _ refl h
+  end-code g a b h = end-codes g (eqb (lv .last) 0) (ltb 0 (lv .due)) (brokenIn t lv) (eqb b a) (lv .due) (lv .row) (lv .place) _ refl h
 
 module _ (T : Types) (t pool s : List ℕ) (sd : Sound t pool) (m : Coins T) where
   abbrev l : Listing
@@ -184,23 +184,26 @@ module _ (T : Types) (t pool s : List ℕ) (sd : Sound t pool) (m : Coins T) whe
 
     module _ (ps : List Piece) (x : Text s (here .at) (k .less) ps) (more : List Event) (is : es ≡ chars (here .at) ps (leave ∷ more))
         (kind : k .kind ≡ Close) (tells : Tells s (k .end) more) (h : k .less ≤ ink) where
+      abbrev inGroup : Bool
+      inGroup = isGroupIn (cell t (lv .row) 2)
+
       abbrev v : Verdict
-      v = endIn t lv (here .at) (k .less)
+      v = endIn t inGroup lv (here .at) (k .less)
 
       found-close : finds T t pool s sd here below ats es
           ≡ cond (eqb (v .code) 0) (orElse (judged T (kindOf l (lv .row)) (lv .row) (lv .place) ats (resolvedAll ps)) (run T l (pop below) more)) (foundOf v)
       found-close = passed-text ps x (leave ∷ more) is h ∙ close-run T t pool s sd lv (w .placed) below ats (here .at) (k .less) ps low high x more
 
-      close-to : (y : Turn) → y ≡ closedIn t st here (k .less) (k .end) → Turned T t pool s sd here below ats es st y → Goal
-      close-to y e = to y st (step-close t pool s st here k refl ink refl h y kind e)
+      close-to : (y : Turn) → y ≡ closedIn t inGroup st here (k .less) (k .end) → Turned T t pool s sd here below ats es st y → Goal
+      close-to y e = to y st (step-close t pool s st here k refl ink refl h y inGroup kind refl e)
 
       handed-close : hands T t pool s sd here below ats es ≡ closes T l (kindOf l (lv .row)) (lv .row) ats (resolvedAll ps) ++ emits T l (pop below) more
       unfolding emits
       handed-close = handed-text ps x (leave ∷ more) is ∙ ap (λ z. z ++ emits T l (pop below) more) (closes-kept T l (kindOf l (lv .row)) (lv .row) ats ps)
 
       close-refused : v .code ≢ 0 → Goal
-      close-refused n = close-to (refusal here v) (closed-refused t st here (k .less) (k .end) v refl (refusal here v) n refl)
-          (refuses v (end-code t lv (here .at) (k .less) n) (found-close ∙ rw (ne-eqb (v .code) 0 n)))
+      close-refused n = close-to (refusal here v) (closed-refused t inGroup st here (k .less) (k .end) v refl (refusal here v) n refl)
+          (refuses v (end-code t lv inGroup (here .at) (k .less) n) (found-close ∙ rw (ne-eqb (v .code) 0 n)))
 
       module _ (z : v .code ≡ 0) where
         found-on : finds T t pool s sd here below ats es ≡ orElse (judged T (kindOf l (lv .row)) (lv .row) (lv .place) ats (resolvedAll ps)) (run T l (pop below) more)
@@ -213,7 +216,7 @@ module _ (T : Types) (t pool s : List ℕ) (sd : Sound t pool) (m : Coins T) whe
             let none : below ≡ [] = sym (w .around) ∙ ap (levels st) d in
             let row : lv .row ≡ 1 = subst (Nested T t pool s sd (lv .row)) none (w .nested) in
             let g : isGroup (kindOf l (lv .row)) ≡ true = ap (λ r. isGroup (kindOf l r)) row ∙ ap isGroup (sd .well .root .1) in
-            close-to (record { met = Closed; here = here; less = k .less; verdict = nothing }) (closed-root t st here (k .less) (k .end) v refl z d)
+            close-to (record { met = Closed; here = here; less = k .less; verdict = nothing }) (closed-root t inGroup st here (k .less) (k .end) v refl z d)
             (whole (record {
               met = refl;
               root = d;
@@ -258,7 +261,7 @@ module _ (T : Types) (t pool s : List ℕ) (sd : Sound t pool) (m : Coins T) whe
           close-on : Goal
           close-on =
               close-to (record { met = Closed; here = out; less = k .less; verdict = nothing })
-              (closed-outer t st here (k .less) (k .end) v refl z d around (omega (arith, shallow)) refl)
+              (closed-outer t inGroup st here (k .less) (k .end) v refl z d out (omega (arith, shallow)) refl)
               (closed (record {
                 met = refl;
                 deep = omega arith;

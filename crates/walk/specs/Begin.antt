@@ -3,7 +3,7 @@ use mathlib.Core.Bool.{Bool, false, cond, _&&_}
 use mathlib.Core.List.{List}
 use Prim.Native.Nat.{ℕ, _+_}
 use lib.Dec.{ltb}
-use lib.ListN.{length}
+use lib.ListN.{length, drop}
 use lib.Seq.{slice}
 use Rattle.text.specs.Lists.{same}
 use Rattle.list.specs.Table.{nameIn}
@@ -11,8 +11,7 @@ use Rattle.tags.specs.declared.attribute.Attribute.{Attribute}
 use Rattle.tags.specs.declared.token.Kind.{Kind}
 use Rattle.tags.specs.declared.token.Kind.the-variants.{Open, Empty, Close, End}
 use Rattle.tags.specs.declared.token.Token.{Token}
-use Rattle.tags.specs.Story.{tokenIn}
-use Rattle.tags.specs.Tokens.{startOf}
+use Rattle.tags.specs.Tokens.{openAt, startOf}
 use Rattle.walk.specs.declared.step.Here.{Here}
 use Rattle.walk.specs.declared.step.Turn.{Turn}
 use Rattle.walk.specs.declared.step.Met.the-variants.{Opened}
@@ -46,9 +45,9 @@ module _ (t pool s : List ℕ) where
   foundIn Close k = refusedAt (rootAt t (k .less) (k .end)) 3 0 (k .less)
   foundIn End k = refusedAt (rootAt t (k .less) (k .end)) 3 0 (k .less)
 
-  -- by the token there
+  -- by the tag there
   unfoldable pub beginBy : Token → Turn
   beginBy k = foundIn (k .kind) k
 
   abbrev pub beginIn : Turn
-  beginIn = beginBy (tokenIn s (startOf s))
+  beginIn = beginBy (openAt (startOf s) (drop (startOf s) s))

@@ -3,10 +3,10 @@ use mathlib.Core.Bool.{Bool, true, false, cond, _&&_}
 use mathlib.Core.List.{List, [], _∷_}
 use Prim.Native.Nat.{ℕ, _+_, _-_}
 use lib.Dec.{eqb, ltb}
-use lib.ListN.{length, getD}
+use lib.ListN.{length, getD, drop}
 use lib.Seq.{slice}
-use Rattle.text.specs.Bytes.{ascii, isCapital}
-use Rattle.text.specs.Lists.{same}
+use Rattle.text.specs.Bytes.{ascii, isBlank, isCapital}
+use Rattle.text.specs.Lists.{same, span}
 use Rattle.list.specs.Table.{cell, listOf}
 use Rattle.list.specs.Lookup.{childAlong}
 use Rattle.tags.specs.declared.attribute.Attribute.{Attribute}
@@ -47,10 +47,18 @@ spaceIn t pool s count a =
 unfoldable pub inkBefore : List ℕ → List ℕ → ℕ → ℕ → ℕ → ℕ
 inkBefore t s row at less = cond (isGroupIn (cell t row 2)) (inkIn s at less) less
 
+-- the same in two steps, g saying whether it is a group: from where a text is looked at, behind its blanks in a group, and the first ink
+-- from there
+unfoldable pub textFrom : List ℕ → Bool → ℕ → ℕ
+textFrom s g at = cond g (at + span isBlank (drop at s)) at
+
+unfoldable pub inkFrom : Bool → ℕ → ℕ → ℕ
+inkFrom g o less = cond g o less
+
 -- ---- a closing tag
 
-unfoldable pub endIn : List ℕ → Level → ℕ → ℕ → Verdict
-endIn t lv at less = cond (isGroupIn (cell t (lv .row) 2)) (groupEndIn t lv) (cond (eqb less at) (says 11 (lv .row) (lv .place)) nothing)
+unfoldable pub endIn : List ℕ → Bool → Level → ℕ → ℕ → Verdict
+endIn t g lv at less = cond g (groupEndIn t lv) (cond (eqb less at) (says 11 (lv .row) (lv .place)) nothing)
 
 abbrev pub refusedAt : Here → ℕ → ℕ → ℕ → Turn
 refusedAt here code row place = record { met = Refused; here = here; less = place; verdict = says code row place }
@@ -61,15 +69,15 @@ refusal here v = refusedAt here (v .code) (v .row) (v .place)
 abbrev pub outer : List ℕ → ℕ → ℕ → Here
 outer a n end = record { level = levelAt a n; depth = n; at = end; value = 0; quote = 0 }
 
-unfoldable pub closedIn : List ℕ → List ℕ → Here → ℕ → ℕ → Turn
-closedIn t a here less end =
-    cond (eqb (endIn t (here .level) (here .at) less .code) 0)
+unfoldable pub closedIn : List ℕ → Bool → List ℕ → Here → ℕ → ℕ → Turn
+closedIn t g a here less end =
+    cond (eqb (endIn t g (here .level) (here .at) less .code) 0)
     (cond (eqb (here .depth) 0)
     (record { met = Closed; here = here; less = less; verdict = nothing })
     (cond (ltb 16 (here .depth))
     (refusedAt here 3 0 less)
     (record { met = Closed; here = outer a (here .depth - 1) end; less = less; verdict = nothing })))
-    (refusal here (endIn t (here .level) (here .at) less))
+    (refusal here (endIn t g (here .level) (here .at) less))
 
 -- ---- an opening tag
 
@@ -100,10 +108,17 @@ vacantIn t here r ok less =
 
 -- ---- one step
 
+-- a kind as a number
+unfoldable pub numberOf : Kind → ℕ
+numberOf Open = 0
+numberOf Empty = 1
+numberOf Close = 2
+numberOf End = 3
+
 module _ (t pool s st : List ℕ) (here : Here) where
   -- by what stands behind the text
   abbrev pub metIn : Kind → Token → Turn
-  metIn Close k = closedIn t st here (k .less) (k .end)
+  metIn Close k = closedIn t (isGroupIn (cell t (here .level .row) 2)) st here (k .less) (k .end)
   metIn End k = refusedAt here 3 0 (k .less)
   metIn Open k =
       enteredIn t here (rowIn t pool s (here .level) (k .less) (k .stop)) (ownIn t s (rowIn t pool s (here .level) (k .less) (k .stop)) (k .attributes) (k .first))

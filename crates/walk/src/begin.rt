@@ -12,7 +12,7 @@ use list::table::NAME;
 use list::table::NAME_END;
 use tags::attribute::Attribute;
 use tags::token::Kind;
-use tags::token::next;
+use tags::token::opening;
 use tags::token::start;
 use text::part::same_part;
 ghost use mathlib.Core.Path.{_≡_};
@@ -79,7 +79,7 @@ fn hollow(root: bool, here: Here, less: usize) -> Turn
 pub fn begin(rows: &[u16], pool: &[u8], s: &[u8]) -> Turn
     ensures { λ r. ⌜ r ≡ beginIn (now (rows .entry)) (now (pool .entry)) (now (s .entry)) ⌝ }
 {
-    let token = next(s, start(s));
+    let token = opening(s, start(s));
     let less = token.less;
     let level = fresh(rows, 1, less);
     let here = Here {

@@ -15,10 +15,11 @@ use list::lookup::child;
 use list::table::KIND;
 use tags::attribute::Attribute;
 use tags::token::Kind;
-use tags::token::first_ink;
 use tags::token::next;
+use text::span::blanks_end;
 ghost use mathlib.Core.Path.{_≡_};
-ghost use Rattle.walk.specs.Stride.{inkBefore, endIn, refusedAt, closedIn, rowIn, enteredIn, belowIn, vacantIn, stepIn, stackIn};
+ghost use Prim.Native.Nat.{_<_};
+ghost use Rattle.walk.specs.Stride.{textFrom, inkFrom, endIn, refusedAt, outer, closedIn, rowIn, enteredIn, belowIn, vacantIn, numberOf, stepIn, stackIn};
 
 // Where the walk stands: the innermost open element, how many are around it (they are on the stack), the place behind the last tag, and
 // where that tag's first attribute has its value.
@@ -47,21 +48,31 @@ pub struct Turn {
     pub verdict: Verdict,
 }
 
-// The first character of the text at .. less that a group of this row may not have, or less.
-fn ink(rows: &[u16], s: &[u8], row: usize, at: usize, less: usize) -> usize
-    ensures { λ r. ⌜ r ≡ inkBefore (now (rows .entry)) (now (s .entry)) row at less ⌝ }
+// From where a text is looked at. In a group it is nearly always blanks, so that these are passed once and the tag stands there.
+fn text_from(s: &[u8], group: bool, at: usize) -> usize
+    ensures { λ r. ⌜ r ≡ textFrom (now (s .entry)) group at ⌝ }
 {
-    if is_group(cell(rows, row, KIND)) {
-        return first_ink(s, at, less);
+    if group {
+        return blanks_end(s, at);
+    }
+    at
+}
+
+// The first character of the text from .. less that a group may not have, or less.
+fn ink(group: bool, from: usize, less: usize) -> usize
+    ensures { λ r. ⌜ r ≡ inkFrom group from less ⌝ }
+{
+    if group {
+        return from;
     }
     less
 }
 
 // The end of an element: of a leaf only whether it has a character at all.
-fn end_of(rows: &[u16], lv: Level, at: usize, less: usize) -> Verdict
-    ensures { λ r. ⌜ r ≡ endIn (now (rows .entry)) lv at less ⌝ }
+fn end_of(rows: &[u16], group: bool, lv: Level, at: usize, less: usize) -> Verdict
+    ensures { λ r. ⌜ r ≡ endIn (now (rows .entry)) group lv at less ⌝ }
 {
-    if is_group(cell(rows, lv.row, KIND)) {
+    if group {
         return group_end(rows, lv);
     }
     if less == at {
@@ -89,11 +100,33 @@ pub(crate) fn refused(here: Here, code: usize, row: usize, place: usize) -> Turn
     }
 }
 
-// A closing tag.
-fn closed(rows: &[u16], stack: &[usize; 80], here: Here, less: usize, end: usize) -> Turn
-    ensures { λ r. ⌜ r ≡ closedIn (now (rows .entry)) (now (stack .entry)) here less end ⌝ }
+// The n-th element on the stack is the innermost again, behind a tag that ends at a place.
+fn around(stack: &[usize; 80], n: usize, end: usize) -> Here
+    requires { ⌜ n < 16 ⌝ }
+    ensures { λ r. ⌜ r ≡ outer (now (stack .entry)) n end ⌝ }
 {
-    let v = end_of(rows, here.level, here.at, less);
+    let level = level_at(stack, n);
+    Here {
+        level,
+        depth: n,
+        at: end,
+        value: 0,
+        quote: 0,
+    }
+}
+
+// A closing tag.
+fn closed(
+    rows: &[u16],
+    group: bool,
+    stack: &[usize; 80],
+    here: Here,
+    less: usize,
+    end: usize,
+) -> Turn
+    ensures { λ r. ⌜ r ≡ closedIn (now (rows .entry)) group (now (stack .entry)) here less end ⌝ }
+{
+    let v = end_of(rows, group, here.level, here.at, less);
     if v.code != 0 {
         return refused(here, v.code, v.row, v.place);
     }
@@ -114,15 +147,7 @@ fn closed(rows: &[u16], stack: &[usize; 80], here: Here, less: usize, end: usize
     if 16 < depth {
         return refused(here, 3, 0, less);
     }
-    let n = depth - 1;
-    let level = level_at(stack, n);
-    let outer = Here {
-        level,
-        depth: n,
-        at: end,
-        value: 0,
-        quote: 0,
-    };
+    let outer = around(stack, depth - 1, end);
     Turn {
         met: Met::Closed,
         here: outer,
@@ -195,32 +220,51 @@ fn vacant(rows: &[u16], here: Here, r: usize, ok: bool, less: usize) -> Turn
     refused(here, 11, r, less)
 }
 
+const EMPTY: u8 = 1;
+
+const CLOSE: u8 = 2;
+
+const END: u8 = 3;
+
+// A kind as a number: a step tests it more than once.
+fn number(kind: Kind) -> u8
+    ensures { λ r. ⌜ r ≡ numberOf kind ⌝ }
+{
+    match kind {
+        Kind::Open => 0,
+        Kind::Empty => EMPTY,
+        Kind::Close => CLOSE,
+        Kind::End => END,
+    }
+}
+
 // One step: the text behind `here`, and the tag behind it. Bytes that end, and levels beyond 16, are no house XML.
 pub fn step(rows: &[u16], pool: &[u8], s: &[u8], stack: &mut [usize; 80], here: Here) -> Turn
     ensures { λ x. ⌜ (x ≡ stepIn (now (rows .entry)) (now (pool .entry)) (now (s .entry)) (now (stack .entry)) here) × (now (stack .exit) ≡ stackIn (now (rows .entry)) (now (pool .entry)) (now (s .entry)) (now (stack .entry)) here) ⌝ }
 {
     let lv = here.level;
-    let at = here.at;
-    let token = next(s, at);
+    let group = is_group(cell(rows, lv.row, KIND));
+    let from = text_from(s, group, here.at);
+    let token = next(s, from);
     let less = token.less;
-    let bad = ink(rows, s, lv.row, at, less);
+    let bad = ink(group, from, less);
     if bad < less {
         return refused(here, 10, lv.row, bad);
     }
-    let kind = token.kind;
-    let a = token.first;
-    match kind {
-        Kind::Close => closed(rows, stack, here, less, token.end),
-        Kind::End => refused(here, 3, 0, less),
-        Kind::Open => {
-            let r = row_of(rows, pool, s, lv, less, token.stop);
-            let ok = own(rows, s, r, token.attributes, a);
-            entered(rows, stack, here, r, ok, less, token.end, a)
-        }
-        Kind::Empty => {
-            let r = row_of(rows, pool, s, lv, less, token.stop);
-            let ok = own(rows, s, r, token.attributes, a);
-            vacant(rows, here, r, ok, less)
-        }
+    let stands = token.kind;
+    let kind = number(stands);
+    if kind == CLOSE {
+        return closed(rows, group, stack, here, less, token.end);
     }
+    if kind == END {
+        return refused(here, 3, 0, less);
+    }
+    // The lookup is the longest part of a step, so that it stands once, for elements with and without content.
+    let a = token.first;
+    let r = row_of(rows, pool, s, lv, less, token.stop);
+    let ok = own(rows, s, r, token.attributes, a);
+    if kind == EMPTY {
+        return vacant(rows, here, r, ok, less);
+    }
+    entered(rows, stack, here, r, ok, less, token.end, a)
 }

@@ -3,8 +3,7 @@ use Rattle.scan.proofs.scan.Statement.{statement}
 use Rattle.scan.proofs.scan.Tie as tie
 use mathlib.Core.Path.{refl}
 use Rattle.text.specs.Bytes.{isBlank, isNamePart}
-use Rattle.text.specs.Plain.{isPlain}
-use Rattle.scan.specs.Classes.{classOf}
+use Rattle.scan.specs.Classes.{isPlain, classOf}
 use Rattle.scan.proofs.Classes.{classed}
 use Rattle.scan.proofs.Answers.{prolog-stops, prolog-within, elements-stop, more-stops, all-whole}
 

@@ -1,74 +1,23 @@
 -- `number::get` meets its contract. Assumes nothing.
-use Prim.Native.Nat.{_-_}
-use native.Mathlib.Omega.{arith}
 use borrow.Author.Needs.{needs}
-use Rattle.text.proofs.Numbers.{Getting, get-start, get-end, get-below, get-room, get-fits, get-again}
+use Rattle.text.proofs.Numbers.{get-less, get-whole}
 use Rattle.text.proofs.number.get.Statement.{statement}
 use Rattle.text.proofs.number.get.Tie as tie
 
-abbrev Inv-loop : tie.InvT-loop
-Inv-loop s at w n r₀ k₀ r k = Getting s at w n r k
-
-abbrev μ-loop : tie.MeasureT-loop
-μ-loop s at w n r₀ k₀ r k = n - k
-
-part-len-requires : tie.Need-part-len-requires Inv-loop μ-loop
+part-len-requires : tie.Need-part-len-requires
 part-len-requires c κs = search needs
 
-least-requires : tie.Need-least-requires Inv-loop μ-loop
-least-requires c κs = search needs
+gather-requires : tie.Need-gather-requires
+gather-requires c κs = (c .before .before .before .pre, get-less (c .before .before .before .args .s .now) (c .before .before .before .args .at) _ _ (c .before .part-len .ensures) (c .if1 .taken))
 
-loop-holds : tie.Need-loop-holds Inv-loop μ-loop
-loop-holds c = get-start _ _ _ _ _ (c .before .part-len .ensures) (c .least .ensures)
+returns : tie.Need-returns
+returns c = search needs
 
-mul-r : tie.Need-mul-r Inv-loop μ-loop
-mul-r c =
-    let f = get-fits _ _ _ _ _ _ (c .before .loop .inv) (c .loop-test .taken) (c .before .before .before .before .before .pre) in
-    omega arith
+gather-requires-2 : tie.Need-gather-requires-2
+gather-requires-2 c κs = (c .before .before .before .pre, get-whole (c .before .before .before .args .s .now) (c .before .before .before .args .at) _ _ (c .before .part-len .ensures) (c .if1 .left))
 
-add-wide : tie.Need-add-wide Inv-loop μ-loop
-add-wide c = omega (arith, get-room _ _ _ _ _ _ (c .before .loop .inv) (c .loop-test .taken))
-
-shared-slice-read-wide : tie.Need-shared-slice-read-wide Inv-loop μ-loop
-shared-slice-read-wide c = get-room _ _ _ _ _ _ (c .before .before .loop .inv) (c .before .loop-test .taken)
-
-wide-requires : tie.Need-wide-requires Inv-loop μ-loop
-wide-requires c κs = search needs
-
-add-r : tie.Need-add-r Inv-loop μ-loop
-add-r c =
-    let f = get-fits _ _ _ _ _ _ (c .before .before .before .loop .inv) (c .before .before .loop-test .taken) (c .before .before .before .before .before .before .before .pre) in
-    omega arith
-
-add-k : tie.Need-add-k Inv-loop μ-loop
-add-k c = search needs
-
-loop-less : tie.Need-loop-less Inv-loop μ-loop
-loop-less c = search needs
-
-loop-again : tie.Need-loop-again Inv-loop μ-loop
-loop-again c =
-    get-again _ _ _ _ _ _ (c .before .before .before .loop .inv) (c .before .before .loop-test .taken) _ (c .wide .ensures .0) (c .wide .ensures .1)
-
-returns : tie.Need-returns Inv-loop μ-loop
-returns c =
-    (get-end _ _ _ _ _ _ (c .before .loop .inv) (c .loop-test .left), get-below _ _ _ _ _ _ (c .before .loop .inv))
+returns-2 : tie.Need-returns-2
+returns-2 c = search needs
 
 pub get-spec : {M : Type 1} → statement M
-get-spec =
-    tie.close
-    (tie.spec
-    Inv-loop
-    μ-loop
-    part-len-requires
-    least-requires
-    loop-holds
-    mul-r
-    add-wide
-    shared-slice-read-wide
-    wide-requires
-    add-r
-    add-k
-    loop-less
-    loop-again
-    returns)
+get-spec = tie.close (tie.spec part-len-requires gather-requires returns gather-requires-2 returns-2)

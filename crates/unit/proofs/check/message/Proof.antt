@@ -11,12 +11,6 @@ rows-requires c κs = search needs
 pool-requires : tie.Need-pool-requires
 pool-requires c κs = search needs
 
-slice-aggregate-measure : tie.Need-slice-aggregate-measure
-slice-aggregate-measure c = search needs
-
-slice-aggregate-measure-2 : tie.Need-slice-aggregate-measure-2
-slice-aggregate-measure-2 c = search needs
-
 measure-requires : tie.Need-measure-requires
 measure-requires c κs =
     house-ready _ _ (c .before .before .before .rows .ensures) (c .before .before .pool .ensures) _ (c .before .before .before .before .before .before .pre)
@@ -35,12 +29,6 @@ no-room-requires c κs = search needs
 returns-2 : tie.Need-returns-2
 returns-2 c =
     house-room _ _ (c .before .before .before .before .before .before .before .before .before .rows .ensures) (c .before .before .before .before .before .before .before .before .pool .ensures) _ (c .before .before .before .before .before .before .before .before .before .before .before .before .pre) _ (c .before .before .before .before .before .measure .ensures) _ _ (omega (arith, c .before .before .before .if1 .left)) (omega (arith, c .before .if2 .taken)) (c .no-room .ensures)
-
-slice-aggregate-fill : tie.Need-slice-aggregate-fill
-slice-aggregate-fill c = search needs
-
-slice-aggregate-fill-2 : tie.Need-slice-aggregate-fill-2
-slice-aggregate-fill-2 c = search needs
 
 fill-requires : tie.Need-fill-requires
 fill-requires c κs =
@@ -62,15 +50,11 @@ message-spec =
     (tie.spec
     rows-requires
     pool-requires
-    slice-aggregate-measure
-    slice-aggregate-measure-2
     measure-requires
     violation-requires
     returns
     no-room-requires
     returns-2
-    slice-aggregate-fill
-    slice-aggregate-fill-2
     fill-requires
     accepted-requires
     same-length

@@ -8,7 +8,7 @@ slice-aggregate-pass : tie.Need-slice-aggregate-pass
 slice-aggregate-pass c = search needs
 
 pass-requires : tie.Need-pass-requires
-pass-requires c κs = c .before .before .before .before .pre
+pass-requires c κs = search needs
 
 returns : tie.Need-returns
 returns c = measures _ _ _ _ _ _ (c .before .pass .ensures)

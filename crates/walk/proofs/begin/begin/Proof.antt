@@ -7,8 +7,8 @@ use Rattle.walk.proofs.Rooting.{begin-open, begin-empty, begin-close, b
 start-requires : tie.Need-start-requires
 start-requires c κs = search needs
 
-next-requires : tie.Need-next-requires
-next-requires c κs = search needs
+opening-requires : tie.Need-opening-requires
+opening-requires c κs = search needs
 
 fresh-requires : tie.Need-fresh-requires
 fresh-requires c κs = search needs
@@ -41,23 +41,23 @@ refused-requires-2 : tie.Need-refused-requires-2
 refused-requires-2 c κs = search needs
 
 returns : tie.Need-returns
-returns c = begin-open _ _ _ _ (c .before .before .before .before .before .before .start .ensures) _ (c .before .before .before .before .before .next .ensures) _ (c .before .before .before .before .fresh .ensures) _ (c .before .before .before .is-root .ensures) _ (c .before .enum-told .given .1) (c .rooted .ensures)
+returns c = begin-open _ _ _ _ (c .before .before .before .before .before .before .start .ensures) _ (c .before .before .before .before .before .opening .ensures) _ (c .before .before .before .before .fresh .ensures) _ (c .before .before .before .is-root .ensures) _ (c .before .enum-told .given .1) (c .rooted .ensures)
 
 returns-2 : tie.Need-returns-2
-returns-2 c = begin-empty _ _ _ _ (c .before .before .before .before .before .before .start .ensures) _ (c .before .before .before .before .before .next .ensures) _ (c .before .before .before .before .fresh .ensures) _ (c .before .before .before .is-root .ensures) _ (c .before .enum-told2 .given .1) (c .hollow .ensures)
+returns-2 c = begin-empty _ _ _ _ (c .before .before .before .before .before .before .start .ensures) _ (c .before .before .before .before .before .opening .ensures) _ (c .before .before .before .before .fresh .ensures) _ (c .before .before .before .is-root .ensures) _ (c .before .enum-told2 .given .1) (c .hollow .ensures)
 
 returns-3 : tie.Need-returns-3
-returns-3 c = begin-close _ _ _ _ (c .before .before .before .before .before .before .start .ensures) _ (c .before .before .before .before .before .next .ensures) _ (c .before .before .before .before .fresh .ensures) _ (c .before .enum-told3 .given .1) (c .refused .ensures)
+returns-3 c = begin-close _ _ _ _ (c .before .before .before .before .before .before .start .ensures) _ (c .before .before .before .before .before .opening .ensures) _ (c .before .before .before .before .fresh .ensures) _ (c .before .enum-told3 .given .1) (c .refused .ensures)
 
 returns-4 : tie.Need-returns-4
-returns-4 c = begin-end _ _ _ _ (c .before .before .before .before .before .before .start .ensures) _ (c .before .before .before .before .before .next .ensures) _ (c .before .before .before .before .fresh .ensures) _ (c .before .enum-told4 .given .1) (c .refused2 .ensures)
+returns-4 c = begin-end _ _ _ _ (c .before .before .before .before .before .before .start .ensures) _ (c .before .before .before .before .before .opening .ensures) _ (c .before .before .before .before .fresh .ensures) _ (c .before .enum-told4 .given .1) (c .refused2 .ensures)
 
 pub begin-spec : {M : Type 1} → statement M
 begin-spec =
     tie.close
     (tie.spec
     start-requires
-    next-requires
+    opening-requires
     fresh-requires
     is-root-requires
     enum-told
