@@ -25,8 +25,8 @@ use Rattle.image.specs.Pick.{rowsOf, Picked, Missing, Picks, refused, mi
 use Rattle.image.specs.Follow.{OfKind, ItemOk, Trail}
 use Rattle.image.specs.Step.{isLeaf}
 use Rattle.image.specs.Run.{Turn, stop, next, Comes, halts, moves, headOf, hunt, Finds, groups, leaves, Runs, Chooses, refused as no-image, missing as no-leaf, found as leaf-at}
-use Rattle.image.proofs.Rows.{Cmp, less, same, more, cmp, clash, well, value-is}
-use Rattle.image.proofs.Theorem.{next-in, content-whole, root-group}
+use Rattle.image.proofs.Rows.{Cmp, less, same, more, cmp, clash, next-in, well, value-is}
+use Rattle.image.proofs.Theorem.{content-whole, root-group}
 use Rattle.image.proofs.Prefix.{value-cut, root-oks}
 use Rattle.image.proofs.Stops.{header-length}
 use Rattle.image.proofs.Answers.{many, many-append, many-same}
@@ -111,7 +111,7 @@ module _ (t : List ℕ) (fin : ℕ → ℕ → ℕ) (s : List ℕ) where
 
     trail-goods : (is : List (Item vs)) (q : ℕ) → Trail vs l q is → Goods is
     trail-goods [] q h = tt
-    trail-goods (i ∷ is) q h = (next-in vs lw l wf (h .0), h .1, trail-goods is (i .0) (h .2))
+    trail-goods (i ∷ is) q h = (next-in l (h .0), h .1, trail-goods is (i .0) (h .2))
 
     content-goods : (c : Content (vs .Value)) → Meets (vs .Is) l c → Goods (items c)
     content-goods c m =

@@ -47,3 +47,5 @@ pub mod Meaning
 pub mod House
 -- the reader that holds its run
 pub mod Holding
+-- a held reader is taken apart, and another function is called
+pub mod Apart

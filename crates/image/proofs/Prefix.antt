@@ -12,10 +12,10 @@ use Rattle.list.specs.WellFormed.{KindOk, WellFormed}
 use Rattle.list.specs.Content.{Content, end, value, node, rows, items, ValueOf, GroupOf, Good, Meets}
 use Rattle.image.specs.Image.{Values, Lawful, Item, header, valueBytes, itemBytes, bytes, image}
 use Rattle.image.specs.Follow.{parentOf, Simple, Compound, Fits, Next, OfKind, ItemOk, Trail, Trace, lastRow, Whole}
-use Rattle.image.proofs.Rows.{clash, is-group, value-is, well}
+use Rattle.image.proofs.Rows.{clash, is-group, value-is, next-in, well}
 use Rattle.image.proofs.Derive.{After, above}
 use Rattle.image.proofs.Levels.{children-chain}
-use Rattle.image.proofs.Theorem.{after-of, next-in, content-whole, no-more, root-group}
+use Rattle.image.proofs.Theorem.{after-of, content-whole, no-more, root-group}
 
 pub cancel : (a u v : List ℕ) → a ++ u ≡ a ++ v → u ≡ v
 cancel [] u v e = e
@@ -31,7 +31,7 @@ module _ (vs : Values) (lw : Lawful vs) (l : Listing) (wf : WellFormed l) where
 
   pub trail-oks : (is : List (Item vs)) (q : ℕ) → Trail vs l q is → Oks is
   trail-oks [] q h = tt
-  trail-oks (i ∷ is) q h = (next-in vs lw l wf (h .0) .0, h .1, trail-oks is (i .0) (h .2))
+  trail-oks (i ∷ is) q h = (next-in l (h .0) .0, h .1, trail-oks is (i .0) (h .2))
 
   pub root-oks : (is : List (Item vs)) → Trail vs l 1 is → Oks ((1, none) ∷ is)
   root-oks is h = (omega arith, is-group (vs .Is) l (rowAt l 1 .kind) (root-group vs lw l wf), trail-oks is 1 h)

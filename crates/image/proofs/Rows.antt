@@ -14,7 +14,7 @@ use Rattle.list.specs.Listing.{Leaf, Kind, group, choice, leaf, Count, optional
 use Rattle.list.specs.WellFormed.{LeafOk, KindOk, BothOk, RuleOk, WellFormed}
 use Rattle.list.specs.Content.{ValueOf, GroupOf}
 use Rattle.list.proofs.Next.{row-past}
-use Rattle.image.specs.Follow.{parentOf, countOf, kindOf, Simple, Compound, paired, ruled}
+use Rattle.image.specs.Follow.{parentOf, countOf, kindOf, Simple, Compound, paired, ruled, Climb, beside, out, Next, down, on}
 
 pub data Cmp (a b : ℕ) : Type 0 where
   less : a < b → Cmp a b
@@ -55,6 +55,16 @@ module _ {A : Type 0} (Is : Leaf → A → Type 0) (l : Listing) where
   value-is group v h = absurd h
   value-is choice v h = absurd h
   value-is (leaf k) v h = refl
+
+-- a row that comes next is a row of the list
+module _ (l : Listing) where
+  climb-in : {x q : ℕ} → Climb l x q → (0 < x) × (x ≤ size l)
+  climb-in (beside h f) = (f .child .first, f .child .last)
+  climb-in (out h s c) = climb-in c
+
+  pub next-in : {x q : ℕ} → Next l x q → (0 < x) × (x ≤ size l)
+  next-in (down n f) = (f .child .first, f .child .last)
+  next-in (on k c) = climb-in c
 
 -- a rule's two rows
 pub in-rules : (l : Listing) (rs : List Rule) → Each (RuleOk l) rs → (a b : ℕ) → paired rs a b ≡ true → BothOk l (parentOf l a) a b

@@ -23,8 +23,7 @@ use Rattle.image.specs.Follow.{Simple, Next, Over, ItemOk}
 use Rattle.image.specs.Reader.{Stuck, Open, Stops, Ends}
 use Rattle.image.specs.Step.{follows, ended}
 use Rattle.image.specs.Run.{Turn, stop, next, Comes, halts, moves, turn, Goes, Runs, over as runs-over, foreign as runs-foreign, version as runs-version, rootless, rooted}
-use Rattle.image.proofs.Rows.{well}
-use Rattle.image.proofs.Theorem.{next-in}
+use Rattle.image.proofs.Rows.{next-in, well}
 use Rattle.image.proofs.Stops.{header-is, stops-on, stops-here, ends-on, ends-here, accepts, refuses, refuses-root}
 use Rattle.image.proofs.Step.{Lines, follows-is, ended-is}
 use Rattle.image.proofs.Answers.{headed-three}
@@ -147,7 +146,7 @@ module _ (t : List ℕ) (fin : ℕ → ℕ → ℕ) (s : List ℕ) where
     halt a q i p b z e (due h x o f) =
         let d : drop i s ≡ 0 ∷ drop (i + 1) s = here i h ∙ ap (λ (y : ℕ). y ∷ drop (i + 1) s) x in
         stops a q i (cc (e, f))
-        (λ y v u g n k. omega (arith, head-eq-of-cons-eq (sym d ∙ g), next-in vs lw l wf n .0))
+        (λ y v u g n k. omega (arith, head-eq-of-cons-eq (sym d ∙ g), next-in l n .0))
         (λ u g k m. true≢false (sym (ended-is l (well l wf) t ls q p b .back (k, m)) ∙ o))
     halt a q i p b z e (stray h x o f) =
         stops a q i (cc (e, f))
@@ -155,7 +154,7 @@ module _ (t : List ℕ) (fin : ℕ → ℕ → ℕ) (s : List ℕ) where
         (λ u g k m. x (head-eq-of-cons-eq (sym (here i h) ∙ g)))
     halt a q i p b z e (bad h x o m f) =
         let n = follows-is l (well l wf) t ls q (getD s i 0) p b .so o in
-        let r = next-in vs lw l wf n in
+        let r = next-in l n in
         stops a q i (cc (e, f))
         (λ y v u g k j.
         let w : getD s i 0 ≡ y = head-eq-of-cons-eq (sym (here i h) ∙ g) in
@@ -205,7 +204,7 @@ module _ (t : List ℕ) (fin : ℕ → ℕ → ℕ) (s : List ℕ) where
     goes-halt {a} {q} {i} p b z (moves x j e g) =
         let o = onto q i x j e (case q i) in
         let n = follows-is l (well l wf) t ls q x p b .so (o .goes) in
-        let r = next-in vs lw l wf n in
+        let r = next-in l n in
         let v = en .some x (i + 1) (r .0) (r .1) (omega arith) (omega (arith, o .here′)) (subst (λ (y : ℕ). 0 < y) (o .place) (o .some)) in
         let d : drop i s ≡ x ∷ (vb x (v .0) ++ drop j s) =
         here i (o .here′) ∙ ap₂ _∷_ (sym (o .row)) (v .2 ∙ ap (λ (y : ℕ). vb x (v .0) ++ drop y s) (sym (o .place))) in

@@ -16,7 +16,7 @@ use Rattle.list.proofs.Next.{Due, next-due, none-due}
 use Rattle.image.specs.Follow.{repeats, parentOf, countOf, kindOf, Simple, Compound, paired, ruled, due, Clear, Fits, Shut, Climb, beside as side, out, Next, down, on, Over, top}
 use Rattle.image.specs.Step.{isLeaf, again, owed, before, mated, inOrder, beside, inside, climbs, follows, rests, ended}
 use Rattle.image.proofs.Levels.{or-neither}
-use Rattle.image.proofs.Rows.{Cmp, less, same, more, cmp, or-left, or-right, clash, Well, well}
+use Rattle.image.proofs.Rows.{Cmp, less, same, more, cmp, or-left, or-right, clash, next-in, Well, well}
 
 -- a test and what it says
 pub record Says (b : Bool) (P : Type 0) : Type 0 where
@@ -296,14 +296,6 @@ module _ (l : Listing) (w : Well l) where
     not-simple true f = refl
     not-simple false f = absurd (f refl)
 
-    climb-in : {x q : ℕ} → Climb l x q → (0 < x) × (x ≤ size l)
-    climb-in (side h f) = (f .child .first, f .child .last)
-    climb-in (out h s c) = climb-in c
-
-    next-in : {x q : ℕ} → Next l x q → (0 < x) × (x ≤ size l)
-    next-in (down n f) = (f .child .first, f .child .last)
-    next-in (on k c) = climb-in c
-
     next-leaf : {x q : ℕ} → Simple l q → Next l x q → Climb l x q
     next-leaf s (down n f) = absurd (clash n s)
     next-leaf s (on k c) = c
@@ -322,7 +314,7 @@ module _ (l : Listing) (w : Well l) where
             (λ s. let g = not-simple (isGroup (kindOf l q)) s in map-is (λ h. down g h) (next-group g) (inside-is q x a b c d))
 
         none-next : ((0 < x) → x ≤ size l → ⊥) → Says false (Next l x q)
-        none-next f = record { so = λ e. absurd (false≢true e); back = λ h. absurd (f (next-in h .0) (next-in h .1)) }
+        none-next f = record { so = λ e. absurd (false≢true e); back = λ h. absurd (f (next-in l h .0) (next-in l h .1)) }
 
         within : 0 < x → x ≤ size l → Says (cond (eqb x 0) false (cond (ltb (size l) x) false (cond (isLeaf t q) (climbs t 16 q x) (inside t q x)))) (Next l x q)
         within c d = rw (ne-eqb x 0 (λ z. omega arith), le-ltb (size l) x d) (tested c d)

@@ -16,7 +16,7 @@ use Rattle.image.specs.Place.{Accepts, Begins, Most, Refuses}
 use Rattle.image.specs.Follow.{Simple, Next, Over, ItemOk, Trail, Trace, lastRow, Whole}
 use Rattle.image.specs.Reader.{Stuck, Open, Stops, Ends}
 use Rattle.image.proofs.Rows.{well}
-use Rattle.image.proofs.Theorem.{next-in, content-whole, whole-content, begins-trace, trace-begins}
+use Rattle.image.proofs.Theorem.{content-whole, whole-content, begins-trace, trace-begins}
 use Rattle.image.proofs.Prefix.{cancel, Oks, trail-oks, root-oks, bytes-whole, bytes-first, image-prefix}
 
 -- the header's bytes

@@ -11,8 +11,8 @@ use Rattle.list.specs.WellFormed.{WellFormed}
 use Rattle.list.specs.Content.{Content, end, value, node, rows, items, ValueOf, GroupOf, Good, Meets}
 use Rattle.image.specs.Image.{Values, Lawful, Item}
 use Rattle.image.specs.Place.{Begins}
-use Rattle.image.specs.Follow.{kindOf, Simple, Compound, Fits, Shut, Climb, beside, out, Next, down, on, Over, top, ItemOk, Trail, Trace, lastRow, Whole}
-use Rattle.image.proofs.Rows.{clash, is-group, value-is, Well, well}
+use Rattle.image.specs.Follow.{kindOf, Simple, Compound, Fits, Shut, Over, top, ItemOk, Trail, Trace, lastRow, Whole}
+use Rattle.image.proofs.Rows.{clash, is-group, value-is, next-in, Well, well}
 use Rattle.image.proofs.Derive.{After, Rest, root, more, Takes, after, inside, above, Stepped, fwd, back, rest-over, over-rest}
 use Rattle.image.proofs.Levels.{Chain, chain-children, children-chain}
 use Rattle.image.proofs.Live.{live}
@@ -76,33 +76,24 @@ module _ (vs : Values) (lw : Lawful vs) (l : Listing) (wf : WellFormed l) where
         is = cc (e, rest-one r);
       }
 
-  -- a row that comes next is a row of the list
-  climb-in : {x q : ℕ} → Climb l x q → (0 < x) × (x ≤ size l)
-  climb-in (beside h f) = (f .child .first, f .child .last)
-  climb-in (out h s c) = climb-in c
-
-  pub next-in : {x q : ℕ} → Next l x q → (0 < x) × (x ≤ size l)
-  next-in (down n f) = (f .child .first, f .child .last)
-  next-in (on k c) = climb-in c
-
   -- along the items
   pub trail-of : (is : List (Item vs)) (q : ℕ) (t : List (Item vs)) → 0 < q → q ≤ size l → Takes vs l q (is ++ t) → Trail vs l q is × Takes vs l (lastRow vs l q is) t
   trail-of [] q t a b k = (tt, k)
   trail-of (i ∷ is) q t a b k =
       let s = fwd vs l w a b k refl in
-      let n = next-in (s .next) in
+      let n = next-in l (s .next) in
       let r = trail-of is (i .0) t (n .0) (n .1) (s .takes) in
       ((s .next, s .item, r .0), r .1)
 
   pub of-trail : (is : List (Item vs)) (q : ℕ) (t : List (Item vs)) → 0 < q → q ≤ size l → Trail vs l q is → Takes vs l (lastRow vs l q is) t → Takes vs l q (is ++ t)
   of-trail [] q t a b h k = k
   of-trail (i ∷ is) q t a b h k =
-      let n = next-in (h .0) in
+      let n = next-in l (h .0) in
       back vs l w a b (h .0) (h .1) (of-trail is (i .0) t (n .0) (n .1) (h .2) k)
 
   last-in : (is : List (Item vs)) (q : ℕ) → 0 < q → q ≤ size l → Trail vs l q is → (0 < lastRow vs l q is) × (lastRow vs l q is ≤ size l)
   last-in [] q a b h = (a, b)
-  last-in (i ∷ is) q a b h = let n = next-in (h .0) in last-in is (i .0) (n .0) (n .1) (h .2)
+  last-in (i ∷ is) q a b h = let n = next-in l (h .0) in last-in is (i .0) (n .0) (n .1) (h .2)
 
   -- (c) the items that begin some content
   pub begins-trace : (is : List (Item vs)) → Begins vs l is → Trace vs l is

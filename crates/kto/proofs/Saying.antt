@@ -5,14 +5,13 @@ use mathlib.Core.List.{List}
 use Prim.Native.Nat.{ℕ, _≤_, _<_}
 use native.Mathlib.Omega.{arith}
 use lib.ListN.{length, take}
-use lib.Seq.{length-take-le}
 use Rattle.io.specs.Counts.{Counts}
 use Rattle.text.specs.Pasting.{pasted}
 use Rattle.text.proofs.Pasting.{length-pasted}
 use Rattle.answer.specs.declared.Answer.{Answer}
 use Rattle.answer.specs.Table.{answer}
 use Rattle.line.specs.Line.{refusal}
-use Rattle.line.proofs.Lines.{taken-out}
+use Rattle.line.proofs.Lines.{taken-out, counts}
 use Rattle.list.specs.House.{house}
 use Rattle.image.specs.Kinds.{values}
 use Rattle.image.specs.Place.{Reads}
@@ -23,9 +22,6 @@ use Rattle.kto.specs.Says.{most, Says, longer, refused, written}
 -- the line of a refusal, taken from the buffer that it was put into
 pub line-taken : (a : Answer) (d d′ : List ℕ) (r : ℕ) → r ≡ length (refusal a) → r ≤ length d → d′ ≡ pasted d 0 (refusal a) → take r d′ ≡ refusal a
 line-taken a d d′ r e h f = ap (take r) f ∙ taken-out d (refusal a) r e h
-
-pub counts : (n : ℕ) (xs : List ℕ) → n ≤ length xs → Counts n xs
-counts n xs h = (h, sym (length-take-le n xs h))
 
 -- and it counts bytes of that buffer
 pub line-counts : (a : Answer) (d d′ : List ℕ) (r : ℕ) → r ≤ length d → d′ ≡ pasted d 0 (refusal a) → Counts r d′

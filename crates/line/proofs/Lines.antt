@@ -4,8 +4,8 @@ use mathlib.Core.List.{List, [], _∷_, _++_, append-assoc}
 use Prim.Native.Nat.{ℕ, zero, suc, _+_, _≤_}
 use native.Mathlib.Nat.{zero-add}
 use native.Mathlib.Omega.{arith}
-use lib.ListN.{length, length-append}
-use lib.Seq.{slice}
+use lib.ListN.{length, length-append, take}
+use lib.Seq.{slice, length-take-le}
 use Rattle.text.specs.Bytes.{ascii}
 use Rattle.text.specs.Pasting.{pasted}
 use Rattle.text.proofs.Pasting.{pasted-then, slice-pasted}
@@ -51,6 +51,10 @@ module _ (a : Answer) where
 pub taken-out : (d vs : List ℕ) (n : ℕ) → n ≡ length vs → n ≤ length d → slice 0 n (pasted d 0 vs) ≡ vs
 taken-out d vs n e h =
     ap (λ (k : ℕ). slice 0 k (pasted d 0 vs)) (e ∙ sym (zero-add (length vs))) ∙ slice-pasted d 0 vs (omega arith)
+
+-- how many bytes of a buffer a program writes: as many are there, which is what io's contracts say of a count
+pub counts : (n : ℕ) (xs : List ℕ) → n ≤ length xs → (n ≤ length xs) × (n ≡ length (take n xs))
+counts n xs h = (h, sym (length-take-le n xs h))
 
 -- the line of a refusal: the word, the numbers, the line end
 module _ (a : Answer) where

@@ -7,7 +7,6 @@ use Prim.Native.Nat.{ℕ, _+_, _≤_}
 use native.Mathlib.Omega.{arith}
 use lib.Dec.{eqb}
 use lib.ListN.{length, take, drop, length-take}
-use lib.Seq.{length-take-le}
 use borrow.Author.Tests.{le-leb, eq-eqb, ne-eqb, eqb-true}
 use Rattle.answer.specs.declared.Answer.{Answer}
 use Rattle.answer.specs.Table.{limit}
@@ -18,7 +17,6 @@ use Rattle.image.specs.Pick.{Picks}
 use Rattle.image.proofs.House.{house-reads-one, house-picks-one}
 use Rattle.demands.specs.Checks.{Checks}
 use Rattle.unit.proofs.Programs.{rooms-alike}
-use Rattle.io.specs.Counts.{Counts}
 use Rattle.feed.specs.declared.case.Case.{Case}
 use Rattle.feed.specs.declared.case.Case.the-variants.{Check, Read, Pick, Broken}
 use Rattle.feed.specs.Cases.{longest, caseOf, sizeOf, caseIn, bytesIn}
@@ -66,9 +64,6 @@ pub take-most : (n : ℕ) (xs : List ℕ) (k : ℕ) → n ≤ k → length (take
 take-most n xs k h = omega (arith, length-take n xs)
 
 -- ---- a line that fits
-
-pub counts : (n : ℕ) (xs : List ℕ) → n ≤ length xs → Counts n xs
-counts n xs h = (h, sym (length-take-le n xs h))
 
 pub put-long : (l d : List ℕ) (r : ℕ) (after : List ℕ) → length l ≤ length d → Put l d r after → r ≤ length d
 put-long l d r after h p = omega (arith, p .length′ ∙ ap (λ (b : Bool). cond b (length l) 0) (le-leb (length l) (length d) h))

@@ -13,9 +13,9 @@ use Rattle.text.specs.Bytes.{isBlank, isNameStart, isNamePart}
 use Rattle.text.specs.Lists.{span}
 use Rattle.text.proofs.Parts.{part-take}
 use Rattle.xml.specs.Auto.{At, done, root, name, tail, content, less, close, St, dead, at, after, push, next}
-use Rattle.scan.specs.Classes.{above}
+use Rattle.scan.specs.Classes.{above, Classed}
 use Rattle.scan.specs.Goes.{fate, Goes, Literal, Spelled, GoesText}
-use Rattle.scan.specs.Tags.{names, Held, Turns, GoesTag, begun, Opens, inside, marked, Steps, GoesStart, GoesClose}
+use Rattle.scan.specs.Tags.{names, Held, Turns, GoesTag, begun, Opens, inside, marked, Nested, Steps, GoesStart, GoesClose}
 use Rattle.scan.specs.declared.Went.{Went}
 use Rattle.scan.specs.declared.Went.the-variants.{On as Over, Stopped}
 use Rattle.scan.specs.declared.tag.Tag.{Tag}
@@ -24,7 +24,6 @@ use Rattle.scan.specs.declared.elements.Step.{Step}
 use Rattle.scan.specs.declared.elements.Step.the-variants.{On, Stopped as Halted}
 use Rattle.scan.proofs.Classes.{above-name}
 use Rattle.scan.proofs.Fate.{fate-end, fate-dead, fate-byte, fate-alike, fate-grow, run-within, run-behind, run-over}
-use Rattle.scan.proofs.Goes.{goes-stop}
 use Rattle.scan.proofs.Names.{names-top, names-push, held-push, held-pop, slice-run}
 
 -- ---- the automaton at a byte of a tag
@@ -216,8 +215,8 @@ module _ (s : List ℕ) (i : ℕ) (f t : List ℕ) (n : ℕ) where
     text-halt p w = goes (Stopped p) w
 
     module _ (j : ℕ) (w : q ≡ Over j) where
-      pub text-within : j ≤ length s
-      text-within = goes (Over j) w .1
+      pub text-nested : (classes : List ℕ) → Nested s i f t n classes → Nested s j f t n classes
+      text-nested classes k = record { within = goes (Over j) w .1; held = k .held; classed = k .classed }
 
       pub text-tag : (f′ t′ : List ℕ) (r : Step) → Steps s j (marked s f t n) f′ t′ r → Steps s i (inside s f t n) f′ t′ r
       text-tag f′ t′ (On e m) k = let v = goes (Over j) w in let l = v .0 in let u = k .0 in (omega arith, k .1, k .2, v .2 ∙ k .3)
@@ -242,11 +241,8 @@ module _ (s : List ℕ) (i : ℕ) (f t : List ℕ) (here : Step) (g : Steps s i 
     steps : Steps s i root f t (On e m)
     steps = subst (Steps s i root f t) w g
 
-    pub steps-within : e ≤ length s
-    steps-within = steps .1
-
-    pub steps-held : Held 16 s f t m
-    steps-held = steps .2
+    pub steps-nested : (classes : List ℕ) → Classed classes → Nested s e f t m classes
+    steps-nested classes k = record { within = steps .1; held = steps .2; classed = k }
 
     pub steps-done : m ≡ 0 → Goes s i root done (Over e)
     unfolding names

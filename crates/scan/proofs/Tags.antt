@@ -18,14 +18,13 @@ use Rattle.xml.specs.Auto.{At, name, tail, gap, attr, equals, slash, content, S
 use Rattle.xml.proofs.Basics.{blank-no-start}
 use Rattle.scan.specs.Classes.{above}
 use Rattle.scan.specs.Goes.{fate, Goes, GoesEquals}
-use Rattle.scan.specs.Tags.{names, Held, Turns, GoesEnd, GoesTag}
+use Rattle.scan.specs.Tags.{names, Held, Turns, GoesAttribute, GoesEnd, GoesTag}
 use Rattle.scan.specs.declared.Went.{Went}
 use Rattle.scan.specs.declared.Went.the-variants.{On, Stopped}
 use Rattle.scan.specs.declared.tag.Tag.{Tag}
 use Rattle.scan.specs.declared.tag.Tag.the-variants.{Open, Empty, Stopped as Halted}
 use Rattle.scan.proofs.Classes.{above-name}
 use Rattle.scan.proofs.Fate.{fate-end, fate-dead, fate-byte, fate-alike, fate-grow, run-within, run-behind, run-over, run-first}
-use Rattle.scan.proofs.Goes.{goes-stop}
 use Rattle.scan.proofs.Names.{names-push, held-push, held-none, slice-run}
 
 -- a byte that begins a name is no other
@@ -127,115 +126,127 @@ pub attributing-none : (s : List ℕ) (i : ℕ) (f t : List ℕ) → length f �
 unfolding names
 attributing-none s i f t p q h = record { on = omega arith; within = h; held = held-none 4 s f t p q; so = λ d m ns. refl }
 
-module _ (s : List ℕ) (o : ℕ) (f t : List ℕ) (n i : ℕ) (a : Attributing s o f t n i) (b : ℕ) (is : b ≡ i + span isBlank (drop i s)) where
+module _ (s f t : List ℕ) (n : ℕ) where
   abbrev ss : List (List ℕ)
   ss = names s f t n
 
-  -- over blanks, if there are some
-  gapped : i < b → (k : ℕ) (d : ℕ) (m : List ℕ) (ns : List (List ℕ)) → fate s i (tail k ss d m ns) ≡ fate s b (gap k ss d m ns)
-  gapped h k d m ns =
-      let e = run-first isBlank s i b is h in
-      let l = run-within isBlank s i b is (a .within) in
-      let j : i < length s = omega arith in
-      fate-byte s i (tail k ss d m ns) (gap k ss d m ns) j (tail-blank k ss d m ns (getD s i 0) e)
-      ∙ run-over isBlank s (i + 1) b (omega (arith, span-go isBlank s i j e)) (gap k ss d m ns) (gap-blank k ss d m ns)
+  -- ---- an attribute, from its name on
+  module _ (b : ℕ) (h : b < length s) (e : isNameStart (getD s b 0) ≡ true) where
+    -- a fifth
+    pub attribute-full : 3 < n → GoesAttribute s b n f t f t (Stopped b)
+    attribute-full z =
+        λ d m ns. ap (λ (k : ℕ). fate s b (gap k ss d m ns)) none ∙ fate-dead s b (gap zero ss d m ns) h (gap-full ss d m ns (getD s b 0) e)
+      where
+        none : 4 - n ≡ 0
+        none = omega arith
 
-  -- to the byte behind, which begins no name
-  ended : (b < length s → isNameStart (getD s b 0) ≡ false) → (k : ℕ) (d : ℕ) (m : List ℕ) (ns : List (List ℕ)) → fate s i (tail k ss d m ns) ≡ fate s b (tail k ss d m ns)
-  ended e k d m ns = go (decLt i b)
-    where
-      go : Dec (i < b) → fate s i (tail k ss d m ns) ≡ fate s b (tail k ss d m ns)
-      go (yes h) = gapped h k d m ns ∙ fate-alike s b (gap k ss d m ns) (tail k ss d m ns) refl (λ l. gap-tail k ss d m ns (getD s b 0) (e l))
-      go (no h) = let q : i ≡ b = omega (arith, is) in ap (λ (j : ℕ). fate s j (tail k ss d m ns)) q
+    module _ (few : n < 4) (c : ℕ) (is : c ≡ b + 1 + span (above 1) (drop (b + 1) s)) where
+      named : (d : ℕ) (m : List ℕ) (ns : List (List ℕ)) → fate s b (gap (4 - n) ss d m ns) ≡ fate s c (attr (slice b c s) (4 - (n + 1)) ss d m ns)
+      named d m ns =
+          ap (λ (k : ℕ). fate s b (gap k ss d m ns)) one-less
+          ∙ fate-byte s b (gap (suc (4 - (n + 1))) ss d m ns) (attr (getD s b 0 ∷ []) (4 - (n + 1)) ss d m ns) h (gap-name (4 - (n + 1)) ss d m ns (getD s b 0) e)
+          ∙ fate-grow (above 1) (λ l. attr l (4 - (n + 1)) ss d m ns) (attr-grow (4 - (n + 1)) ss d m ns) s (getD s b 0 ∷ []) (b + 1)
+          ∙ ap₂ (λ (j : ℕ) (l : List ℕ). fate s j (attr l (4 - (n + 1)) ss d m ns)) (sym is) (slice-run (above 1) s b c h is)
+        where
+          one-less : 4 - n ≡ suc (4 - (n + 1))
+          one-less = omega arith
 
-  pub tag-cut : length s ≤ b → GoesTag s o (Halted b)
-  tag-cut h =
-      λ d m ns. a .so d m ns ∙ ended (λ l. absurd (omega arith)) (4 - n) d m ns ∙ fate-end s b (tail (4 - n) ss d m ns) h refl
+      within : c ≤ length s
+      within = run-within (above 1) s (b + 1) c is (omega arith)
 
-  module _ (h : b < length s) where
-    -- no name: `>` or `/>`
-    pub tag-ends : isNameStart (getD s b 0) ≡ false → (r : Tag) → GoesEnd s b r → GoesTag s o r
-    tag-ends e (Open j) g =
-        λ d m ns. let w = g (4 - n) ss d m ns in let l = w .0 in
-        (omega (arith, a .on, is), w .1, a .so d m ns ∙ ended (λ _. e) (4 - n) d m ns ∙ w .2)
-    tag-ends e (Empty j) g =
-        λ d m ns. let w = g (4 - n) ss d m ns in let l = w .0 in
-        (omega (arith, a .on, is), w .1, a .so d m ns ∙ ended (λ _. e) (4 - n) d m ns ∙ w .2)
-    tag-ends e (Halted j) g = λ d m ns. a .so d m ns ∙ ended (λ _. e) (4 - n) d m ns ∙ g (4 - n) ss d m ns
+      behind : c < length s → above 1 (getD s c 0) ≡ false
+      behind l = run-behind (above 1) s (b + 1) c is (omega arith) l
 
-    module _ (e : isNameStart (getD s b 0) ≡ true) where
+      -- a name that was seen
+      pub attribute-seen : member (slice b c s) ss ≡ true → GoesAttribute s b n f t f t (Stopped c)
+      attribute-seen g = λ d m ns. named d m ns ∙ go d m ns (decLt c (length s))
+        where
+          go : (d : ℕ) (m : List ℕ) (ns : List (List ℕ)) → Dec (c < length s) → fate s c (attr (slice b c s) (4 - (n + 1)) ss d m ns) ≡ (false, c)
+          go d m ns (yes l) = fate-dead s c (attr (slice b c s) (4 - (n + 1)) ss d m ns) l (attr-seen (4 - (n + 1)) ss d m ns (slice b c s) (getD s c 0) (behind l) g)
+          go d m ns (no l) = fate-end s c (attr (slice b c s) (4 - (n + 1)) ss d m ns) (omega arith) refl
+
+      module _ (held : Held 4 s f t n) (g : member (slice b c s) ss ≡ false) where
+        valued : (d : ℕ) (m : List ℕ) (ns : List (List ℕ)) → fate s b (gap (4 - n) ss d m ns) ≡ fate s c (equals (4 - (n + 1)) (slice b c s ∷ ss) d m ns)
+        valued d m ns =
+            named d m ns ∙ fate-alike s c (attr (slice b c s) (4 - (n + 1)) ss d m ns) (equals (4 - (n + 1)) (slice b c s ∷ ss) d m ns) refl
+            (λ l. attr-fresh (4 - (n + 1)) ss d m ns (slice b c s) (getD s c 0) (behind l) g)
+
+        -- a new name, and what comes of the value
+        pub attribute-new : (r : Went) → GoesEquals s c r → GoesAttribute s b n f t (set f n b) (set t n c) r
+        attribute-new (On j) v =
+            let y = v 0 [] 0 [] [] in
+            let l = y .0 in (
+              omega (arith, is),
+              y .1,
+              held-push 4 s f t n b c held few (omega (arith, is)) within,
+              λ d m ns. valued d m ns ∙ v (4 - (n + 1)) (slice b c s ∷ ss) d m ns .2
+                  ∙ ap (λ (l : List (List ℕ)). fate s j (tail (4 - (n + 1)) l d m ns)) (sym (names-push 4 s f t n b c held few)),
+            )
+        attribute-new (Stopped p) v = λ d m ns. valued d m ns ∙ v (4 - (n + 1)) (slice b c s ∷ ss) d m ns
+
+  -- ---- a turn of the loop
+  module _ (o i : ℕ) (a : Attributing s o f t n i) (b : ℕ) (is : b ≡ i + span isBlank (drop i s)) where
+    -- over blanks, if there are some
+    gapped : i < b → (k : ℕ) (d : ℕ) (m : List ℕ) (ns : List (List ℕ)) → fate s i (tail k ss d m ns) ≡ fate s b (gap k ss d m ns)
+    gapped h k d m ns =
+        let e = run-first isBlank s i b is h in
+        let l = run-within isBlank s i b is (a .within) in
+        let j : i < length s = omega arith in
+        fate-byte s i (tail k ss d m ns) (gap k ss d m ns) j (tail-blank k ss d m ns (getD s i 0) e)
+        ∙ run-over isBlank s (i + 1) b (omega (arith, span-go isBlank s i j e)) (gap k ss d m ns) (gap-blank k ss d m ns)
+
+    -- to the byte behind, which begins no name
+    ended : (b < length s → isNameStart (getD s b 0) ≡ false) → (k : ℕ) (d : ℕ) (m : List ℕ) (ns : List (List ℕ)) → fate s i (tail k ss d m ns) ≡ fate s b (tail k ss d m ns)
+    ended e k d m ns = go (decLt i b)
+      where
+        go : Dec (i < b) → fate s i (tail k ss d m ns) ≡ fate s b (tail k ss d m ns)
+        go (yes h) = gapped h k d m ns ∙ fate-alike s b (gap k ss d m ns) (tail k ss d m ns) refl (λ l. gap-tail k ss d m ns (getD s b 0) (e l))
+        go (no h) = let q : i ≡ b = omega (arith, is) in ap (λ (j : ℕ). fate s j (tail k ss d m ns)) q
+
+    pub tag-cut : length s ≤ b → GoesTag s o (Halted b)
+    tag-cut h =
+        λ d m ns. a .so d m ns ∙ ended (λ l. absurd (omega arith)) (4 - n) d m ns ∙ fate-end s b (tail (4 - n) ss d m ns) h refl
+
+    module _ (h : b < length s) where
+      -- no name: `>` or `/>`
+      pub tag-ends : isNameStart (getD s b 0) ≡ false → (r : Tag) → GoesEnd s b r → GoesTag s o r
+      tag-ends e (Open j) g =
+          λ d m ns. let w = g (4 - n) ss d m ns in let l = w .0 in
+          (omega (arith, a .on, is), w .1, a .so d m ns ∙ ended (λ _. e) (4 - n) d m ns ∙ w .2)
+      tag-ends e (Empty j) g =
+          λ d m ns. let w = g (4 - n) ss d m ns in let l = w .0 in
+          (omega (arith, a .on, is), w .1, a .so d m ns ∙ ended (λ _. e) (4 - n) d m ns ∙ w .2)
+      tag-ends e (Halted j) g = λ d m ns. a .so d m ns ∙ ended (λ _. e) (4 - n) d m ns ∙ g (4 - n) ss d m ns
+
       -- no blank before a name
-      pub tag-joined : b ≡ i → GoesTag s o (Halted b)
+      pub tag-joined : isNameStart (getD s b 0) ≡ true → b ≡ i → GoesTag s o (Halted b)
       unfolding isNameStart
-      tag-joined q =
+      tag-joined e q =
           λ d m ns. a .so d m ns ∙ ap (λ (j : ℕ). fate s j (tail (4 - n) ss d m ns)) (sym q)
           ∙ fate-dead s b (tail (4 - n) ss d m ns) h
           (tail-dead (4 - n) ss d m ns (getD s b 0) (run-behind isBlank s i b is (a .within) h) (start-other 62 (getD s b 0) refl e) (start-other 47 (getD s b 0) refl e))
 
-      module _ (q : b ≢ i) where
-        gapped′ : (k : ℕ) (d : ℕ) (m : List ℕ) (ns : List (List ℕ)) → fate s i (tail k ss d m ns) ≡ fate s b (gap k ss d m ns)
-        gapped′ = gapped (omega (arith, is))
+    -- blanks, and an attribute
+    module _ (q : b ≢ i) (f′ t′ : List ℕ) (r : Went) (v : GoesAttribute s b n f t f′ t′ r) where
+      reached : (d : ℕ) (m : List ℕ) (ns : List (List ℕ)) → fate s o (tail 4 [] d m ns) ≡ fate s b (gap (4 - n) ss d m ns)
+      reached d m ns = a .so d m ns ∙ gapped (omega (arith, is)) (4 - n) d m ns
 
-        -- a fifth attribute
-        pub tag-full : 3 < n → GoesTag s o (Halted b)
-        tag-full z =
-            λ d m ns. a .so d m ns ∙ gapped′ (4 - n) d m ns ∙ ap (λ (k : ℕ). fate s b (gap k ss d m ns)) none
-            ∙ fate-dead s b (gap zero ss d m ns) h (gap-full ss d m ns (getD s b 0) e)
-          where
-            none : 4 - n ≡ 0
-            none = omega arith
+      pub tag-stop : (p : ℕ) → r ≡ Stopped p → GoesTag s o (Halted p)
+      tag-stop p w =
+          let u : GoesAttribute s b n f t f′ t′ (Stopped p) = subst (GoesAttribute s b n f t f′ t′) w v in
+          λ d m ns. reached d m ns ∙ u d m ns
 
-        module _ (few : n < 4) (c : ℕ) (is′ : c ≡ b + 1 + span (above 1) (drop (b + 1) s)) where
-          named : (d : ℕ) (m : List ℕ) (ns : List (List ℕ)) → fate s o (tail 4 [] d m ns) ≡ fate s c (attr (slice b c s) (4 - (n + 1)) ss d m ns)
-          named d m ns =
-              a .so d m ns ∙ gapped′ (4 - n) d m ns ∙ ap (λ (k : ℕ). fate s b (gap k ss d m ns)) one-less
-              ∙ fate-byte s b (gap (suc (4 - (n + 1))) ss d m ns) (attr (getD s b 0 ∷ []) (4 - (n + 1)) ss d m ns) h (gap-name (4 - (n + 1)) ss d m ns (getD s b 0) e)
-              ∙ fate-grow (above 1) (λ l. attr l (4 - (n + 1)) ss d m ns) (attr-grow (4 - (n + 1)) ss d m ns) s (getD s b 0 ∷ []) (b + 1)
-              ∙ ap₂ (λ (j : ℕ) (l : List ℕ). fate s j (attr l (4 - (n + 1)) ss d m ns)) (sym is′) (slice-run (above 1) s b c h is′)
-            where
-              one-less : 4 - n ≡ suc (4 - (n + 1))
-              one-less = omega arith
+      module _ (j : ℕ) (w : r ≡ On j) where
+        over : GoesAttribute s b n f t f′ t′ (On j)
+        over = subst (GoesAttribute s b n f t f′ t′) w v
 
-          within : c ≤ length s
-          within = run-within (above 1) s (b + 1) c is′ (omega arith)
+        pub attributing-on : Attributing s o f′ t′ (n + 1) j
+        attributing-on =
+            let l = over .0 in
+            record { on = omega (arith, a .on, is); within = over .1; held = over .2; so = λ d m ns. reached d m ns ∙ over .3 d m ns }
 
-          behind : c < length s → above 1 (getD s c 0) ≡ false
-          behind l = run-behind (above 1) s (b + 1) c is′ (omega arith) l
-
-          -- a name that was seen
-          pub tag-seen : member (slice b c s) ss ≡ true → GoesTag s o (Halted c)
-          tag-seen g = λ d m ns. named d m ns ∙ go d m ns (decLt c (length s))
-            where
-              go : (d : ℕ) (m : List ℕ) (ns : List (List ℕ)) → Dec (c < length s) → fate s c (attr (slice b c s) (4 - (n + 1)) ss d m ns) ≡ (false, c)
-              go d m ns (yes l) = fate-dead s c (attr (slice b c s) (4 - (n + 1)) ss d m ns) l (attr-seen (4 - (n + 1)) ss d m ns (slice b c s) (getD s c 0) (behind l) g)
-              go d m ns (no l) = fate-end s c (attr (slice b c s) (4 - (n + 1)) ss d m ns) (omega arith) refl
-
-          module _ (g : member (slice b c s) ss ≡ false) (r : Went) (v : GoesEquals s c r) where
-            valued : (d : ℕ) (m : List ℕ) (ns : List (List ℕ)) → fate s o (tail 4 [] d m ns) ≡ fate s c (equals (4 - (n + 1)) (slice b c s ∷ ss) d m ns)
-            valued d m ns =
-                named d m ns ∙ fate-alike s c (attr (slice b c s) (4 - (n + 1)) ss d m ns) (equals (4 - (n + 1)) (slice b c s ∷ ss) d m ns) refl
-                (λ l. attr-fresh (4 - (n + 1)) ss d m ns (slice b c s) (getD s c 0) (behind l) g)
-
-            pub tag-stop : (p : ℕ) → r ≡ Stopped p → GoesTag s o (Halted p)
-            tag-stop p w =
-                λ d m ns. valued d m ns
-                ∙ goes-stop s c (equals (4 - (n + 1)) (slice b c s ∷ ss) d m ns) (tail (4 - (n + 1)) (slice b c s ∷ ss) d m ns) r p (v (4 - (n + 1)) (slice b c s ∷ ss) d m ns) w
-
-            pub equals-on : (j : ℕ) → r ≡ On j → (c < j) × (j ≤ length s)
-            equals-on j w = let u : GoesEquals s c (On j) = subst (GoesEquals s c) w v in let y = u 0 [] 0 [] [] in (y .0, y .1)
-
-            pub attributing-on : (j : ℕ) → r ≡ On j → Attributing s o (set f n b) (set t n c) (n + 1) j
-            attributing-on j w =
-                let u : GoesEquals s c (On j) = subst (GoesEquals s c) w v in
-                let y = equals-on j w in
-                let l = y .0 in
-                record {
-                  on = omega (arith, a .on, is, is′);
-                  within = y .1;
-                  held = held-push 4 s f t n b c (a .held) few (omega arith) within;
-                  so = λ d m ns. valued d m ns ∙ u (4 - (n + 1)) (slice b c s ∷ ss) d m ns .2
-                      ∙ ap (λ (l : List (List ℕ)). fate s j (tail (4 - (n + 1)) l d m ns)) (sym (names-push 4 s f t n b c (a .held) few));
-                }
+        pub attributing-less : length s - j < length s - i
+        attributing-less = let l = over .0 in let k = over .1 in omega (arith, is)
 
 -- ---- mostly `>`
 

@@ -2,13 +2,15 @@
 use mathlib.Core.Path.{_≡_}
 use mathlib.Core.Bool.{Bool, false, cond}
 use mathlib.Core.List.{List, [], _∷_}
-use Prim.Native.Nat.{ℕ, zero, suc, _-_, _≤_, _<_}
+use Prim.Native.Nat.{ℕ, zero, suc, _+_, _-_, _≤_, _<_}
 use lib.ListN.{length, getD}
 use lib.Seq.{slice}
 use Rattle.text.specs.Bytes.{isNameStart}
-use Rattle.xml.specs.Auto.{At, name, tail, content, less, close, St, dead, at, after, next}
+use Rattle.xml.specs.Auto.{At, name, tail, gap, content, less, close, St, dead, at, after, next}
+use Rattle.scan.specs.Classes.{Classed}
 use Rattle.scan.specs.Goes.{mayEnd, fate, Goes}
 use Rattle.scan.specs.declared.Went.{Went}
+use Rattle.scan.specs.declared.Went.the-variants.{On as Over, Stopped as Cut}
 use Rattle.scan.specs.declared.tag.Tag.{Tag}
 use Rattle.scan.specs.declared.tag.Tag.the-variants.{Open, Empty, Stopped}
 use Rattle.scan.specs.declared.elements.Step.{Step}
@@ -32,6 +34,15 @@ abbrev pub Turns : List ℕ → ℕ → At → At → At → Tag → Type 0
 Turns s i a b c (Open e) = (i < e) × (e ≤ length s) × (fate s i a ≡ fate s e b)
 Turns s i a b c (Empty e) = (i < e) × (e ≤ length s) × (fate s i a ≡ fate s e c)
 Turns s i a b c (Stopped n) = fate s i a ≡ (false, n)
+
+-- an attribute behind blanks and n others: its name becomes the last of those in the tables
+abbrev pub GoesAttribute : List ℕ → ℕ → ℕ → List ℕ → List ℕ → List ℕ → List ℕ → Went → Type 0
+GoesAttribute s i n from to from′ to′ (Over e) =
+    (i < e) × (e ≤ length s) × Held 4 s from′ to′ (n + 1)
+    × ((d : ℕ) (m : List ℕ) (ns : List (List ℕ))
+    → fate s i (gap (4 - n) (names s from to n) d m ns) ≡ fate s e (tail (4 - (n + 1)) (names s from′ to′ (n + 1)) d m ns))
+GoesAttribute s i n from to from′ to′ (Cut p) =
+    (d : ℕ) (m : List ℕ) (ns : List (List ℕ)) → fate s i (gap (4 - n) (names s from to n) d m ns) ≡ (false, p)
 
 abbrev pub GoesEnd : List ℕ → ℕ → Tag → Type 0
 GoesEnd s i r =
@@ -57,6 +68,12 @@ inside s from to n = after (16 - n) (names s from to n)
 -- the state behind a `<` in the last of them
 abbrev pub marked : List ℕ → List ℕ → List ℕ → ℕ → At
 marked s from to n = less (16 - n) (slice (getD from (n - 1) 0) (getD to (n - 1) 0) s) (names s from to (n - 1))
+
+-- what a function over a tag may rely on: a place of the text, n open elements around it, and the table of classes
+pub record Nested (s : List ℕ) (i : ℕ) (from to : List ℕ) (n : ℕ) (classes : List ℕ) : Type 0 where
+  pub within : i ≤ length s
+  pub held : Held 16 s from to n
+  pub classed : Classed classes
 
 abbrev pub Steps : List ℕ → ℕ → At → List ℕ → List ℕ → Step → Type 0
 Steps s i a from to (On e m) = (i < e) × (e ≤ length s) × Held 16 s from to m × (fate s i a ≡ fate s e (inside s from to m))

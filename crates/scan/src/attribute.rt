@@ -1,15 +1,19 @@
-// An attribute behind its name, and the names seen before.
+// An attribute, whose name is none of those before it.
 use crate::Went;
 use crate::piece::piece;
+use crate::run::run_end;
 use text::part::same_part;
 use text::span::blanks_end;
 ghost use mathlib.Core.Path.{_≡_};
 ghost use Prim.Native.Nat.{_≤_, _<_};
-ghost use lib.ListN.{length};
+ghost use lib.ListN.{length, getD};
 ghost use lib.Seq.{slice};
+ghost use mathlib.Core.Bool.{true};
+ghost use Rattle.text.specs.Bytes.{isNameStart};
 ghost use Rattle.xml.specs.Auto.{member};
+ghost use Rattle.scan.specs.Classes.{Classed};
 ghost use Rattle.scan.specs.Goes.{Marked, GoesValue, GoesEquals};
-ghost use Rattle.scan.specs.Tags.{names};
+ghost use Rattle.scan.specs.Tags.{names, Held, GoesAttribute};
 
 // Over a value and the quote that ends it.
 fn value(s: &[u8], at: usize, quote: u8) -> Went
@@ -30,7 +34,7 @@ fn value(s: &[u8], at: usize, quote: u8) -> Went
 }
 
 // Over blanks, `=`, blanks, and the quoted value.
-pub(crate) fn equals(s: &[u8], at: usize) -> Went
+fn equals(s: &[u8], at: usize) -> Went
     requires { ⌜ at ≤ length (now s) ⌝ }
     ensures { λ r. ⌜ GoesEquals (now (s .entry)) at r ⌝ }
 {
@@ -56,14 +60,7 @@ pub(crate) fn equals(s: &[u8], at: usize) -> Went
 }
 
 // Whether the name from a to e is one of the first n, which stand from from[k] to to[k].
-pub(crate) fn seen(
-    s: &[u8],
-    from: &[usize; 4],
-    to: &[usize; 4],
-    n: usize,
-    a: usize,
-    e: usize,
-) -> bool
+fn seen(s: &[u8], from: &[usize; 4], to: &[usize; 4], n: usize, a: usize, e: usize) -> bool
     requires { ⌜ n ≤ 4 ⌝ }
     ensures { λ r. ⌜ r ≡ member (slice a e (now (s .entry))) (names (now (s .entry)) (now (from .entry)) (now (to .entry)) n) ⌝ }
 {
@@ -77,4 +74,33 @@ pub(crate) fn seen(
         }
     }
     false
+}
+
+// Over an attribute that begins at a name, behind n others: "At most four attributes", "all names different".
+pub(crate) fn attribute(
+    s: &[u8],
+    at: usize,
+    from: &mut [usize; 4],
+    to: &mut [usize; 4],
+    n: usize,
+    classes: &[u8; 256],
+) -> Went
+    requires { ⌜
+        (at < length (now s)) × (isNameStart (getD (now s) at 0) ≡ true) × Held 4 (now s) (now from) (now to) n
+        × Classed (now classes)
+        ⌝ }
+    ensures { λ r. ⌜
+        GoesAttribute (now (s .entry)) at n (now (from .entry)) (now (to .entry)) (now (from .exit)) (now (to .exit)) r
+        ⌝ }
+{
+    if 3 < n {
+        return Went::Stopped(at);
+    }
+    let e = run_end(s, at + 1, classes, 1);
+    if seen(s, from, to, n, at, e) {
+        return Went::Stopped(e);
+    }
+    from[n] = at;
+    to[n] = e;
+    equals(s, e)
 }

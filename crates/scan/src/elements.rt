@@ -12,7 +12,7 @@ ghost use lib.ListN.{length};
 ghost use Rattle.xml.specs.Auto.{root, done};
 ghost use Rattle.scan.specs.Classes.{Classed};
 ghost use Rattle.scan.specs.Goes.{Goes};
-ghost use Rattle.scan.specs.Tags.{Held, inside, marked, Steps, GoesStart, GoesClose};
+ghost use Rattle.scan.specs.Tags.{inside, marked, Nested, Steps, GoesStart, GoesClose};
 
 // A place, and how many elements are open there.
 enum Step {
@@ -29,7 +29,7 @@ fn start_tag(
     n: usize,
     classes: &[u8; 256],
 ) -> Step
-    requires { ⌜ (at ≤ length (now s)) × Held 16 (now s) (now from) (now to) n × Classed (now classes) ⌝ }
+    requires { ⌜ Nested (now s) at (now from) (now to) n (now classes) ⌝ }
     ensures { λ r. ⌜
         GoesStart (now (s .entry)) at n (now (from .entry)) (now (to .entry)) (now (from .exit)) (now (to .exit)) r
         ⌝ }
@@ -89,7 +89,7 @@ fn any_tag(
     n: usize,
     classes: &[u8; 256],
 ) -> Step
-    requires { ⌜ (at ≤ length (now s)) × (0 < n) × Held 16 (now s) (now from) (now to) n × Classed (now classes) ⌝ }
+    requires { ⌜ (0 < n) × Nested (now s) at (now from) (now to) n (now classes) ⌝ }
     ensures { λ r. ⌜
         Steps (now (s .entry)) at (marked (now (s .entry)) (now (from .entry)) (now (to .entry)) n) (now (from .exit))
         (now (to .exit)) r
@@ -119,7 +119,7 @@ fn advance(
     n: usize,
     classes: &[u8; 256],
 ) -> Step
-    requires { ⌜ (at ≤ length (now s)) × (0 < n) × Held 16 (now s) (now from) (now to) n × Classed (now classes) ⌝ }
+    requires { ⌜ (0 < n) × Nested (now s) at (now from) (now to) n (now classes) ⌝ }
     ensures { λ r. ⌜
         Steps (now (s .entry)) at (inside (now (s .entry)) (now (from .entry)) (now (to .entry)) n) (now (from .exit))
         (now (to .exit)) r

@@ -6,7 +6,7 @@ use run::CLASSES;
 use text::span::blanks_end;
 ghost use Rattle.scan.specs.Right.{Right};
 
-mod attribute; // attribute.rt: an attribute's value, and the names seen before
+mod attribute; // attribute.rt: an attribute, whose name is none of those before it
 mod content; // content.rt: text between tags
 mod elements; // elements.rt: elements within elements
 mod piece; // piece.rt: a character or an entity

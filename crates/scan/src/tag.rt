@@ -1,8 +1,6 @@
 // What follows the name in a start tag.
 use crate::Went;
-use crate::attribute::equals;
-use crate::attribute::seen;
-use crate::run::run_end;
+use crate::attribute::attribute;
 use text::class::is_name_start;
 use text::span::blanks_end;
 ghost use mathlib.Core.Path.{_≡_};
@@ -42,7 +40,7 @@ fn tag_end(s: &[u8], at: usize) -> Tag
     Tag::Stopped(i)
 }
 
-// Over attributes, blanks, and `>` or `/>`: "At most four attributes, each after one or more blanks, all names different".
+// Over attributes, "each after one or more blanks", then blanks, and `>` or `/>`.
 fn attributes(s: &[u8], at: usize, classes: &[u8; 256]) -> Tag
     requires { ⌜ (at ≤ length (now s)) × Classed (now classes) ⌝ }
     ensures { λ r. ⌜ GoesTag (now (s .entry)) at r ⌝ }
@@ -62,19 +60,12 @@ fn attributes(s: &[u8], at: usize, classes: &[u8; 256]) -> Tag
         if b == i {
             return Tag::Stopped(b);
         }
-        if 3 < n {
-            return Tag::Stopped(b);
-        }
-        let e = run_end(s, b + 1, classes, 1);
-        if seen(s, &from, &to, n, b, e) {
-            return Tag::Stopped(e);
-        }
-        from[n] = b;
-        to[n] = e;
-        n += 1;
-        match equals(s, e) {
+        match attribute(s, b, &mut from, &mut to, n, classes) {
             Went::Stopped(p) => return Tag::Stopped(p),
-            Went::On(j) => i = j,
+            Went::On(j) => {
+                i = j;
+                n += 1;
+            }
         }
     }
 }

@@ -2,46 +2,25 @@
 use mathlib.Core.Path.{_≡_, refl, sym, _∙_}
 use mathlib.Core.Bool.{true}
 use mathlib.Core.List.{List, [], _∷_}
-use Prim.Native.Nat.{ℕ, _≤_, _<_}
+use Prim.Native.Nat.{ℕ}
 use native.Mathlib.Omega.{arith}
-use native.Mathlib.Decide.{decLt}
 use lib.Dec.{leb, ltb}
 use lib.ListN.{length, getD, take, drop, take-append-drop, length-drop}
 use lib.Seq.{take-all, drop-cons, drop-drop}
 use borrow.Author.Tests.{leb-true, ltb-true, lt-ltb, le-leb}
-use Rattle.text.specs.Bytes.{inRange}
 use Rattle.text.specs.Lists.{Each}
 use Rattle.text.specs.Numbers.{bigEndian, number}
-use Rattle.text.proofs.Classes.{and-is, in-range, in-range-is}
+use Rattle.text.proofs.Classes.{and-is}
 use Rattle.text.proofs.Numbers.{Byte, number-big, big-bytes}
 use Rattle.list.specs.Listing.{date, dtm}
-use Rattle.types.specs.Day.{Real, monthDays}
+use Rattle.types.specs.Day.{Real}
 use Rattle.types.specs.Moment.{Parts}
 use Rattle.types.specs.Value.{Value, day, moment, IsValue, bytes}
 use Rattle.types.proofs.Classes.{each-append}
 use Rattle.types.proofs.Dates.{month-most}
-use Rattle.types.proofs.Months.{month-none}
-use Rattle.stored.specs.Judges.{isReal, isDay, isMoment}
+use Rattle.types.proofs.Months.{real-is, real-of}
+use Rattle.stored.specs.Judges.{isDay, isMoment}
 use Rattle.stored.proofs.Exactly.{Stored, Passes, Exact, number-at}
-
--- ---- real days
-
-pub real-to : (y m d : ℕ) → isReal y m d ≡ true → Real y m d
-unfolding isReal
-real-to y m d e =
-    let w = and-is (inRange 1 9999 y) (inRange 1 (monthDays y m) d) e in
-    let p = in-range-is 1 9999 y (w .0) in
-    let q = in-range-is 1 (monthDays y m) d (w .1) in
-    record { year = p; month = months (q .0) (q .1) (decLt 0 m) (decLt m 13); day = q }
-  where
-    months : 1 ≤ d → d ≤ monthDays y m → Dec (0 < m) → Dec (m < 13) → (1 ≤ m) × (m ≤ 12)
-    months a b (yes h) (yes k) = (h, omega arith)
-    months a b (no h) k = absurd (omega (arith, month-none y m (λ i j. h i)))
-    months a b (yes h) (no k) = absurd (omega (arith, month-none y m (omega arith)))
-
-pub real-from : (y m d : ℕ) → Real y m d → isReal y m d ≡ true
-unfolding isReal
-real-from y m d r = rw (in-range 1 9999 y (r .year .0) (r .year .1)) (in-range 1 (monthDays y m) d (r .day .0) (r .day .1))
 
 -- ---- DATE
 
@@ -57,7 +36,7 @@ day-same u b e =
 day-sound : (u : List ℕ) → Each Byte u → length u ≡ 4 → isDay u ≡ true → Stored date u
 unfolding isDay
 day-sound u b e j =
-    record { value = day (number (take 2 u)) (getD u 2 0) (getD u 3 0); is = IsValue.dated (real-to (number (take 2 u)) (getD u 2 0) (getD u 3 0) j); same = day-same u b e }
+    record { value = day (number (take 2 u)) (getD u 2 0) (getD u 3 0); is = IsValue.dated (real-is (number (take 2 u)) (getD u 2 0) (getD u 3 0) j); same = day-same u b e }
 
 day-small : (y m d : ℕ) → Real y m d → Each Byte (bytes (day y m d))
 day-small y m d r = each-append Byte (bigEndian 2 y) (m ∷ d ∷ []) (big-bytes 2 y) (omega (arith, r .month .1), (omega (arith, r .day .1, month-most y m), tt))
@@ -66,7 +45,7 @@ day-complete : (v : Value) → IsValue date v → Passes 0 (λ _. 4) isDay v
 unfolding isDay bigEndian
 day-complete v (IsValue.dated {y} {m} {d} r) =
     record {
-      good = rw (number-big 2 y (omega (arith, r .year .1))) (real-from y m d r);
+      good = rw (number-big 2 y (omega (arith, r .year .1))) (real-of y m d r);
       long = λ t. refl;
       small = day-small y m d r;
       some = omega arith;
@@ -92,7 +71,7 @@ moment-parts u j =
     let s = and-is (leb (getD u 6 0) 59) _ (m .1) in
     let f = and-is (ltb (number (take 4 (drop 7 u))) 1000000) _ (s .1) in
     record {
-      day = real-to (number (take 2 u)) (getD u 2 0) (getD u 3 0) (d .0);
+      day = real-is (number (take 2 u)) (getD u 2 0) (getD u 3 0) (d .0);
       clock = record { hour = leb-true (getD u 4 0) 23 (h .0); minute = leb-true (getD u 5 0) 59 (m .0); second = leb-true (getD u 6 0) 59 (s .0) };
       fraction = ltb-true (number (take 4 (drop 7 u))) 1000000 (f .0);
       zone = leb-true (number (take 2 (drop 11 u))) 1680 (f .1);
@@ -107,7 +86,7 @@ moment-complete : (v : Value) → IsValue dtm v → Passes 0 (λ _. 13) isMoment
 unfolding isMoment isDay bigEndian
 moment-complete v (IsValue.timed {y = y} {mo = mo} {d = d} {h = h} {mi = mi} {s = s} {u = u} {z = z} p) =
     record {
-      good = rw (number-big 2 y (omega (arith, p .day .year .1)), number-big 4 u (omega (arith, p .fraction)), number-big 2 z (omega (arith, p .zone)), real-from y mo d (p .day), le-leb h 23 (p .clock .hour), le-leb mi 59 (p .clock .minute), le-leb s 59 (p .clock .second), lt-ltb u 1000000 (p .fraction), le-leb z 1680 (p .zone));
+      good = rw (number-big 2 y (omega (arith, p .day .year .1)), number-big 4 u (omega (arith, p .fraction)), number-big 2 z (omega (arith, p .zone)), real-of y mo d (p .day), le-leb h 23 (p .clock .hour), le-leb mi 59 (p .clock .minute), le-leb s 59 (p .clock .second), lt-ltb u 1000000 (p .fraction), le-leb z 1680 (p .zone));
       long = λ t. refl;
       small = moment-small y mo d h mi s u z p;
       some = omega arith;

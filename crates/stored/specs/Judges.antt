@@ -8,7 +8,7 @@ use Rattle.text.specs.Bytes.{inRange, isCapital, isDigit}
 use Rattle.text.specs.Numbers.{number}
 use Rattle.types.specs.Text.{isTxt, isRef, notSpace}
 use Rattle.types.specs.Code.{isLetterOrDigit}
-use Rattle.types.specs.Day.{monthDays}
+unfoldable pub use Rattle.types.specs.Day.{isReal}
 use Rattle.stored.specs.Tests.{every, some, apart}
 use Rattle.stored.specs.Chars.{chars}
 
@@ -50,9 +50,6 @@ isNatural b = ltb (number (take 8 b)) (10 ^ 18)
 unfoldable pub isAmount : List ℕ → Bool
 isAmount b =
     isCurrency (take 3 b) && (leb (getD b 3 0) 5 && (ltb (number (take 8 (drop 4 b))) (10 ^ 18) && (eqb (getD b 3 0) 0 || not (eqb (number (take 8 (drop 4 b)) % 10) 0))))
-
-unfoldable pub isReal : ℕ → ℕ → ℕ → Bool
-isReal y m d = inRange 1 9999 y && inRange 1 (monthDays y m) d
 
 unfoldable pub isDay : List ℕ → Bool
 isDay b = isReal (number (take 2 b)) (getD b 2 0) (getD b 3 0)

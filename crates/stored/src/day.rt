@@ -4,7 +4,8 @@ use crate::plain::byte;
 use text::number::get16;
 use types::day::month_days;
 ghost use mathlib.Core.Path.{_≡_};
-ghost use Rattle.stored.specs.Judges.{isReal, isDay};
+ghost use Rattle.types.specs.Day.{isReal};
+ghost use Rattle.stored.specs.Judges.{isDay};
 
 fn is_real(y: u16, m: u8, d: u8) -> bool
     ensures { λ r. ⌜ r ≡ isReal y m d ⌝ }

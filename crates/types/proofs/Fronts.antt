@@ -335,7 +335,7 @@ module _ (t : List ℕ) (y mo d h mi s : ℕ) (a : Two (drop 11 t) h) (b : Two (
         (drop-drop 2 14 t ∙ r .sound refl ∙ ap (λ (v : List ℕ). 58 ∷ v) (drop-drop 1 16 t ∙ e .sound (omega (arith, c .second)) ∙ ap (pair s)
         (drop-drop 2 17 t))))))
 
-    pub clock-on : (u z : ℕ) (rest : List ℕ) → FractionAt (drop 19 t) u rest → ZoneAt rest z → z ≤ 1680 → ClockAt t y mo d (J.Moment y mo d h mi s u z)
+    pub clock-on : (u z : ℕ) (rest : List ℕ) → FractionAt (drop 19 t) u rest → ZoneAt rest z → z ≤ 1680 → ClockAt t y mo d (J.Moment (record { year = y; month = mo; day = d; hour = h; minute = mi; second = s; micros = u; offset = z }))
     clock-on u z rest f (ZoneAt.on x ok is off) k =
         ClockAt.on h mi s u z
         (record { clock = c; fraction = f .fraction; zone = x; good = (f .good, ok); is = clock-text ∙ ap (λ (v : List ℕ). 84 ∷ clockText h mi s v) (f .is ∙ ap (fractionText (f .fraction)) is); parts = (f .count, off) }) refl

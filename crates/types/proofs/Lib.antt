@@ -25,7 +25,7 @@ pub mod Loops
 pub mod Codes
 -- numbers, digit by digit
 pub mod Naturals
--- the lengths of months
+-- the lengths of months, and the test of a real day
 pub mod Months
 -- digits at the front of a text, days, moments, as the code reads them
 pub mod Fronts

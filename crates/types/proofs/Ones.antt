@@ -35,7 +35,7 @@ meaning (truth b) = J.Truth b
 meaning (natural n) = J.Natural n
 meaning (amount w k c) = J.Amount c k
 meaning (day y m d) = J.Day y m d
-meaning (moment y mo d h mi s u z) = J.Moment y mo d h mi s u z
+meaning (moment y mo d h mi s u z) = J.Moment (record { year = y; month = mo; day = d; hour = h; minute = mi; second = s; micros = u; offset = z })
 
 means-one : (r : Judged) (w cs : List ℕ) (v : Value) → Means w cs r v → r ≡ meaning v
 means-one J.Refused w cs v m = absurd m
@@ -44,7 +44,7 @@ means-one (J.Truth b) w cs v m = sym (ap meaning m)
 means-one (J.Natural n) w cs v m = sym (ap meaning m)
 means-one (J.Amount c k) w cs v m = sym (ap meaning m)
 means-one (J.Day y mo d) w cs v m = sym (ap meaning m)
-means-one (J.Moment y mo d h mi s u z) w cs v m = sym (ap meaning m)
+means-one (J.Moment p) w cs v m = sym (ap meaning m)
 
 pub right-one : (k : Leaf) (w s : List ℕ) (q r : Judged) → Apart k → Right k w s q → Right k w s r → q ≡ r
 right-one k w s q r d (accepted cs v sp st m) (accepted cs′ v′ sp′ st′ m′) =

@@ -38,7 +38,7 @@ means-any (J.Truth b) w cs ds v f m = m
 means-any (J.Natural n) w cs ds v f m = m
 means-any (J.Amount c k) w cs ds v f m = m
 means-any (J.Day y mo d) w cs ds v f m = m
-means-any (J.Moment y mo d h mi s u z) w cs ds v f m = m
+means-any (J.Moment p) w cs ds v f m = m
 
 module _ (k : Leaf) (firm : Firm k) (to : (cs t : List ℕ) → Trimmed cs t → Left k cs t) (from : (cs t : List ℕ) → Left k cs t → Trimmed cs t) (other : (w t cs : List ℕ) (v : Value) → Form k w t v → v ≡ text cs → ⊥) where
   pub right-trim : (s t : List ℕ) (r : Judged) → Trim s t → FormedAny k t r → (w : List ℕ) → Ccy w → Right k w s r

@@ -115,7 +115,7 @@ money-sound w t v (J.Text n) f e = no-some v e
 money-sound w t v (J.Truth b) f e = no-some v e
 money-sound w t v (J.Natural n) f e = no-some v e
 money-sound w t v (J.Day y m d) f e = no-some v e
-money-sound w t v (J.Moment y mo d h mi s u z) f e = no-some v e
+money-sound w t v (J.Moment p) f e = no-some v e
 money-sound w t v (J.Amount c k) (formed v′ g m) e = let z : amount w k c ≡ v = cc in subst (Form amt w t) (m ∙ z) g
 money-sound w t v (J.Amount c k) (formless q g) e = absurd (let z : _≡_ {A = ℕ} 0 1 = cc in omega arith)
 

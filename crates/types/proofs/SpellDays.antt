@@ -10,13 +10,14 @@ use lib.ListN.{drop}
 use borrow.Author.Tests.{le-leb, leb-true, lt-ltb, ltb-true}
 use Rattle.text.specs.Bytes.{inRange, isDigit}
 use Rattle.text.specs.Lists.{same}
-use Rattle.text.proofs.Classes.{and-is, in-range, in-range-is}
+use Rattle.text.proofs.Classes.{and-is, in-range}
 use Rattle.text.proofs.Parts.{same-eq, same-of}
 use Rattle.list.specs.Listing.{date, dtm}
-use Rattle.types.specs.Day.{Real, dayText, monthDays}
+use Rattle.types.specs.Day.{Real, isReal, dayText}
 use Rattle.types.specs.Moment.{Clock, clockText, Fraction, absent, three, six, FractionOk, fractionText, micros, Zone, zulu, ahead, behind, Offset, ZoneOk, zoneText, offset, MomentText}
 use Rattle.types.specs.Value.{Value, day, moment, Form}
-use Rattle.types.specs.Spell.{when, twoAt, threeAt, isReal, dayWhen, dayOf, isClock, fractionOf, fractionLength, isFraction, zoneOf, isOffset, isZone, momentWhen, momentOf}
+use Rattle.types.specs.Spell.{when, twoAt, threeAt, dayWhen, dayOf, isClock, fractionOf, fractionLength, isFraction, zoneOf, isOffset, isZone, momentWhen, momentOf}
+use Rattle.types.proofs.Months.{real-is, real-of}
 
 -- ---- a value behind a test
 pub when-is : (b : Bool) (v v′ : Value) → when b v ≡ some v′ → (b ≡ true) × (v ≡ v′)
@@ -30,15 +31,6 @@ pub and-of : (a b : Bool) → a ≡ true → b ≡ true → (a && b) ≡ true
 and-of a b p q = rw (p, q)
 
 -- ---- days
-real-is : (y m d : ℕ) → isReal y m d ≡ true → Real y m d
-real-is y m d e =
-    let a = and-is (inRange 1 9999 y) (inRange 1 12 m && inRange 1 (monthDays y m) d) e in
-    let b = and-is (inRange 1 12 m) (inRange 1 (monthDays y m) d) (a .1) in
-    record { year = in-range-is 1 9999 y (a .0); month = in-range-is 1 12 m (b .0); day = in-range-is 1 (monthDays y m) d (b .1) }
-
-real-of : (y m d : ℕ) → Real y m d → isReal y m d ≡ true
-real-of y m d r = and-of (inRange 1 9999 y) (inRange 1 12 m && inRange 1 (monthDays y m) d) (in-range 1 9999 y (r .year .0) (r .year .1)) (and-of (inRange 1 12 m) (inRange 1 (monthDays y m) d) (in-range 1 12 m (r .month .0) (r .month .1)) (in-range 1 (monthDays y m) d (r .day .0) (r .day .1)))
-
 when-day : (t : List ℕ) (y m d : ℕ) (w : List ℕ) (v : Value) → dayWhen t y m d ≡ some v → Form date w t v
 when-day t y m d w v e =
     let a = when-is (isReal y m d && same t (dayText y m d [])) (day y m d) v e in

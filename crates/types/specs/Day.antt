@@ -3,6 +3,7 @@ use mathlib.Core.Bool.{Bool, cond, _&&_, _||_, not}
 use mathlib.Core.List.{List, _∷_}
 use Prim.Native.Nat.{ℕ, _+_, _/_, _%_, _≤_}
 use lib.Dec.{leb, eqb}
+use Rattle.text.specs.Bytes.{inRange}
 
 abbrev pub leap : ℕ → Bool
 leap y = eqb (y % 4) 0 && (not (eqb (y % 100) 0) || eqb (y % 400) 0)
@@ -17,6 +18,10 @@ pub record Real (y m d : ℕ) : Type 0 where
   pub year : (1 ≤ y) × (y ≤ 9999)
   pub month : (1 ≤ m) × (m ≤ 12)
   pub day : (1 ≤ d) × (d ≤ monthDays y m)
+
+-- the same, decided; what is no month has no days
+unfoldable pub isReal : ℕ → ℕ → ℕ → Bool
+isReal y m d = inRange 1 9999 y && inRange 1 (monthDays y m) d
 
 -- the two digits of a number below 100, then t
 abbrev pub pair : ℕ → List ℕ → List ℕ

@@ -52,5 +52,5 @@ pub record ClockText (l : List ℕ) (h mi s u z : ℕ) : Type 0 where
   pub parts : (u ≡ micros fraction) × (z ≡ offset zone)
 
 pub data ClockAt (t : List ℕ) (y m d : ℕ) (r : Judged) : Type 0 where
-  on : (h mi s u z : ℕ) → ClockText (drop 10 t) h mi s u z → r ≡ Moment y m d h mi s u z → ClockAt t y m d r
+  on : (h mi s u z : ℕ) → ClockText (drop 10 t) h mi s u z → r ≡ Moment (record { year = y; month = m; day = d; hour = h; minute = mi; second = s; micros = u; offset = z }) → ClockAt t y m d r
   off : r ≡ Refused → ((h mi s u z : ℕ) → ClockText (drop 10 t) h mi s u z → ⊥) → ClockAt t y m d r

@@ -12,11 +12,16 @@ use Rattle.types.specs.Code.{Ccy}
 use Rattle.types.specs.Kind.{code, Given}
 use Rattle.types.specs.Value.{Value, text, truth, natural, amount, day, moment, Form, Spelt}
 use Rattle.types.specs.declared.judged.Judged.{Judged}
+use Rattle.types.specs.declared.judged.Moment as M
 use Rattle.types.specs.declared.judged.Judged.the-variants.{Refused, Text, Truth, Natural, Amount, Day, Moment}
 
 -- a test that is passed exactly when P holds
 abbrev pub Exactly : Bool → Type 0 → Type 0
 Exactly r P = (r ≡ true → P) × (P → r ≡ true)
+
+-- the value of these parts
+abbrev pub momentValue : M.Moment → Value
+momentValue m = moment (m .year) (m .month) (m .day) (m .hour) (m .minute) (m .second) (m .micros) (m .offset)
 
 -- r is the value v; w are the characters of the attribute Ccy, cs those of the text
 abbrev pub Means : List ℕ → List ℕ → Judged → Value → Type 0
@@ -26,7 +31,7 @@ Means w cs (Truth b) v = v ≡ truth b
 Means w cs (Natural n) v = v ≡ natural n
 Means w cs (Amount c k) v = v ≡ amount w k c
 Means w cs (Day y m d) v = v ≡ day y m d
-Means w cs (Moment y mo d h mi s u z) v = v ≡ moment y mo d h mi s u z
+Means w cs (Moment m) v = v ≡ momentValue m
 
 -- the raw text s of a leaf k is judged r: accepted exactly when it spells a value, and then r is that value
 pub data Right (k : Leaf) (w s : List ℕ) (r : Judged) : Type 0 where
@@ -50,7 +55,7 @@ sizeOf (Truth b) = 1
 sizeOf (Natural n) = 8
 sizeOf (Amount c k) = 12
 sizeOf (Day y m d) = 4
-sizeOf (Moment y mo d h mi s u z) = 13
+sizeOf (Moment m) = 13
 
 -- a mirror: a code is its own text
 abbrev pub codedOf : Bool → ℕ → Judged

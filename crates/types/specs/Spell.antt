@@ -10,7 +10,7 @@ use Rattle.text.specs.Lists.{same}
 use Rattle.list.specs.Listing.{Leaf, ref, iban, ccy, bool, num, amt, date, dtm, txt, enum}
 pub use Rattle.list.specs.Table.{placeFrom, placeIn}
 use Rattle.types.specs.Plain.{decimal}
-use Rattle.types.specs.Day.{monthDays, dayText}
+use Rattle.types.specs.Day.{isReal, dayText}
 use Rattle.types.specs.Moment.{clockText, Fraction, absent, three, six, fractionText, micros, Zone, zulu, ahead, behind, zoneText, offset}
 use Rattle.types.specs.Texts.{textOf}
 use Rattle.types.specs.Layout.{ibanAt}
@@ -76,7 +76,7 @@ moneyOf w (Truth b) = none
 moneyOf w (Natural n) = none
 moneyOf w (Amount c k) = some (amount w k c)
 moneyOf w (Day y m d) = none
-moneyOf w (Moment y mo d h mi s u z) = none
+moneyOf w (Moment m) = none
 
 -- ---- days and moments: the digits as they stand, and whether what they say is written so
 
@@ -86,13 +86,11 @@ twoAt i t = (getD t i 0 - 48) * 10 + (getD t (i + 1) 0 - 48)
 abbrev pub threeAt : ℕ → List ℕ → ℕ
 threeAt i t = (getD t i 0 - 48) * 100 + twoAt (i + 1) t
 
-abbrev pub isReal : ℕ → ℕ → ℕ → Bool
-isReal y m d = inRange 1 9999 y && (inRange 1 12 m && inRange 1 (monthDays y m) d)
-
 abbrev pub dayWhen : List ℕ → ℕ → ℕ → ℕ → Option Value
 dayWhen t y m d = when (isReal y m d && same t (dayText y m d [])) (day y m d)
 
 unfoldable pub dayOf : List ℕ → Option Value
+unfolding isReal
 dayOf t = dayWhen t (twoAt 0 t * 100 + twoAt 2 t) (twoAt 5 t) (twoAt 8 t)
 
 abbrev pub isClock : ℕ → ℕ → ℕ → Bool
@@ -134,6 +132,7 @@ momentBehind t l =
     momentWhen t (twoAt 0 t * 100 + twoAt 2 t) (twoAt 5 t) (twoAt 8 t) (twoAt 11 t) (twoAt 14 t) (twoAt 17 t) (fractionOf l) (zoneOf (drop (fractionLength (fractionOf l)) l))
 
 unfoldable pub momentOf : List ℕ → Option Value
+unfolding isReal
 momentOf t = momentBehind t (drop 19 t)
 
 -- ---- all kinds

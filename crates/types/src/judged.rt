@@ -1,5 +1,17 @@
 // What the raw text of a leaf is judged to be: the value, or that it has none.
 
+// A moment is its written parts: microseconds, and offset minutes plus 840.
+pub struct Moment {
+    pub year: u16,
+    pub month: u8,
+    pub day: u8,
+    pub hour: u8,
+    pub minute: u8,
+    pub second: u8,
+    pub micros: u32,
+    pub offset: u16,
+}
+
 pub enum Judged {
     Refused,
     // a text whose characters have so many bytes; they stand in the raw text
@@ -9,14 +21,5 @@ pub enum Judged {
     // coefficient and scale; the currency stands in its attribute
     Amount(u64, u8),
     Day(u16, u8, u8),
-    Moment {
-        year: u16,
-        month: u8,
-        day: u8,
-        hour: u8,
-        minute: u8,
-        second: u8,
-        micros: u32,
-        offset: u16,
-    },
+    Moment(Moment),
 }

@@ -4,6 +4,7 @@ use crate::day::day_at;
 use crate::day::mark;
 use crate::day::two;
 use crate::judged::Judged;
+use crate::judged::Moment;
 use text::class::is_digit;
 ghost use mathlib.Core.Path.{_≡_};
 ghost use lib.ListN.{drop};
@@ -142,7 +143,7 @@ fn clocked(t: &[u8], year: u16, month: u8, day: u8) -> Judged
     if 1680 < offset {
         return Judged::Refused;
     }
-    Judged::Moment {
+    Judged::Moment(Moment {
         year,
         month,
         day,
@@ -151,7 +152,7 @@ fn clocked(t: &[u8], year: u16, month: u8, day: u8) -> Judged
         second,
         micros,
         offset,
-    }
+    })
 }
 
 // The moment that a text is.

@@ -18,9 +18,10 @@ use Rattle.text.proofs.Spelling.{one-text}
 use Rattle.list.specs.Listing.{Leaf, ref, iban, ccy, bool, num, amt, date, dtm, txt, enum}
 use Rattle.types.specs.Code.{Ccy}
 use Rattle.types.specs.Kind.{code, Given}
-use Rattle.types.specs.Judged.{Means, Right, Checked}
-use Rattle.types.specs.Value.{Value, text, truth, natural, amount, day, moment, bytes}
+use Rattle.types.specs.Judged.{Means, Right, Checked, momentValue}
+use Rattle.types.specs.Value.{Value, text, truth, natural, amount, day, bytes}
 use Rattle.types.specs.declared.judged.Judged.{Judged}
+use Rattle.types.specs.declared.judged.Moment as M
 use Rattle.types.specs.declared.judged.Judged.the-variants as J
 use Rattle.written.specs.Giving.{Counted, Told, Gives, some, none, Long, Sized, Written}
 use Rattle.written.specs.Puts.{Wrote, AmountPut, rich, poor, Counts, textSize, textBytes, TextPut}
@@ -82,7 +83,7 @@ isRefused (J.Truth b) = false
 isRefused (J.Natural n) = false
 isRefused (J.Amount c k) = false
 isRefused (J.Day y m d) = false
-isRefused (J.Moment y mo d h mi s u z) = false
+isRefused (J.Moment m) = false
 
 record Seen (kind k : ℕ) (w s : List ℕ) (r : Judged) : Type 0 where
   value : Value
@@ -224,8 +225,8 @@ module _ (kind k : ℕ) (s : List ℕ) where
     pub day-gives : (y m d : ℕ) → r ≡ J.Day y m d → (cur : List ℕ) → Gives kind k cur s (bytes (day y m d))
     day-gives y m d e = of-value (J.Day y m d) e refl (day y m d) refl tt (λ w cs x q. q)
 
-    pub moment-gives : (y mo d h mi se u z : ℕ) → r ≡ J.Moment y mo d h mi se u z → (cur : List ℕ) → Gives kind k cur s (bytes (moment y mo d h mi se u z))
-    moment-gives y mo d h mi se u z e = of-value (J.Moment y mo d h mi se u z) e refl (moment y mo d h mi se u z) refl tt (λ w cs x q. q)
+    pub moment-gives : (m : M.Moment) → r ≡ J.Moment m → (cur : List ℕ) → Gives kind k cur s (bytes (momentValue m))
+    moment-gives m e = of-value (J.Moment m) e refl (momentValue m) refl tt (λ w cs x q. q)
 
   pub sized : (bs : List ℕ) (r : ℕ) → ((cur : List ℕ) → Gives kind k cur s bs) → r ≡ length bs → Sized kind k s r
   sized bs r g e w cw = record { found = bs; gives = g w; count = e }

@@ -17,8 +17,9 @@ use Rattle.text.proofs.Numbers.{big-length}
 use Rattle.text.proofs.Pasting.{pasted-no, pasted-one, pasted-none, pasted-then, length-pasted}
 use Rattle.text.proofs.Spelling.{one-text}
 use Rattle.types.specs.Code.{Ccy}
-use Rattle.types.specs.Judged.{Exactly}
+use Rattle.types.specs.Judged.{Exactly, momentValue}
 use Rattle.types.specs.Value.{text, truth, natural, amount, day, moment, bytes}
+use Rattle.types.specs.declared.judged.Moment as M
 use Rattle.written.specs.Runs.{Roomy, CharsPut}
 use Rattle.written.specs.Puts.{Wrote, AmountPut, rich, poor, Counts, textSize, textBytes, TextPut}
 
@@ -70,6 +71,9 @@ moment-long y mo d h mi s u z =
     omega
     (arith, length-append (bigEndian 2 y) (mo ∷ d ∷ h ∷ mi ∷ s ∷ (bigEndian 4 u ++ bigEndian 2 z)), length-append (bigEndian 4 u) (bigEndian 2 z), big-length 2 y, big-length 4 u, big-length 2 z)
 
+pub parts-long : (m : M.Moment) → 13 ≡ length (bytes (momentValue m))
+parts-long m = moment-long (m .year) (m .month) (m .day) (m .hour) (m .minute) (m .second) (m .micros) (m .offset)
+
 pub text-long : (n : ℕ) (cs : List ℕ) → n ≡ length (encodeAll cs) → 2 + n ≡ length (bytes (text cs))
 text-long n cs e =
     omega (arith, length-append (bigEndian 2 (length (encodeAll cs))) (encodeAll cs), big-length 2 (length (encodeAll cs)))
@@ -103,29 +107,28 @@ module _ (d : List ℕ) (at : ℕ) where
   pub day-no-room : (y m e : ℕ) (b : Bool) → Exactly b (at + 4 ≤ length d) → not b ≡ true → Wrote d at (bytes (day y m e)) 4 d
   day-no-room y m e b x f = no-room d at 4 b x (bytes (day y m e)) (day-long y m e) f
 
-  pub moment-no-room : (y mo e h mi s u z : ℕ) (b : Bool) → Exactly b (at + 13 ≤ length d) → not b ≡ true
-      → Wrote d at (bytes (moment y mo e h mi s u z)) 13 d
-  moment-no-room y mo e h mi s u z b x f = no-room d at 13 b x (bytes (moment y mo e h mi s u z)) (moment-long y mo e h mi s u z) f
+  pub moment-no-room : (m : M.Moment) (b : Bool) → Exactly b (at + 13 ≤ length d) → not b ≡ true → Wrote d at (bytes (momentValue m)) 13 d
+  moment-no-room m b x f = no-room d at 13 b x (bytes (momentValue m)) (parts-long m) f
 
-  pub moment-put : (y mo e h mi s u z r : ℕ) (d₁ d₂ d₃ d₄ : List ℕ) → at + 13 ≤ length d → Wrote d at (bytes (day y mo e)) r d₁
-      → d₂ ≡ pasted d₁ (at + 4) (h ∷ mi ∷ s ∷ []) → d₃ ≡ pasted d₂ (at + 7) (bigEndian 4 u) → d₄ ≡ pasted d₃ (at + 11) (bigEndian 2 z)
-      → Wrote d at (bytes (moment y mo e h mi s u z)) 13 d₄
-  moment-put y mo e h mi s u z r d₁ d₂ d₃ d₄ room a b c f =
-      let l = big-length 4 u in
-      let m = big-length 2 z in
-      let n = day-long y mo e in
-      let p = length-append (bigEndian 4 u) (bigEndian 2 z) in
-      let k = kept d d₁ at (bytes (day y mo e)) (a .is) in
-      let j = kept d₁ d₂ (at + 4) (h ∷ mi ∷ s ∷ []) b in
-      let q : d₄ ≡ pasted d₂ (at + 7) (bigEndian 4 u ++ bigEndian 2 z) =
-      then d₂ d₃ d₄ (at + 7) (at + 11) (bigEndian 4 u) (bigEndian 2 z) c f (omega arith) (omega arith) in
-      let o : d₄ ≡ pasted d₁ (at + 4) (h ∷ mi ∷ s ∷ (bigEndian 4 u ++ bigEndian 2 z)) =
-      then d₁ d₂ d₄ (at + 4) (at + 7) (h ∷ mi ∷ s ∷ []) (bigEndian 4 u ++ bigEndian 2 z) b q (omega arith) (omega arith) in
+  pub moment-put : (x : M.Moment) (r : ℕ) (d₁ d₂ d₃ d₄ : List ℕ) → at + 13 ≤ length d → Wrote d at (bytes (day (x .year) (x .month) (x .day))) r d₁
+      → d₂ ≡ pasted d₁ (at + 4) (x .hour ∷ x .minute ∷ x .second ∷ []) → d₃ ≡ pasted d₂ (at + 7) (bigEndian 4 (x .micros)) → d₄ ≡ pasted d₃ (at + 11) (bigEndian 2 (x .offset))
+      → Wrote d at (bytes (momentValue x)) 13 d₄
+  moment-put x r d₁ d₂ d₃ d₄ room a b c f =
+      let l = big-length 4 (x .micros) in
+      let m = big-length 2 (x .offset) in
+      let n = day-long (x .year) (x .month) (x .day) in
+      let p = length-append (bigEndian 4 (x .micros)) (bigEndian 2 (x .offset)) in
+      let k = kept d d₁ at (bytes (day (x .year) (x .month) (x .day))) (a .is) in
+      let j = kept d₁ d₂ (at + 4) (x .hour ∷ x .minute ∷ x .second ∷ []) b in
+      let q : d₄ ≡ pasted d₂ (at + 7) (bigEndian 4 (x .micros) ++ bigEndian 2 (x .offset)) =
+      then d₂ d₃ d₄ (at + 7) (at + 11) (bigEndian 4 (x .micros)) (bigEndian 2 (x .offset)) c f (omega arith) (omega arith) in
+      let o : d₄ ≡ pasted d₁ (at + 4) (x .hour ∷ x .minute ∷ x .second ∷ (bigEndian 4 (x .micros) ++ bigEndian 2 (x .offset))) =
+      then d₁ d₂ d₄ (at + 4) (at + 7) (x .hour ∷ x .minute ∷ x .second ∷ []) (bigEndian 4 (x .micros) ++ bigEndian 2 (x .offset)) b q (omega arith) (omega arith) in
       record {
-        count = moment-long y mo e h mi s u z;
+        count = parts-long x;
         is =
-            then d d₁ d₄ at (at + 4) (bytes (day y mo e)) (h ∷ mi ∷ s ∷ (bigEndian 4 u ++ bigEndian 2 z)) (a .is) o (omega arith) (omega arith)
-            ∙ ap (pasted d at) (append-assoc (bigEndian 2 y) (mo ∷ e ∷ []) (h ∷ mi ∷ s ∷ (bigEndian 4 u ++ bigEndian 2 z)));
+            then d d₁ d₄ at (at + 4) (bytes (day (x .year) (x .month) (x .day))) (x .hour ∷ x .minute ∷ x .second ∷ (bigEndian 4 (x .micros) ++ bigEndian 2 (x .offset))) (a .is) o (omega arith) (omega arith)
+            ∙ ap (pasted d at) (append-assoc (bigEndian 2 (x .year)) (x .month ∷ x .day ∷ []) (x .hour ∷ x .minute ∷ x .second ∷ (bigEndian 4 (x .micros) ++ bigEndian 2 (x .offset))));
       }
 
   pub amount-put : (w : List ℕ) (k c : ℕ) (d₁ d₂ d₃ : List ℕ) → Ccy w → at + 12 ≤ length d → d₁ ≡ pasted d at w → d₂ ≡ pasted d₁ (at + 3) (k ∷ [])

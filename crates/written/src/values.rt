@@ -10,6 +10,7 @@ use text::number::put16;
 use text::number::put32;
 use text::number::put64;
 use text::part::part_len;
+use types::judged::Moment;
 ghost use mathlib.Core.Path.{_≡_};
 ghost use mathlib.Core.List.{[], _∷_};
 ghost use Prim.Native.Nat.{_+_, _≤_};
@@ -17,8 +18,8 @@ ghost use lib.ListN.{length};
 ghost use lib.Seq.{slice};
 ghost use Rattle.text.specs.Pasting.{pasted};
 ghost use Rattle.types.specs.Code.{Ccy};
-ghost use Rattle.types.specs.Judged.{Exactly};
-ghost use Rattle.types.specs.Value.{bytes, truth, natural, day, moment};
+ghost use Rattle.types.specs.Judged.{Exactly, momentValue};
+ghost use Rattle.types.specs.Value.{bytes, truth, natural, day};
 ghost use Rattle.written.specs.Puts.{Wrote, Counts, textSize, TextPut, AmountPut};
 
 fn truth_byte(yes: bool) -> u8
@@ -66,27 +67,16 @@ fn put_clock(out: &mut [u8], at: usize, h: u8, m: u8, s: u8)
     place(out, at + 2, s);
 }
 
-pub(crate) fn write_moment(
-    out: &mut [u8],
-    at: usize,
-    year: u16,
-    month: u8,
-    day: u8,
-    hour: u8,
-    minute: u8,
-    second: u8,
-    micros: u32,
-    offset: u16,
-) -> usize
-    ensures { λ r. ⌜ Wrote (now (out .entry)) at (bytes (moment year month day hour minute second micros offset)) r (now (out .exit)) ⌝ }
+pub(crate) fn write_moment(out: &mut [u8], at: usize, m: Moment) -> usize
+    ensures { λ r. ⌜ Wrote (now (out .entry)) at (bytes (momentValue m)) r (now (out .exit)) ⌝ }
 {
     if !has_room(out.len(), at, 13) {
         return 13;
     }
-    write_day(out, at, year, month, day);
-    put_clock(out, at + 4, hour, minute, second);
-    put32(out, at + 7, micros);
-    put16(out, at + 11, offset);
+    write_day(out, at, m.year, m.month, m.day);
+    put_clock(out, at + 4, m.hour, m.minute, m.second);
+    put32(out, at + 7, m.micros);
+    put16(out, at + 11, m.offset);
     13
 }
 

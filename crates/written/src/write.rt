@@ -23,7 +23,7 @@ pub fn size(kind: u8, k: usize, s: &[u8], a: usize, b: usize) -> usize
         Judged::Natural(_) => 8,
         Judged::Amount(_, _) => 12,
         Judged::Day(_, _, _) => 4,
-        Judged::Moment { .. } => 13,
+        Judged::Moment(_) => 13,
     }
 }
 
@@ -49,26 +49,6 @@ pub fn write(
         Judged::Natural(n) => write_natural(out, at, n),
         Judged::Amount(coefficient, scale) => write_amount(s, c, d, out, at, coefficient, scale),
         Judged::Day(year, month, day) => write_day(out, at, year, month, day),
-        Judged::Moment {
-            year,
-            month,
-            day,
-            hour,
-            minute,
-            second,
-            micros,
-            offset,
-        } => write_moment(
-            out,
-            at,
-            year,
-            month,
-            day,
-            hour,
-            minute,
-            second,
-            micros,
-            offset,
-        ),
+        Judged::Moment(moment) => write_moment(out, at, moment),
     }
 }

@@ -6,7 +6,8 @@ use lib.ListN.{length}
 use lib.Seq.{length-take-le}
 use borrow.Author.Needs.{needs}
 use Rattle.unit.proofs.Programs.{place-fits}
-use Rattle.kto.proofs.Saying.{counts, line-counts, says-longer, says-refused, says-written, never-unread}
+use Rattle.line.proofs.Lines.{counts}
+use Rattle.kto.proofs.Saying.{line-counts, says-longer, says-refused, says-written, never-unread}
 use Rattle.kto.proofs.said.said.Statement.{statement}
 use Rattle.kto.proofs.said.said.Tie as tie
 

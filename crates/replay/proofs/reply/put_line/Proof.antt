@@ -6,7 +6,8 @@ use lib.ListN.{length, take, length-take}
 use borrow.Author.Needs.{needs}
 use Rattle.feed.specs.Reply.{answerLine}
 use Rattle.feed.proofs.Replies.{put-taken}
-use Rattle.replay.proofs.Replying.{counts, put-long}
+use Rattle.line.proofs.Lines.{counts}
+use Rattle.replay.proofs.Replying.{put-long}
 use Rattle.replay.proofs.reply.put_line.Statement.{statement}
 use Rattle.replay.proofs.reply.put_line.Tie as tie
 

@@ -7,7 +7,8 @@ use lib.Seq.{length-take-le}
 use Rattle.feed.specs.Reply.{brokenLine}
 use Rattle.feed.proofs.Replies.{put-taken}
 use Rattle.replay.specs.Replies.{broken}
-use Rattle.replay.proofs.Replying.{in-check, in-read, in-pick, bytes-most, take-most, counts, put-long, put-check, put-read, put-pick}
+use Rattle.line.proofs.Lines.{counts}
+use Rattle.replay.proofs.Replying.{in-check, in-read, in-pick, bytes-most, take-most, put-long, put-check, put-read, put-pick}
 use borrow.Author.Needs.{needs}
 use Rattle.replay.proofs.reply.reply.Statement.{statement}
 use Rattle.replay.proofs.reply.reply.Tie as tie

@@ -1,7 +1,7 @@
 use borrow.Author.Needs.{needs}
 use Rattle.scan.proofs.elements.advance.Statement.{statement}
 use Rattle.scan.proofs.elements.advance.Tie as tie
-use Rattle.scan.proofs.Nesting.{text-halt, text-within, text-tag}
+use Rattle.scan.proofs.Nesting.{text-halt, text-nested, text-tag}
 
 text-end-requires : tie.Need-text-end-requires
 text-end-requires c κs = search needs
@@ -14,15 +14,15 @@ enum-known-i c = search needs
 
 any-tag-requires : tie.Need-any-tag-requires
 any-tag-requires c κs =
-    (text-within _ _ (c .before .before .before .before .before .before .before .args .from .now) (c .before .before .before .before .before .before .before .args .to .now) (c .before .before .before .before .before .before .before .args .n) (c .before .before .before .before .before .before .before .pre .1) (c .before .before .before .before .before .text-end .result) (c .before .before .before .before .before .text-end .ensures) _ (c .before .before .before .i .given .1), c .before .before .before .before .before .before .before .pre .1, c .before .before .before .before .before .before .before .pre .2, c .before .before .before .before .before .before .before .pre .3)
+    (c .before .before .before .before .before .before .before .pre .0, text-nested _ _ _ _ _ (c .before .before .before .before .before .before .before .pre .0) (c .before .before .before .before .before .text-end .result) (c .before .before .before .before .before .text-end .ensures) _ (c .before .before .before .i .given .1) _ (c .before .before .before .before .before .before .before .pre .1))
 
 returns : tie.Need-returns
 returns c =
-    text-halt _ _ _ _ _ (c .before .before .before .before .before .pre .1) (c .before .before .before .text-end .result) (c .before .before .before .text-end .ensures) _ (c .before .p .given .1)
+    text-halt _ _ _ _ _ (c .before .before .before .before .before .pre .0) (c .before .before .before .text-end .result) (c .before .before .before .text-end .ensures) _ (c .before .p .given .1)
 
 returns-2 : tie.Need-returns-2
 returns-2 c =
-    text-tag _ _ _ _ _ (c .before .before .before .before .before .before .before .before .pre .1) (c .before .before .before .before .before .before .text-end .result) (c .before .before .before .before .before .before .text-end .ensures) _ (c .before .before .before .before .i .given .1) _ _ (c .any-tag .result) (c .any-tag .ensures)
+    text-tag _ _ _ _ _ (c .before .before .before .before .before .before .before .before .pre .0) (c .before .before .before .before .before .before .text-end .result) (c .before .before .before .before .before .before .text-end .ensures) _ (c .before .before .before .before .i .given .1) _ _ (c .any-tag .result) (c .any-tag .ensures)
 
 pub advance-spec : {M : Type 1} → statement M
 advance-spec =

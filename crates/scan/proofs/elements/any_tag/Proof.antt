@@ -17,7 +17,7 @@ start-tag-requires c κs = search needs
 
 returns-2 : tie.Need-returns-2
 returns-2 c =
-    any-start _ _ _ _ _ (c .before .before .before .before .before .if1 .left) (c .before .before .before .before .before .before .before .pre .1) (c .before .before .before .if2 .taken) _ _ (c .start-tag .result) (c .start-tag .ensures)
+    any-start _ _ _ _ _ (c .before .before .before .before .before .if1 .left) (c .before .before .before .before .before .before .before .pre .0) (c .before .before .before .if2 .taken) _ _ (c .start-tag .result) (c .start-tag .ensures)
 
 sub-k : tie.Need-sub-k
 sub-k c = search needs
@@ -39,15 +39,15 @@ add-end-tag c = search needs
 
 sub-end-tag : tie.Need-sub-end-tag
 sub-end-tag c =
-    omega (arith, c .before .before .before .before .before .before .pre .2 .begin (c .before .before .before .before .before .before .args .n - 1) (omega arith))
+    omega (arith, c .before .before .before .before .before .before .pre .1 .held .begin (c .before .before .before .before .before .before .args .n - 1) (omega arith))
 
 part-end-tag-start : tie.Need-part-end-tag-start
 part-end-tag-start c =
-    omega (arith, c .before .before .before .before .before .before .pre .2 .begin (c .before .before .before .before .before .before .args .n - 1) (omega arith))
+    omega (arith, c .before .before .before .before .before .before .pre .1 .held .begin (c .before .before .before .before .before .before .args .n - 1) (omega arith))
 
 part-end-tag-end : tie.Need-part-end-tag-end
 part-end-tag-end c =
-    omega (arith, c .before .before .before .before .before .before .pre .2 .end (c .before .before .before .before .before .before .args .n - 1) (omega arith))
+    omega (arith, c .before .before .before .before .before .before .pre .1 .held .end (c .before .before .before .before .before .before .args .n - 1) (omega arith))
 
 end-tag-requires : tie.Need-end-tag-requires
 end-tag-requires c κs = search needs
@@ -60,11 +60,11 @@ enum-known-e c = search needs
 
 returns-3 : tie.Need-returns-3
 returns-3 c =
-    any-stop _ _ _ _ _ (c .before .before .before .before .before .before .before .before .before .if1 .left) (c .before .before .before .before .before .before .before .before .before .before .before .pre .1) (c .before .before .before .before .before .before .before .if2 .left) (c .before .before .before .before .before .before .before .before .before .before .before .pre .2) (c .before .before .before .end-tag .result) (c .before .before .before .end-tag .ensures) _ (c .before .p .given .1)
+    any-stop _ _ _ _ _ (c .before .before .before .before .before .before .before .before .before .if1 .left) (c .before .before .before .before .before .before .before .before .before .before .before .pre .0) (c .before .before .before .before .before .before .before .if2 .left) (c .before .before .before .before .before .before .before .before .before .before .before .pre .1 .held) (c .before .before .before .end-tag .result) (c .before .before .before .end-tag .ensures) _ (c .before .p .given .1)
 
 returns-4 : tie.Need-returns-4
 returns-4 c =
-    any-close _ _ _ _ _ (c .before .before .before .before .before .before .before .before .before .if1 .left) (c .before .before .before .before .before .before .before .before .before .before .before .pre .1) (c .before .before .before .before .before .before .before .if2 .left) (c .before .before .before .before .before .before .before .before .before .before .before .pre .2) (c .before .before .before .end-tag .result) (c .before .before .before .end-tag .ensures) _ (c .before .e .given .1)
+    any-close _ _ _ _ _ (c .before .before .before .before .before .before .before .before .before .if1 .left) (c .before .before .before .before .before .before .before .before .before .before .before .pre .0) (c .before .before .before .before .before .before .before .if2 .left) (c .before .before .before .before .before .before .before .before .before .before .before .pre .1 .held) (c .before .before .before .end-tag .result) (c .before .before .before .end-tag .ensures) _ (c .before .e .given .1)
 
 pub any-tag-spec : {M : Type 1} → statement M
 any-tag-spec =

@@ -6,7 +6,7 @@ use borrow.Author.Needs.{needs}
 use Rattle.xml.specs.Auto.{root}
 use Rattle.scan.specs.Tags.{Steps}
 use Rattle.scan.proofs.Names.{held-none}
-use Rattle.scan.proofs.Nesting.{root-opens, ahead, steps-halt, steps-within, steps-held, steps-done, steps-then, steps-less}
+use Rattle.scan.proofs.Nesting.{root-opens, ahead, steps-halt, steps-nested, steps-done, steps-then, steps-less}
 
 abbrev Inv-loop : tie.InvT-loop
 Inv-loop s at classes from₀ to₀ here₀ from to here = Steps s at root from to here
@@ -16,7 +16,7 @@ abbrev μ-loop : tie.MeasureT-loop
 
 start-tag-requires : tie.Need-start-tag-requires Inv-loop μ-loop
 start-tag-requires c κs =
-    (c .before .before .before .pre .0, held-none 16 _ _ _ refl refl, c .before .before .before .pre .1)
+    record { within = c .before .before .before .pre .0; held = held-none 16 _ _ _ refl refl; classed = c .before .before .before .pre .1 }
 
 loop-holds : tie.Need-loop-holds Inv-loop μ-loop
 loop-holds c =
@@ -40,7 +40,7 @@ returns-2 c =
 
 advance-requires : tie.Need-advance-requires Inv-loop μ-loop
 advance-requires c κs =
-    (steps-within _ _ _ _ (c .before .before .before .before .before .before .loop .here) (c .before .before .before .before .before .before .loop .inv) _ _ (c .before .before .before .before .here2 .given .1), omega arith, steps-held _ _ _ _ (c .before .before .before .before .before .before .loop .here) (c .before .before .before .before .before .before .loop .inv) _ _ (c .before .before .before .before .here2 .given .1), c .before .before .before .before .before .before .before .before .before .before .before .pre .1)
+    (omega arith, steps-nested _ _ _ _ (c .before .before .before .before .before .before .loop .here) (c .before .before .before .before .before .before .loop .inv) _ _ (c .before .before .before .before .here2 .given .1) _ (c .before .before .before .before .before .before .before .before .before .before .before .pre .1))
 
 loop-less : tie.Need-loop-less Inv-loop μ-loop
 loop-less c =

@@ -7,8 +7,8 @@ use native.Mathlib.Omega.{arith}
 use lib.Dec.{leb}
 use borrow.Author.Tests.{le-leb, lt-leb}
 use Rattle.text.proofs.Classes.{in-range}
+use Rattle.types.specs.Day.{isReal}
 use Rattle.types.proofs.Classes.{in-no}
-use Rattle.stored.specs.Judges.{isReal}
 
 returns : tie.Need-returns
 unfolding isReal

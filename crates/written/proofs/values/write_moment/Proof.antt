@@ -10,7 +10,7 @@ has-room-requires c κs = search needs
 
 returns : tie.Need-returns
 returns c =
-    moment-no-room _ _ (c .before .before .before .args .year) (c .before .before .before .args .month) (c .before .before .before .args .day) (c .before .before .before .args .hour) (c .before .before .before .args .minute) (c .before .before .before .args .second) (c .before .before .before .args .micros) (c .before .before .before .args .offset) _ (c .before .has-room .ensures) (c .if1 .taken)
+    moment-no-room _ _ (c .before .before .before .args .m) _ (c .before .has-room .ensures) (c .if1 .taken)
 
 write-day-requires : tie.Need-write-day-requires
 write-day-requires c κs = search needs
@@ -42,7 +42,7 @@ same-length c = search needs
 
 returns-2 : tie.Need-returns-2
 returns-2 c =
-    moment-put _ _ (c .before .before .before .before .before .before .before .before .before .before .before .before .before .before .before .before .before .before .before .args .year) (c .before .before .before .before .before .before .before .before .before .before .before .before .before .before .before .before .before .before .before .args .month) (c .before .before .before .before .before .before .before .before .before .before .before .before .before .before .before .before .before .before .before .args .day) (c .before .before .before .before .before .before .before .before .before .before .before .before .before .before .before .before .before .before .before .args .hour) (c .before .before .before .before .before .before .before .before .before .before .before .before .before .before .before .before .before .before .before .args .minute) (c .before .before .before .before .before .before .before .before .before .before .before .before .before .before .before .before .before .before .before .args .second) (c .before .before .before .before .before .before .before .before .before .before .before .before .before .before .before .before .before .before .before .args .micros) (c .before .before .before .before .before .before .before .before .before .before .before .before .before .before .before .before .before .before .before .args .offset) _ _ _ _ _ (fits _ (c .before .before .before .before .before .before .before .before .before .before .before .before .before .before .before .before .before .has-room .ensures) (c .before .before .before .before .before .before .before .before .before .before .before .before .before .before .before .before .if1 .left)) (c .before .before .before .before .before .before .before .before .before .before .before .before .before .before .write-day .ensures) (c .before .before .before .before .before .before .before .before .before .before .put-clock .ensures) (c .before .before .before .before .before .before .put32 .ensures) (c .before .before .put16 .ensures)
+    moment-put _ _ (c .before .before .before .before .before .before .before .before .before .before .before .before .before .before .before .before .before .before .before .args .m) _ _ _ _ _ (fits _ (c .before .before .before .before .before .before .before .before .before .before .before .before .before .before .before .before .before .has-room .ensures) (c .before .before .before .before .before .before .before .before .before .before .before .before .before .before .before .before .if1 .left)) (c .before .before .before .before .before .before .before .before .before .before .before .before .before .before .write-day .ensures) (c .before .before .before .before .before .before .before .before .before .before .put-clock .ensures) (c .before .before .before .before .before .before .put32 .ensures) (c .before .before .put16 .ensures)
 
 pub write-moment-spec : {M : Type 1} → statement M
 write-moment-spec =

@@ -3,7 +3,7 @@ use mathlib.Core.List.{[]}
 use mathlib.Core.Path.{refl}
 use borrow.Author.Needs.{needs}
 use Rattle.written.proofs.Judging.{gives-none, text-sized, amount-sized, truth-gives, natural-gives, day-gives, moment-gives, sized}
-use Rattle.written.proofs.Putting.{day-long, natural-long, moment-long}
+use Rattle.written.proofs.Putting.{day-long, natural-long, parts-long}
 use Rattle.written.proofs.write.size.Statement.{statement}
 use Rattle.written.proofs.write.size.Tie as tie
 
@@ -60,7 +60,7 @@ returns-6 c =
 
 returns-7 : tie.Need-returns-7
 returns-7 c =
-    sized _ _ _ _ _ (moment-gives _ _ _ _ (c .before .before .check .ensures) _ _ _ _ _ _ _ _ (c .enum-told6 .given .1)) (moment-long _ _ _ _ _ _ _ _)
+    sized _ _ _ _ _ (moment-gives _ _ _ _ (c .before .before .check .ensures) _ (c .enum-told6 .given .1)) (parts-long _)
 
 pub size-spec : {M : Type 1} → statement M
 size-spec =

@@ -41,8 +41,8 @@ enum-known-year c = search needs
 write-day-requires : tie.Need-write-day-requires
 write-day-requires c κs = search needs
 
-enum-known-year-2 : tie.Need-enum-known-year-2
-enum-known-year-2 c = search needs
+enum-known-moment : tie.Need-enum-known-moment
+enum-known-moment c = search needs
 
 write-moment-requires : tie.Need-write-moment-requires
 write-moment-requires c κs = search needs
@@ -91,7 +91,7 @@ same-length-6 c = search needs
 
 returns-7 : tie.Need-returns-7
 returns-7 c =
-    written _ _ _ _ _ _ _ _ _ (moment-gives _ _ _ _ (c .before .before .before .before .before .before .before .check .ensures) _ _ _ _ _ _ _ _ (c .before .before .before .before .before .year2 .given .1) _) (c .before .before .write-moment .ensures)
+    written _ _ _ _ _ _ _ _ _ (moment-gives _ _ _ _ (c .before .before .before .before .before .before .before .check .ensures) _ (c .before .before .before .before .before .moment .given .1) _) (c .before .before .write-moment .ensures)
 
 pub write-spec : {M : Type 1} → statement M
 write-spec =
@@ -109,7 +109,7 @@ write-spec =
     write-amount-requires
     enum-known-year
     write-day-requires
-    enum-known-year-2
+    enum-known-moment
     write-moment-requires
     returns
     same-length
