@@ -2,19 +2,27 @@
 
 use crate::files::File;
 
+/// What a contender is handed of a made file.
+#[derive(Clone, Copy, PartialEq)]
+pub enum Input {
+    File,
+    Foreign,
+    Image,
+}
+
 pub struct Contender {
     pub name: &'static str,
-    pub reads_image: bool,
+    pub takes: Input,
     pub is_unit: bool,
     pub judge: fn(&[u8]) -> bool,
 }
 
 impl Contender {
     pub fn input<'a>(&self, file: &'a File) -> &'a [u8] {
-        if self.reads_image {
-            &file.image
-        } else {
-            &file.text
+        match self.takes {
+            Input::File => &file.text,
+            Input::Foreign => &file.foreign,
+            Input::Image => &file.image,
         }
     }
 }
@@ -22,12 +30,13 @@ impl Contender {
 /// The unit's check comes first: the others are compared with it.
 pub fn all(schema: &str) -> Result<Vec<Contender>, String> {
     let mut all = vec![
-        Contender { name: "unit check", reads_image: false, is_unit: true, judge: unit::check },
-        Contender { name: "unit read", reads_image: true, is_unit: true, judge: unit::read },
-        Contender { name: "independent check", reads_image: false, is_unit: false, judge: independent_check },
+        Contender { name: "unit check", takes: Input::File, is_unit: true, judge: unit::check },
+        Contender { name: "unit UTF-8 and scan", takes: Input::Foreign, is_unit: true, judge: unit::scan },
+        Contender { name: "unit read", takes: Input::Image, is_unit: true, judge: unit::read },
+        Contender { name: "independent check", takes: Input::File, is_unit: false, judge: independent_check },
         Contender {
             name: "independent read",
-            reads_image: true,
+            takes: Input::Image,
             is_unit: false,
             judge: |image| independent::read(image).code.number() == 0,
         },
@@ -63,12 +72,21 @@ mod unit {
         static IMAGE: RefCell<Vec<u8>> = RefCell::new(vec![0; independent::LIMIT]);
     }
 
-    pub fn check(text: &[u8]) -> bool {
+    fn code(text: &[u8]) -> u64 {
         IMAGE.with_borrow_mut(|image| {
             let (mut row, mut place) = (0, 0);
             // SAFETY: the lengths are those of the slices, and the two numbers live on this stack.
-            unsafe { kto_check(text.as_ptr(), text.len(), image.as_mut_ptr(), image.len(), &mut row, &mut place) == 0 }
+            unsafe { kto_check(text.as_ptr(), text.len(), image.as_mut_ptr(), image.len(), &mut row, &mut place) }
         })
+    }
+
+    pub fn check(text: &[u8]) -> bool {
+        code(text) == 0
+    }
+
+    /// A foreign root is code 4, which is found behind codes 1 to 3 over the whole file and before anything else.
+    pub fn scan(text: &[u8]) -> bool {
+        code(text) == 4
     }
 
     pub fn read(image: &[u8]) -> bool {
@@ -80,7 +98,7 @@ mod unit {
 
 #[cfg(others)]
 mod others {
-    use super::Contender;
+    use super::{Contender, Input};
     use std::ffi::{c_char, c_int, CString};
 
     extern "C" {
@@ -98,19 +116,19 @@ mod others {
         }
         all.push(Contender {
             name: "expat",
-            reads_image: false,
+            takes: Input::File,
             is_unit: false,
             judge: |file| unsafe { others_expat(file.as_ptr(), file.len()) == 1 },
         });
         all.push(Contender {
             name: "libxml2 schema, tree",
-            reads_image: false,
+            takes: Input::File,
             is_unit: false,
             judge: |file| unsafe { others_tree(file.as_ptr(), file.len()) == 1 },
         });
         all.push(Contender {
             name: "libxml2 schema, stream",
-            reads_image: false,
+            takes: Input::File,
             is_unit: false,
             judge: |file| unsafe { others_stream(file.as_ptr(), file.len()) == 1 },
         });

@@ -3,9 +3,14 @@
 const LARGE: usize = independent::LIMIT;
 const SMALL: usize = 4096;
 
+/// The bytes of a long text with its tags.
+const LONG_LINE: usize = 153;
+
 pub struct File {
     pub name: String,
     pub text: Vec<u8>,
+    /// The same file with another name of the root.
+    pub foreign: Vec<u8>,
     pub image: Vec<u8>,
 }
 
@@ -33,10 +38,10 @@ pub fn all() -> Vec<File> {
     files
 }
 
-/// As many entries as fit into the size.
+/// As many entries as fit into the size, and, where texts are full ones, as many more of these in the last entry as fit.
 fn file(name: String, style: Style, size: usize) -> File {
     let mut entries = 0;
-    let mut text = statement(style, entries);
+    let mut text = statement(style, entries, 0);
     loop {
         // An entry's length changes by a few bytes with its number: go on until one more is too much.
         let more = statement_with_room(style, entries, size, text.len());
@@ -44,18 +49,26 @@ fn file(name: String, style: Style, size: usize) -> File {
             break;
         }
         entries = more;
-        text = statement(style, entries);
+        text = statement(style, entries, 0);
     }
+    if style.long_texts {
+        let mut extra = 0;
+        while text.len() + LONG_LINE <= size {
+            extra += 1;
+            text = statement(style, entries, extra);
+        }
+    }
+    let foreign = text.replace("Document", "Fragment").into_bytes();
     let text = text.into_bytes();
     let mut image = vec![0; independent::LIMIT];
     let answer = independent::check(&text, &mut image);
     assert_eq!(answer.code.number(), 0, "the made file {name} is refused: {answer:?}");
     image.truncate(answer.place);
-    File { name, text, image }
+    File { name, text, foreign, image }
 }
 
 fn statement_with_room(style: Style, entries: usize, size: usize, length: usize) -> usize {
-    let one = statement(style, entries + 1).len() - length;
+    let one = statement(style, entries + 1, 0).len() - length;
     let fit = (size - length) / (one + 8);
     if fit > 0 {
         entries + fit
@@ -66,7 +79,8 @@ fn statement_with_room(style: Style, entries: usize, size: usize, length: usize)
     }
 }
 
-fn statement(style: Style, entries: usize) -> String {
+/// A statement with so many entries, the last of them with some more long texts.
+fn statement(style: Style, entries: usize, extra: usize) -> String {
     let mut page =
         Page { text: String::from("<?xml version=\"1.0\" encoding=\"UTF-8\"?>"), level: 0, indented: style.indented };
     page.group("Document xmlns=\"urn:iso:std:iso:20022:tech:xsd:camt.053.001.08\"", |page| {
@@ -85,7 +99,9 @@ fn statement(style: Style, entries: usize) -> String {
                 balance(page, "OPBD", "8412.07");
                 balance(page, "CLBD", "12837.32");
                 for number in 1..=entries {
-                    entry(page, number, style.long_texts);
+                    let more = if number == entries { extra } else { 0 };
+                    let lines = if style.long_texts { 8 + more } else { 0 };
+                    entry(page, number, lines);
                 }
             });
         });
@@ -103,7 +119,7 @@ fn balance(page: &mut Page, code: &str, amount: &str) {
     });
 }
 
-fn entry(page: &mut Page, number: usize, long_texts: bool) {
+fn entry(page: &mut Page, number: usize, long_lines: usize) {
     let day = format!("2024-03-{:02}", number % 28 + 1);
     page.group("Ntry", |page| {
         page.leaf("Amt Ccy=\"EUR\"", &format!("{}.{:02}", 500 + number % 700, number % 100));
@@ -121,32 +137,23 @@ fn entry(page: &mut Page, number: usize, long_texts: bool) {
                 });
             });
         });
-        page.group("NtryDtls", |page| page.group("TxDtls", |page| details(page, number, long_texts)));
+        page.group("NtryDtls", |page| page.group("TxDtls", |page| details(page, number, long_lines)));
     });
 }
 
-fn details(page: &mut Page, number: usize, long_texts: bool) {
+fn details(page: &mut Page, number: usize, long_lines: usize) {
     page.group("Refs", |page| page.leaf("EndToEndId", &format!("L12/TOP{number:05}/2024-03")));
     page.group("RltdPties", |page| {
         page.group("Dbtr", |page| page.group("Pty", |page| page.leaf("Nm", "Huber &amp; S\u{f6}hne")));
         page.group("DbtrAcct", |page| page.group("Id", |page| page.leaf("IBAN", "AT072011128765432100")));
     });
     page.group("RmtInf", |page| {
-        if long_texts {
-            for line in 0..8 {
-                page.leaf(
-                    "Ustrd",
-                    &format!(
-                        "{line} {}",
-                        "Miete und Betriebskosten laut Vorschreibung der Hausverwaltung, Top 12, "
-                            .repeat(2)
-                            .get(..136)
-                            .unwrap()
-                    ),
-                );
-            }
-        } else {
+        if long_lines == 0 {
             page.leaf("Ustrd", &format!("Miete M\u{e4}rz 2024 Top {number}"));
+        }
+        for line in 0..long_lines {
+            let text = "Miete und Betriebskosten laut Vorschreibung der Hausverwaltung, Top 12, ".repeat(2);
+            page.leaf("Ustrd", &format!("{line:02} {}", &text[..135]));
         }
     });
 }

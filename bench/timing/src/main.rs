@@ -9,7 +9,7 @@ mod files;
 mod stack;
 
 use clock::Sample;
-use contenders::Contender;
+use contenders::{Contender, Input};
 use files::File;
 use std::{env, process::exit};
 
@@ -65,10 +65,10 @@ fn print_table(contenders: &[Contender], files: &[File], samples: &[Vec<Sample>]
         let check = row[0].median();
         for (contender, sample) in contenders.iter().zip(row) {
             let median = sample.median();
-            if contender.reads_image {
-                print!(" {median:.0} |");
-            } else {
+            if contender.takes == Input::File {
                 print!(" {median:.0} ({:.1}) |", check / median);
+            } else {
+                print!(" {median:.0} |");
             }
         }
         println!();
