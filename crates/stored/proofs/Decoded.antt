@@ -101,8 +101,11 @@ module _ (p : ℕ → Bool) (no : p 0 ≡ false) where
 
 -- ---- ASCII: one byte a character
 
+pub chars-low : (x : ℕ) (t : List ℕ) → x < 128 → chars (x ∷ t) ≡ x ∷ chars t
+unfolding charsFrom
+chars-low x t h = ap (λ (r : Char). r .code ∷ charsFrom (r .len - 1) t) (decoded-ascii x t h)
+
 pub chars-ascii : (t : List ℕ) → Each (λ x. x < 128) t → chars t ≡ t
 unfolding charsFrom
 chars-ascii [] h = refl
-chars-ascii (x ∷ t) h =
-    ap (λ (r : Char). r .code ∷ charsFrom (r .len - 1) t) (decoded-ascii x t (h .0)) ∙ ap (λ (l : List ℕ). x ∷ l) (chars-ascii t (h .1))
+chars-ascii (x ∷ t) h = chars-low x t (h .0) ∙ ap (λ (l : List ℕ). x ∷ l) (chars-ascii t (h .1))

@@ -11,7 +11,6 @@ use borrow.Author.Tests.{lt-ltb, ltb-true}
 use Rattle.text.specs.Lists.{Each, All, Any}
 use Rattle.text.proofs.Classes.{and-is, or-is}
 use Rattle.text.proofs.Numbers.{Byte}
-use Rattle.types.specs.Judged.{Exactly}
 use Rattle.stored.specs.Tests.{isByte, every, some}
 
 pub or-so : (a b : Bool) → b ≡ true → (a || b) ≡ true

@@ -2,11 +2,12 @@
 use mathlib.Core.Path.{_≡_, refl, sym, _∙_, ap, subst}
 use mathlib.Core.Bool.{Bool, true, false, _&&_, _||_, and-false, or-assoc, or-false}
 use mathlib.Core.List.{List, [], _∷_}
-use Prim.Native.Nat.{ℕ, _+_, _-_, _≤_, _<_}
+use Prim.Native.Nat.{ℕ, suc, _+_, _-_, _≤_, _<_}
 use native.Mathlib.Omega.{arith}
+use native.Mathlib.Numerals.{add-one}
 use lib.Dec.{leb}
-use lib.ListN.{length, drop, length-drop, drop-of-length-le}
-use lib.Seq.{drop-drop}
+use lib.ListN.{length, getD, drop, length-drop, drop-of-length-le}
+use lib.Seq.{drop-drop, drop-cons}
 use borrow.Author.Tests.{le-leb, lt-leb}
 use Rattle.text.specs.Lists.{All}
 use Rattle.text.specs.Utf8.{Scalar, encode}
@@ -22,7 +23,7 @@ use Rattle.stored.specs.Chars.{charsFrom, chars}
 use Rattle.stored.specs.Judges.{textFrom, isAsciiTxt, isWriting}
 use Rattle.stored.proofs.Listed.{every-all, all-every}
 use Rattle.stored.proofs.Classes.{ascii-low, ascii-txt}
-use Rattle.stored.proofs.Decoded.{chars-step, chars-first, chars-ascii, begun, begun-some}
+use Rattle.stored.proofs.Decoded.{chars-step, chars-first, chars-low, chars-ascii, begun, begun-some}
 
 zero-txt : isTxt 0 ≡ false
 unfolding isTxt
@@ -71,6 +72,26 @@ module _ (k : ℕ) (s : List ℕ) (i n : ℕ) (ink : Bool) (w : Reading k s i n 
 
     pub read-full : k ≤ n → false ≡ isWriting k s
     read-full f = let c = chars-first (drop i s) room in sym (ap (textFrom k n ink) (c .1) ∙ from-full k n ink (decoded (drop i s) .code) (c .0) f) ∙ w .here
+
+    -- a character of one byte
+    pub read-ascii : isAsciiTxt (getD s i 0) ≡ true → n < k → (next : Bool) → next ≡ (ink || notSpace (getD s i 0)) → Reading k s (i + 1) (n + 1) next
+    read-ascii e l next f =
+        record {
+          within = omega arith;
+          count = omega (arith, w .count);
+          most = omega arith;
+          here =
+              ap (λ (b : Bool). textFrom k (n + 1) b (chars (drop (i + 1) s))) f
+              ∙ sym (from-more k n ink (getD s i 0) (chars (drop (i + 1) s)) (ascii-txt (getD s i 0) e))
+              ∙ ap (textFrom k n ink) (sym step)
+              ∙ w .here;
+        }
+      where
+        step : chars (drop i s) ≡ getD s i 0 ∷ chars (drop (i + 1) s)
+        step =
+            ap chars (drop-cons s i 0 h)
+            ∙ chars-low (getD s i 0) (drop (suc i) s) (ascii-low (getD s i 0) e)
+            ∙ ap (λ (j : ℕ). getD s i 0 ∷ chars (drop j s)) (sym (add-one i))
 
     module _ (r : Char) (d : Decoded (drop i s) r) where
       same : r ≡ decoded (drop i s)

@@ -149,7 +149,13 @@ fn inks(ink: bool, c: u32) -> bool
     c != 32
 }
 
-// Character by character. Where none begins, `decode` finds the code 0, which no text has.
+fn wide(x: u8) -> u32
+    ensures { λ r. ⌜ r ≡ x ⌝ }
+{
+    x as u32
+}
+
+// Character by character, of which most are one byte. Where none begins, `decode` finds the code 0, which no text has.
 fn is_written(b: &[u8], k: usize) -> bool
     ensures { λ r. ⌜ r ≡ isWriting k (now (b .entry)) ⌝ }
 {
@@ -160,15 +166,22 @@ fn is_written(b: &[u8], k: usize) -> bool
         if k <= n {
             return false;
         }
-        let c = decode(b, i);
-        let len = c.len;
-        let code = c.code;
-        if !is_txt(code) {
-            return false;
+        let x = b[i];
+        if is_ascii_txt(x) {
+            i += 1;
+            n += 1;
+            ink = inks(ink, wide(x));
+        } else {
+            let c = decode(b, i);
+            let len = c.len;
+            let code = c.code;
+            if !is_txt(code) {
+                return false;
+            }
+            i += len;
+            n += 1;
+            ink = inks(ink, code);
         }
-        i += len;
-        n += 1;
-        ink = inks(ink, code);
     }
     ink
 }
