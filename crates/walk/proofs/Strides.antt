@@ -3,7 +3,7 @@ use mathlib.Core.Path.{_≡_, refl, sym, _∙_, ap, ap₂, subst}
 use mathlib.Core.Bool.{Bool, true, false, cond, _&&_, not}
 use mathlib.Core.List.{List}
 use mathlib.Core.Logic.{_≢_}
-use Prim.Native.Nat.{ℕ, _+_, _-_, _≤_, _<_, min}
+use Prim.Native.Nat.{ℕ, zero, suc, _+_, _-_, _≤_, _<_, min}
 use native.Mathlib.Nat.{min-eq-left}
 use native.Mathlib.Omega.{arith}
 use lib.Dec.{eqb, ltb}
@@ -33,26 +33,22 @@ use Rattle.walk.specs.Stride.{isCurrency, named, ownIn, spaceIn, inkBefo
 
 -- ---- a kind by its number
 
-pub close-by : (k : Kind) (n : ℕ) → n ≡ numberOf k → n ≡ 2 → k ≡ Close
-unfolding numberOf
-close-by Open n e f = absurd (omega arith)
-close-by Empty n e f = absurd (omega arith)
-close-by Close n e f = refl
-close-by End n e f = absurd (omega arith)
+abbrev kindAt : ℕ → Kind
+kindAt zero = Open
+kindAt (suc zero) = Empty
+kindAt (suc (suc zero)) = Close
+kindAt (suc (suc (suc n))) = End
 
-pub end-by : (k : Kind) (n : ℕ) → n ≡ numberOf k → n ≡ 3 → k ≡ End
+kind-back : (k : Kind) → kindAt (numberOf k) ≡ k
 unfolding numberOf
-end-by Open n e f = absurd (omega arith)
-end-by Empty n e f = absurd (omega arith)
-end-by Close n e f = absurd (omega arith)
-end-by End n e f = refl
+kind-back Open = refl
+kind-back Empty = refl
+kind-back Close = refl
+kind-back End = refl
 
-pub empty-by : (k : Kind) (n : ℕ) → n ≡ numberOf k → n ≡ 1 → k ≡ Empty
-unfolding numberOf
-empty-by Open n e f = absurd (omega arith)
-empty-by Empty n e f = refl
-empty-by Close n e f = absurd (omega arith)
-empty-by End n e f = absurd (omega arith)
+-- no two have one number
+pub kind-by : (k q : Kind) (n : ℕ) → n ≡ numberOf k → n ≡ numberOf q → k ≡ q
+kind-by k q n e f = sym (kind-back k) ∙ ap kindAt (sym e ∙ f) ∙ kind-back q
 
 -- a number that is none of the others'
 pub open-by : (k : Kind) (n : ℕ) → n ≡ numberOf k → n ≢ 2 → n ≢ 3 → n ≢ 1 → k ≡ Open

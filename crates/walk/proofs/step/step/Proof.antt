@@ -3,7 +3,9 @@ use borrow.Author.Needs.{needs}
 use Rattle.walk.proofs.step.step.Statement.{statement}
 use Rattle.walk.proofs.step.step.Tie as tie
 use native.Mathlib.Omega.{arith}
-use Rattle.walk.proofs.Strides.{group-is, token-from, ink-from, close-by, end-by, empty-by, open-by, step-ink, step-close, step-end, step-open, step-empty}
+use Rattle.tags.specs.declared.token.Kind.the-variants.{Empty, Close, End}
+use Rattle.walk.specs.Stride.{numberOf}
+use Rattle.walk.proofs.Strides.{group-is, token-from, ink-from, kind-by, open-by, step-ink, step-close, step-end, step-open, step-empty}
 
 cell-requires : tie.Need-cell-requires
 cell-requires c κs = search needs
@@ -40,6 +42,7 @@ closed-requires : tie.Need-closed-requires
 closed-requires c κs = search needs
 
 returns-2 : tie.Need-returns-2
+unfolding numberOf
 returns-2 c =
     let i = c .before .before .before .before .before in
     let n = i .before in
@@ -47,13 +50,14 @@ returns-2 c =
     let d = group-is _ _ _ _ (x .before .before .cell .ensures) (x .before .is-group .ensures) in
     let k = token-from _ _ _ _ _ (x .text-from .ensures) (n .next .ensures) in
     let f = ink-from _ _ _ _ _ (x .text-from .ensures) (n .next .ensures) _ _ _ d (i .ink .ensures) in
-    let q = close-by _ _ (c .before .before .before .number .ensures) (c .before .before .if2 .taken) in
+    let q = kind-by _ Close _ (c .before .before .before .number .ensures) (c .before .before .if2 .taken) in
     step-close _ _ _ _ _ _ k _ f (omega (arith, c .before .before .before .before .if1 .left)) _ _ q d (c .closed .ensures)
 
 refused-requires-2 : tie.Need-refused-requires-2
 refused-requires-2 c κs = search needs
 
 returns-3 : tie.Need-returns-3
+unfolding numberOf
 returns-3 c =
     let i = c .before .before .before .before .before in
     let n = i .before in
@@ -61,7 +65,7 @@ returns-3 c =
     let d = group-is _ _ _ _ (x .before .before .cell .ensures) (x .before .is-group .ensures) in
     let k = token-from _ _ _ _ _ (x .text-from .ensures) (n .next .ensures) in
     let f = ink-from _ _ _ _ _ (x .text-from .ensures) (n .next .ensures) _ _ _ d (i .ink .ensures) in
-    let q = end-by _ _ (c .before .before .before .number .ensures) (c .before .if3 .taken) in
+    let q = kind-by _ End _ (c .before .before .before .number .ensures) (c .before .if3 .taken) in
     step-end _ _ _ _ _ _ k _ f (omega (arith, c .before .before .before .before .if1 .left)) _ q (c .refused2 .ensures)
 
 row-of-requires : tie.Need-row-of-requires
@@ -74,6 +78,7 @@ vacant-requires : tie.Need-vacant-requires
 vacant-requires c κs = search needs
 
 returns-4 : tie.Need-returns-4
+unfolding numberOf
 returns-4 c =
     let i = c .before .before .before .before .before .before .before .before .before in
     let n = i .before in
@@ -81,7 +86,7 @@ returns-4 c =
     let d = group-is _ _ _ _ (x .before .before .cell .ensures) (x .before .is-group .ensures) in
     let k = token-from _ _ _ _ _ (x .text-from .ensures) (n .next .ensures) in
     let f = ink-from _ _ _ _ _ (x .text-from .ensures) (n .next .ensures) _ _ _ d (i .ink .ensures) in
-    let q = empty-by _ _ (c .before .before .before .before .before .before .before .number .ensures) (c .before .if4 .taken) in
+    let q = kind-by _ Empty _ (c .before .before .before .before .before .before .before .number .ensures) (c .before .if4 .taken) in
     step-empty _ _ _ _ _ _ k _ f (omega (arith, c .before .before .before .before .before .before .before .before .if1 .left)) _ _ (c .before .before .before .row-of .ensures) (c .before .before .own .ensures) _ q (c .vacant .ensures)
 
 entered-requires : tie.Need-entered-requires
