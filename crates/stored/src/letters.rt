@@ -1,8 +1,8 @@
 // REF and TXTk: the bytes of their characters.
 
+use chars::utf8::decode;
 use text::class::is_digit;
 use text::class::is_letter;
-use text::utf8::decode;
 ghost use mathlib.Core.Path.{_≡_};
 ghost use mathlib.Core.Bool.{true, _&&_, _||_};
 ghost use Prim.Native.Nat.{_≤_, _<_};

@@ -9,15 +9,15 @@ use native.Mathlib.Decide.{decLt}
 use lib.ListN.{length, drop, drop-of-length-le, length-append}
 use lib.Seq.{drop-drop}
 use borrow.Author.Tests.{lt-ltb, le-ltb}
-use Rattle.text.specs.Utf8.{encode, encodeAll}
-use Rattle.text.specs.Pieces.{Piece, char, entity, amp, lt, gt, quot, apos, spell, resolved, Spells}
-use Rattle.text.specs.Passing.{Passes}
-use Rattle.text.specs.Chars.{NextChar}
-use Rattle.text.specs.declared.utf8.Char.{Char}
-use Rattle.text.proofs.Spelling as spelling
+use Rattle.chars.specs.Utf8.{encode, encodeAll}
+use Rattle.chars.specs.Pieces.{Piece, char, entity, amp, lt, gt, quot, apos, spell, resolved, Spells}
+use Rattle.chars.specs.Passing.{Passes}
+use Rattle.chars.specs.Chars.{NextChar}
+use Rattle.chars.specs.declared.utf8.Char.{Char}
+use Rattle.chars.proofs.Spelling as spelling
 use Rattle.types.specs.Texts.{Spelled, spelled, widthOf}
 use Rattle.types.specs.declared.judged.Judged.the-variants as J
-use Rattle.text.proofs.Decoding.{encode1}
+use Rattle.chars.proofs.Decoding.{encode1}
 
 pub width-one : (len code : ℕ) → code < 128 → widthOf len code ≡ 1
 unfolding widthOf

@@ -10,15 +10,15 @@ use lib.Dec.{ltb, eqb}
 use lib.ListN.{length, drop, length-drop}
 use borrow.Author.Tests.{lt-ltb, le-ltb, ltb-true, eqb-true}
 use Rattle.text.specs.Lists.{All, Any}
-use Rattle.text.specs.Pieces.{GoodPiece, spell, resolved}
-use Rattle.text.specs.Chars.{First, NextChar}
-use Rattle.text.specs.Passing.{Passes}
-use Rattle.text.specs.Resolving.{charAt}
-use Rattle.text.specs.declared.utf8.Char.{Char}
+use Rattle.chars.specs.Pieces.{GoodPiece, spell, resolved}
+use Rattle.chars.specs.Chars.{First, NextChar}
+use Rattle.chars.specs.Passing.{Passes}
+use Rattle.chars.specs.Resolving.{charAt}
+use Rattle.chars.specs.declared.utf8.Char.{Char}
 use Rattle.text.proofs.Classes.{and-is, or-is}
-use Rattle.text.proofs.Chars as chars
-use Rattle.text.proofs.Resolving.{next-is}
-use Rattle.text.proofs.Spelling as spelling
+use Rattle.chars.proofs.Chars as chars
+use Rattle.chars.proofs.Resolving.{next-is}
+use Rattle.chars.proofs.Spelling as spelling
 use Rattle.types.specs.Text.{notSpace, Txt, Ref}
 use Rattle.types.specs.Texts.{classOf, textFrom, textOf}
 

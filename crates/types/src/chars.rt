@@ -2,7 +2,7 @@
 // each of which is a character of the class by itself: these are counted at once.
 
 use crate::judged::Judged;
-use text::piece::next_char;
+use chars::piece::next_char;
 ghost use mathlib.Core.Path.{_≡_};
 ghost use mathlib.Core.Bool.{cond, _&&_, _||_};
 ghost use Prim.Native.Nat.{_+_};

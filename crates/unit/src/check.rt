@@ -2,11 +2,11 @@
 use crate::pass::fill;
 use crate::pass::measure;
 use answer::Answer;
+use chars::utf8::utf8_end;
 use list::house::pool;
 use list::house::rows;
 use scan::Scanned;
 use scan::scan;
-use text::utf8::utf8_end;
 ghost use mathlib.Core.Path.{_≡_};
 ghost use Rattle.answer.specs.Table.{answer};
 ghost use Rattle.demands.specs.Checks.{Checks};

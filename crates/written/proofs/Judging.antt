@@ -10,11 +10,11 @@ use lib.Dec.{eqb}
 use lib.ListN.{length}
 use borrow.Author.Tests.{eqb-true, eqb-false}
 use Rattle.text.specs.Lists.{Each}
-use Rattle.text.specs.Utf8.{encodeAll}
+use Rattle.chars.specs.Utf8.{encodeAll}
 use Rattle.text.specs.Pasting.{pasted}
-use Rattle.text.specs.Pieces.{Spells}
+use Rattle.chars.specs.Pieces.{Spells}
 use Rattle.text.proofs.Pasting.{pasted-none}
-use Rattle.text.proofs.Spelling.{one-text}
+use Rattle.chars.proofs.Spelling.{one-text}
 use Rattle.list.specs.Listing.{Leaf, ref, iban, ccy, bool, num, amt, date, dtm, txt, enum}
 use Rattle.types.specs.Code.{Ccy}
 use Rattle.types.specs.Kind.{code, Given}

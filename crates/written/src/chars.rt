@@ -1,9 +1,9 @@
 // The characters of a raw text, entities resolved: the bytes between two entities are copied as they stand.
 
 use crate::place::place;
+use chars::piece::next_char;
 use text::number::copy;
 use text::part::part_len;
-use text::piece::next_char;
 ghost use mathlib.Core.Path.{_≡_};
 ghost use Prim.Native.Nat.{_+_};
 ghost use lib.ListN.{drop};

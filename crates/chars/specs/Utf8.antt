@@ -1,0 +1,36 @@
+-- UTF-8: the encodings of scalar values, one after the other (RFC 3629). Assumes nothing.
+use mathlib.Core.Path.{_≡_}
+use mathlib.Core.Bool.{cond}
+use mathlib.Core.List.{List, [], _∷_, _++_}
+use Prim.Native.Nat.{ℕ, _+_, _/_, _%_, _≤_, _<_}
+use lib.Dec.{ltb}
+use lib.ListN.{length, take}
+use Rattle.text.specs.Lists.{Each}
+
+-- a scalar value: a code point that is no surrogate
+pub record Scalar (c : ℕ) : Type 0 where
+  pub below : c < 0x110000
+  pub outside : 0xD800 ≤ c → c ≤ 0xDFFF → ⊥
+
+-- its bytes, in the shortest form
+unfoldable pub encode : ℕ → List ℕ
+encode c =
+    cond (ltb c 0x80) (c ∷ [])
+    (cond (ltb c 0x800) ((0xC0 + c / 64) ∷ (0x80 + c % 64) ∷ [])
+    (cond (ltb c 0x10000) ((0xE0 + c / 4096) ∷ (0x80 + c / 64 % 64) ∷ (0x80 + c % 64) ∷ [])
+    ((0xF0 + c / 262144) ∷ (0x80 + c / 4096 % 64) ∷ (0x80 + c / 64 % 64) ∷ (0x80 + c % 64) ∷ [])))
+
+abbrev pub encodeAll : List ℕ → List ℕ
+encodeAll [] = []
+encodeAll (c ∷ cs) = encode c ++ encodeAll cs
+
+pub record Utf8 (s : List ℕ) : Type 0 where
+  pub chars : List ℕ
+  pub scalars : Each Scalar chars
+  pub is : s ≡ encodeAll chars
+
+-- the longest beginning that is UTF-8: behind it stands the "start of first bad sequence"
+pub record LongestUtf8 (s : List ℕ) (n : ℕ) : Type 0 where
+  pub within : n ≤ length s
+  pub begins : Utf8 (take n s)
+  pub most : (k : ℕ) → k ≤ length s → Utf8 (take k s) → k ≤ n
