@@ -1,15 +1,21 @@
 -- A mirror: how a character of UTF-8 is decoded, by its first byte. Assumes nothing.
+use mathlib.Core.Path.{_≡_}
 use mathlib.Core.Bool.{Bool, cond, _&&_, _||_}
 use mathlib.Core.List.{List, [], _∷_}
 use Prim.Native.Nat.{ℕ, _+_, _*_, _%_}
 use lib.Dec.{ltb, leb}
-use lib.ListN.{getD}
+use lib.ListN.{drop, getD}
 use Rattle.text.specs.Bytes.{inRange}
+use Rattle.text.specs.Lists.{span}
 use Rattle.chars.specs.Chars.{charOf}
 use Rattle.chars.specs.declared.utf8.Char.{Char}
 
 unfoldable pub isAscii : ℕ → Bool
 isAscii x = ltb x 0x80
+
+-- the n bytes at a place are ASCII: the run from there is the run behind them
+unfoldable pub AsciiOver : ℕ → List ℕ → ℕ → Type 0
+AsciiOver n s at = at + n + span isAscii (drop (at + n) s) ≡ at + span isAscii (drop at s)
 
 -- a byte of a sequence that is not its first
 unfoldable pub isTail : ℕ → Bool

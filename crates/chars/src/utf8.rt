@@ -2,9 +2,9 @@
 
 ghost use mathlib.Core.Path.{_≡_};
 ghost use Prim.Native.Nat.{_+_, _/_, _≤_};
-ghost use lib.ListN.{drop, getD};
+ghost use lib.ListN.{length, drop, getD};
 ghost use Rattle.chars.specs.Chars.{charOf, Decoded};
-ghost use Rattle.chars.specs.Decoding.{isAscii, isTail, isScalar, kept, two, three, four};
+ghost use Rattle.chars.specs.Decoding.{isAscii, AsciiOver, isTail, isScalar, kept, two, three, four};
 ghost use Rattle.text.specs.Lists.{span};
 ghost use Rattle.chars.specs.Utf8.{LongestUtf8};
 
@@ -148,6 +148,14 @@ fn top_bit(b: u8) -> u8
     b / 128
 }
 
+// How many of the four bytes at a place are no ASCII.
+fn marked(s: &[u8], at: usize) -> u8
+    requires { ⌜ at + 4 ≤ length (now s) ⌝ }
+    ensures { λ r. ⌜ (r ≤ 4) × (r ≡ 0 → AsciiOver 4 (now (s .entry)) at) ⌝ }
+{
+    top_bit(s[at]) + top_bit(s[at + 1]) + top_bit(s[at + 2]) + top_bit(s[at + 3])
+}
+
 // As far as eight bytes of ASCII follow, and eight more: eight loads and one test, which become one load and one test.
 fn ascii_eights(s: &[u8], at: usize) -> usize
     ensures { λ r. ⌜ r + span isAscii (drop r (now (s .entry))) ≡ at + span isAscii (drop at (now (s .entry))) ⌝ }
@@ -157,9 +165,7 @@ fn ascii_eights(s: &[u8], at: usize) -> usize
         if s.len() - i < 8 {
             return i;
         }
-        let low = top_bit(s[i]) + top_bit(s[i + 1]) + top_bit(s[i + 2]) + top_bit(s[i + 3]);
-        let high = top_bit(s[i + 4]) + top_bit(s[i + 5]) + top_bit(s[i + 6]) + top_bit(s[i + 7]);
-        if low + high != 0 {
+        if marked(s, i) + marked(s, i + 4) != 0 {
             return i;
         }
         i += 8;
