@@ -7,8 +7,8 @@ use native.Mathlib.Omega.{arith}
 use lib.ListN.{length, drop}
 use Rattle.answer.specs.declared.Answer.{Answer}
 use Rattle.answer.specs.Table.{answer, accepted, limit, tooLong, notUtf8, notHouseXml, noRoom}
-use Rattle.chars.specs.Utf8.{Utf8, LongestUtf8}
-use Rattle.chars.proofs.Longest.{longest-utf8-one}
+use Rattle.characters.specs.Utf8.{Utf8, LongestUtf8}
+use Rattle.characters.proofs.Longest.{longest-utf8-one}
 use Rattle.list.specs.Listing.{Listing}
 use Rattle.list.specs.WellFormed.{WellFormed}
 use Rattle.list.specs.Content.{Content, Meets}

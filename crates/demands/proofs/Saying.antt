@@ -6,8 +6,8 @@ use native.Mathlib.Omega.{arith}
 use lib.ListN.{length}
 use Rattle.answer.specs.declared.Answer.{Answer}
 use Rattle.answer.specs.Table.{limit, tooLong, notUtf8}
-use Rattle.chars.specs.Utf8.{Utf8, LongestUtf8}
-use Rattle.chars.proofs.Longest.{utf8-whole, whole-utf8}
+use Rattle.characters.specs.Utf8.{Utf8, LongestUtf8}
+use Rattle.characters.proofs.Longest.{utf8-whole, whole-utf8}
 use Rattle.list.specs.Listing.{Listing}
 use Rattle.demands.specs.Instance.{Kinds}
 use Rattle.demands.specs.Checks.{Answers, long, bytes}

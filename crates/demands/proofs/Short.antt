@@ -8,9 +8,9 @@ use native.Mathlib.Omega.{arith}
 use lib.ListN.{length, length-append}
 use Rattle.text.specs.Bytes.{ascii, isNameStart, isNamePart}
 use Rattle.text.specs.Lists.{Begins, same}
-use Rattle.chars.specs.Pieces.{less, greater, solidus, equal, Piece, spell, resolved, resolvedAll, spells, Spells}
+use Rattle.characters.specs.Pieces.{less, greater, solidus, equal, Piece, spell, resolved, resolvedAll, spells, Spells}
 use Rattle.text.proofs.Classes.{and-is}
-use Rattle.chars.proofs.Spelling.{spells-none}
+use Rattle.characters.proofs.Spelling.{spells-none}
 use Rattle.list.specs.Listing.{Leaf, ref, iban, ccy, bool, num, amt, date, dtm, txt, enum, Kind, group, choice, leaf, Listing, rowAt, Child}
 use Rattle.list.specs.WellFormed.{LeafOk, KindOk, WellFormed}
 use Rattle.list.specs.Content.{Content, end, value, node, items}

@@ -9,9 +9,9 @@ use native.Mathlib.Decide.{decLt}
 use lib.ListN.{length, take, drop, length-drop}
 use Rattle.answer.specs.declared.Answer.{Answer}
 use Rattle.answer.specs.Table.{answer, accepted, limit, tooLong, notUtf8, notHouseXml, noRoom}
-use Rattle.chars.specs.Utf8.{LongestUtf8}
-use Rattle.chars.specs.Decoding.{decoded}
-use Rattle.chars.proofs.Longest.{stop, more}
+use Rattle.characters.specs.Utf8.{LongestUtf8}
+use Rattle.characters.specs.Decoding.{decoded}
+use Rattle.characters.proofs.Longest.{stop, more}
 use Rattle.list.specs.Listing.{Listing}
 use Rattle.list.specs.WellFormed.{WellFormed}
 use Rattle.list.specs.Content.{Content}

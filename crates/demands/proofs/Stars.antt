@@ -13,8 +13,8 @@ use Rattle.answer.specs.Table.{answer, accepted, limit, notHouseXml, noRoom}
 use Rattle.text.specs.Bytes.{ascii, isBlank, isCapital, isDigit, isLetter, isNameStart, isNamePart}
 use Rattle.text.specs.Lists.{Each, same}
 use Rattle.text.specs.Numbers.{bigEndian}
-use Rattle.chars.specs.Utf8.{encode}
-use Rattle.chars.specs.Pieces.{Piece, char}
+use Rattle.characters.specs.Utf8.{encode}
+use Rattle.characters.specs.Pieces.{Piece, char}
 use Rattle.text.proofs.Classes.{and-is}
 use Rattle.list.specs.Words.{firstFrom}
 use Rattle.list.specs.Listing.{rowAt, child, nextDue}

@@ -10,8 +10,8 @@ use lib.ListN.{length}
 use borrow.Author.Tests.{eq-eqb, leb-true, ltb-true, lt-ltb, not-true}
 use Rattle.text.specs.Bytes.{isBlank, isNameStart, isNamePart, inRange}
 use Rattle.text.specs.Lists.{Each, All, Begins}
-use Rattle.chars.specs.Utf8.{Scalar, encode, encodeAll, Utf8}
-use Rattle.chars.specs.Pieces.{less, ampersand, XmlChar, low, Piece, char, entity, GoodPiece}
+use Rattle.characters.specs.Utf8.{Scalar, encode, encodeAll, Utf8}
+use Rattle.characters.specs.Pieces.{less, ampersand, XmlChar, low, Piece, char, entity, GoodPiece}
 use Rattle.text.proofs.Classes.{and-is}
 use Rattle.list.specs.Test.{every, begins}
 use Rattle.list.proofs.Tests.{clash}

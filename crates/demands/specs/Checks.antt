@@ -5,7 +5,7 @@ use Prim.Native.Nat.{ℕ, _≤_, _<_}
 use lib.ListN.{length, drop}
 use Rattle.answer.specs.declared.Answer.{Answer}
 use Rattle.answer.specs.Table.{answer, accepted, limit, tooLong, notUtf8, notHouseXml, noRoom}
-use Rattle.chars.specs.Utf8.{Utf8, LongestUtf8}
+use Rattle.characters.specs.Utf8.{Utf8, LongestUtf8}
 use Rattle.list.specs.Listing.{Listing}
 use Rattle.list.specs.House.{house}
 use Rattle.list.specs.Content.{Content}

@@ -4,7 +4,7 @@ use mathlib.Core.List.{List}
 use Prim.Native.Nat.{ℕ, _≤_}
 use lib.ListN.{length}
 use Rattle.answer.specs.Table.{limit}
-use Rattle.chars.specs.Utf8.{Utf8}
+use Rattle.characters.specs.Utf8.{Utf8}
 use Rattle.list.specs.Listing.{Listing}
 use Rattle.list.specs.Content.{Content, Meets}
 use Rattle.xml.specs.House.{HouseXml}

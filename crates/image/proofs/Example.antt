@@ -11,8 +11,8 @@ use Rattle.answer.specs.declared.Answer.{Answer}
 use Rattle.answer.specs.Table.{limit, accepted, brokenImage, picked}
 use Rattle.text.specs.Bytes.{isCapital}
 use Rattle.text.specs.Numbers.{bigEndian, numberFrom}
-use Rattle.chars.specs.Decoding.{decoded}
-use Rattle.chars.specs.Utf8.{encode}
+use Rattle.characters.specs.Decoding.{decoded}
+use Rattle.characters.specs.Utf8.{encode}
 use Rattle.list.specs.Listing.{rowAt}
 use Rattle.list.specs.Table.{cell}
 use Rattle.list.specs.House.{house}

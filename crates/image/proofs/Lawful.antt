@@ -5,7 +5,7 @@ use Prim.Native.Nat.{ℕ, _+_, _≤_}
 use native.Mathlib.Omega.{arith}
 use lib.ListN.{length, length-append}
 use Rattle.text.specs.Numbers.{bigEndian}
-use Rattle.chars.specs.Utf8.{encodeAll}
+use Rattle.characters.specs.Utf8.{encodeAll}
 use Rattle.list.specs.Listing.{Leaf, ref, iban, ccy, bool, num, amt, date, dtm, txt, enum}
 use Rattle.types.specs.Value.{Value, text, IsValue, reference, writing, account, currency, bytes}
 use Rattle.types.proofs.Values.{value-laws}

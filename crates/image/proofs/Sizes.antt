@@ -5,7 +5,7 @@ use mathlib.Core.List.{List, [], _∷_, _++_}
 use Prim.Native.Nat.{ℕ, _+_}
 use lib.ListN.{length}
 use Rattle.text.specs.Numbers.{bigEndian}
-use Rattle.chars.specs.Utf8.{encodeAll}
+use Rattle.characters.specs.Utf8.{encodeAll}
 use Rattle.list.specs.Listing.{amt}
 use Rattle.types.proofs.Values.{text-bytes, money-bytes, day-bytes, moment-bytes}
 use Rattle.types.specs.Value.{Value, text, place, truth, natural, amount, day, moment, IsValue, money, bytes}

@@ -8,7 +8,7 @@ use Rattle.list.specs.Listing.{rowAt, nextDue}
 use Rattle.list.specs.WellFormed.{WellFormed}
 use Rattle.list.specs.Table.{cell, words, rowOf, rowsFrom, rulesFrom, listOf}
 use Rattle.list.specs.Sound.{nextChild, firstOf, secondOf, levelIn, Sound}
-use Rattle.chars.specs.Pieces.{isUnmarked}
+use Rattle.characters.specs.Pieces.{isUnmarked}
 use Rattle.list.specs.Test.{every, begins, among, wordsOk, rowTests, ruleTests, derivedTests, well, derived, sound}
 use Rattle.list.specs.House.{house}
 use Rattle.list.specs.HouseTable.{houseRows, housePool}

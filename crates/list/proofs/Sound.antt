@@ -17,7 +17,7 @@ use Rattle.list.specs.Listing.{Leaf, ref, iban, ccy, bool, num, amt, dat
 use Rattle.list.specs.WellFormed.{Fresh, Different, LeafOk, KindOk, BothOk, RuleOk, WellFormed}
 use Rattle.list.specs.Table.{listOf}
 use Rattle.list.specs.Sound.{nextChild, Derived, Sound}
-use Rattle.chars.specs.Pieces.{isUnmarked}
+use Rattle.characters.specs.Pieces.{isUnmarked}
 use Rattle.list.specs.Test.{allOf, each, every, begins, among, wordsOk, leafOk, kindOk, isSequence, isAlternative, isOne, isOptional, countFits, isChild, rowTests, ruleTests, rulesOk, listTests, derivedTests, well, derived, sound}
 use Rattle.list.proofs.Tests.{clash, passed}
 use Rattle.list.proofs.Words.{same-of, firstFrom-none}

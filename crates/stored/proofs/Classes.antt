@@ -6,7 +6,7 @@ use Prim.Native.Nat.{ℕ, _≤_, _<_}
 use native.Mathlib.Omega.{arith}
 use native.Mathlib.Decide.{decLt}
 use Rattle.text.specs.Bytes.{isLetter, isDigit}
-use Rattle.chars.specs.Utf8.{Scalar}
+use Rattle.characters.specs.Utf8.{Scalar}
 use Rattle.text.proofs.Classes.{Named, only, from, _or_, letter, digit, yes, is-in, yes-in, not-so, Within}
 use Rattle.types.specs.Text.{isTxt, isRef}
 use Rattle.types.proofs.Named.{reference, writing}

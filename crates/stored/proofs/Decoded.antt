@@ -8,13 +8,13 @@ use native.Mathlib.Omega.{arith}
 use lib.ListN.{length, drop, length-drop, length-append}
 use lib.Seq.{drop-append-seam}
 use Rattle.text.specs.Lists.{Each, All}
-use Rattle.chars.specs.Utf8.{Scalar, encode, encodeAll}
-use Rattle.chars.specs.Chars.{charOf, Begun}
-use Rattle.chars.specs.Decoding.{decoded}
-use Rattle.chars.specs.declared.utf8.Char.{Char}
+use Rattle.characters.specs.Utf8.{Scalar, encode, encodeAll}
+use Rattle.characters.specs.Chars.{charOf, Begun}
+use Rattle.characters.specs.Decoding.{decoded}
+use Rattle.characters.specs.declared.utf8.Char.{Char}
 use Rattle.text.proofs.Numbers.{Byte}
-use Rattle.chars.proofs.Chars.{rest-is, begun-code}
-use Rattle.chars.proofs.Decoding.{complete, sound, by-length, encode-some, decoded-ascii}
+use Rattle.characters.proofs.Chars.{rest-is, begun-code}
+use Rattle.characters.proofs.Decoding.{complete, sound, by-length, encode-some, decoded-ascii}
 use Rattle.types.proofs.Classes.{each-append}
 use Rattle.stored.specs.Chars.{charsFrom, chars}
 

@@ -11,7 +11,7 @@ use borrow.Author.Tests.{leb-true, le-leb}
 use Rattle.text.specs.Bytes.{isCapital, isDigit}
 use Rattle.text.specs.Lists.{Each, Any}
 use Rattle.text.specs.Numbers.{bigEndian, number}
-use Rattle.chars.specs.Utf8.{Scalar, encodeAll}
+use Rattle.characters.specs.Utf8.{Scalar, encodeAll}
 use Rattle.text.proofs.Classes.{and-is}
 use Rattle.text.proofs.Numbers.{Byte, number-big, big-length, big-bytes}
 use Rattle.list.specs.Listing.{Leaf, ref, txt, iban, ccy}
@@ -20,7 +20,7 @@ use Rattle.types.specs.Code.{Iban, Ccy, isLetterOrDigit}
 use Rattle.types.specs.Value.{Value, text, IsValue}
 use Rattle.types.proofs.Classes.{each-all, each-map, each-append, digit-range, capital-range, solid-either}
 use Rattle.types.proofs.Encoding.{encoded-most}
-use Rattle.chars.proofs.Decoding.{encode1}
+use Rattle.characters.proofs.Decoding.{encode1}
 use Rattle.stored.specs.Tests.{every, some, apart}
 use Rattle.stored.specs.Chars.{chars}
 use Rattle.stored.specs.Judges.{textFrom, isReference, isWriting, isAccount, isCurrency}

@@ -10,12 +10,12 @@ use lib.ListN.{length, getD, drop, length-drop, drop-of-length-le}
 use lib.Seq.{drop-drop, drop-cons}
 use borrow.Author.Tests.{le-leb, lt-leb}
 use Rattle.text.specs.Lists.{All}
-use Rattle.chars.specs.Utf8.{Scalar, encode}
-use Rattle.chars.specs.Chars.{Decoded}
-use Rattle.chars.specs.Decoding.{decoded}
-use Rattle.chars.specs.declared.utf8.Char.{Char}
-use Rattle.chars.proofs.Chars.{begun-within}
-use Rattle.chars.proofs.Decoding.{decoded-one}
+use Rattle.characters.specs.Utf8.{Scalar, encode}
+use Rattle.characters.specs.Chars.{Decoded}
+use Rattle.characters.specs.Decoding.{decoded}
+use Rattle.characters.specs.declared.utf8.Char.{Char}
+use Rattle.characters.proofs.Chars.{begun-within}
+use Rattle.characters.proofs.Decoding.{decoded-one}
 use Rattle.types.specs.Text.{isTxt, notSpace}
 use Rattle.types.proofs.Classes.{each-all}
 use Rattle.stored.specs.Tests.{every, some}

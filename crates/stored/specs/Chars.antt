@@ -1,7 +1,7 @@
 -- A mirror: bytes as the characters that they encode. Assumes nothing.
 use mathlib.Core.List.{List, [], _∷_}
 use Prim.Native.Nat.{ℕ, zero, suc, _-_}
-use Rattle.chars.specs.Decoding.{decoded}
+use Rattle.characters.specs.Decoding.{decoded}
 
 -- the characters behind the first k bytes; where none begins, there is a 0, which no class has
 unfoldable pub charsFrom : ℕ → List ℕ → List ℕ

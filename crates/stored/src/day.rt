@@ -1,8 +1,8 @@
 // DATE: a real day.
 
 use crate::plain::byte;
+use dates::day::month_days;
 use text::number::get16;
-use types::day::month_days;
 ghost use mathlib.Core.Path.{_≡_};
 ghost use Rattle.types.specs.Day.{isReal};
 ghost use Rattle.stored.specs.Judges.{isDay};

@@ -1,6 +1,6 @@
 // REF and TXTk: the bytes of their characters.
 
-use chars::utf8::decode;
+use characters::utf8::decode;
 use text::class::is_digit;
 use text::class::is_letter;
 ghost use mathlib.Core.Path.{_≡_};

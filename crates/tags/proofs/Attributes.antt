@@ -10,7 +10,7 @@ use lib.Seq.{drop-append-seam}
 use borrow.Author.Tests.{eqb-false, eq-eqb, ne-eqb}
 use Rattle.text.specs.Bytes.{inRange, isBlank, isNamePart, isNameStart}
 use Rattle.text.specs.Lists.{All, span}
-use Rattle.chars.specs.Pieces.{Piece, spells}
+use Rattle.characters.specs.Pieces.{Piece, spells}
 use Rattle.text.proofs.Classes.{not-so}
 use Rattle.text.proofs.Spans.{span-le, span-of}
 use Rattle.xml.specs.House.{Blanks, SomeBlanks, IsName, Quote, single, double, mark, GoodValue, Attr, attr, attrs, GoodAttr, GoodAttrs}

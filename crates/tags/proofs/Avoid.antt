@@ -6,10 +6,10 @@ use mathlib.Core.List.{List, [], _∷_}
 use Prim.Native.Nat.{ℕ, _≤_, _<_}
 use native.Mathlib.Omega.{arith}
 use Rattle.text.specs.Lists.{All, Each}
-use Rattle.chars.specs.Utf8.{encode}
-use Rattle.chars.specs.Pieces.{less, Entity, amp, lt, gt, quot, apos, word, Piece, char, entity, spell, spells, GoodPiece}
+use Rattle.characters.specs.Utf8.{encode}
+use Rattle.characters.specs.Pieces.{less, Entity, amp, lt, gt, quot, apos, word, Piece, char, entity, spell, spells, GoodPiece}
 use Rattle.text.proofs.Classes.{and-is}
-use Rattle.chars.proofs.Decoding.{by-length}
+use Rattle.characters.proofs.Decoding.{by-length}
 use Rattle.xml.specs.House.{Quote, single, double, mark, GoodValue}
 use Rattle.tags.specs.Passing.{but}
 use Rattle.tags.proofs.Passing.{all-append, but-other}

@@ -7,7 +7,7 @@ use lib.ListN.{length, drop, length-append}
 use lib.Seq.{slice}
 use Rattle.text.specs.Bytes.{isBlank, isNamePart}
 use Rattle.text.specs.Lists.{Each, span}
-use Rattle.chars.specs.Pieces.{Piece, spell, spells, resolvedAll, GoodPiece, Spells}
+use Rattle.characters.specs.Pieces.{Piece, spell, spells, resolvedAll, GoodPiece, Spells}
 use Rattle.xml.specs.House.{Blanks, IsName, Quote, mark, GoodValue, Attr, attr, attrs, GoodAttrs, Tag, tag, GoodTag, Content, end, piece, empty, full, render}
 use Rattle.xml.specs.Message.{attrsOf}
 use Rattle.xml.proofs.Lang.{endOn}

@@ -9,12 +9,12 @@ use lib.ListN.{length, drop, length-append}
 use lib.Seq.{drop-append-seam}
 use borrow.Author.Tests.{eqb-false}
 use Rattle.text.specs.Lists.{Each}
-use Rattle.chars.specs.Pieces.{Piece, spell, spells, resolved, GoodPiece}
-use Rattle.chars.specs.Chars.{charOf}
-use Rattle.chars.specs.Resolving.{charAt}
-use Rattle.chars.specs.declared.utf8.Char.{Char}
-use Rattle.chars.proofs.Resolving.{complete, piece-some}
-use Rattle.chars.proofs.Spelling.{one-text}
+use Rattle.characters.specs.Pieces.{Piece, spell, spells, resolved, GoodPiece}
+use Rattle.characters.specs.Chars.{charOf}
+use Rattle.characters.specs.Resolving.{charAt}
+use Rattle.characters.specs.declared.utf8.Char.{Char}
+use Rattle.characters.proofs.Resolving.{complete, piece-some}
+use Rattle.characters.proofs.Spelling.{one-text}
 use Rattle.xml.specs.Message.{Attrs}
 use Rattle.tags.specs.declared.token.Kind.{Kind}
 use Rattle.tags.specs.declared.token.Kind.the-variants.{Open, Empty, Close, End}

@@ -11,7 +11,7 @@ use lib.Seq.{drop-append-seam, drop-append-add, drop-drop, drop-cons, length-tak
 use borrow.Author.Tests.{eq-eqb, ne-eqb}
 use Rattle.text.specs.Bytes.{isBlank, isNamePart}
 use Rattle.text.specs.Lists.{All, span}
-use Rattle.chars.specs.Pieces.{solidus, greater}
+use Rattle.characters.specs.Pieces.{solidus, greater}
 use Rattle.text.proofs.Classes as classes
 use Rattle.text.proofs.Classes.{Named, only, _or_}
 use Rattle.text.proofs.Spans.{span-of, span-le, span-all, span-stop, span-go, span-append}

@@ -6,7 +6,7 @@ use Prim.Native.Nat.{ℕ, _+_}
 use lib.ListN.{length, drop}
 use borrow.Author.Tests.{ne-eqb}
 use Rattle.text.specs.Bytes.{ascii, isBlank, isNameStart}
-use Rattle.chars.specs.Pieces.{greater}
+use Rattle.characters.specs.Pieces.{greater}
 use Rattle.text.proofs.Spans.{span-of}
 use Rattle.xml.specs.House.{Blanks, IsName, declaration}
 use Rattle.tags.specs.Passing.{but, one, headIs}

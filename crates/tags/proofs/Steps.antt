@@ -11,7 +11,7 @@ use lib.Seq.{drop-drop, drop-cons}
 use borrow.Author.Tests.{eqb-true, eq-eqb, ne-eqb}
 use Rattle.text.specs.Bytes.{isBlank, isNamePart}
 use Rattle.text.specs.Lists.{span}
-use Rattle.chars.specs.Pieces.{less, greater}
+use Rattle.characters.specs.Pieces.{less, greater}
 use Rattle.text.proofs.Spans.{span-stop}
 use Rattle.tags.specs.declared.attribute.Attribute.{Attribute}
 use Rattle.tags.specs.declared.attribute.Passed.{Passed}

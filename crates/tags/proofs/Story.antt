@@ -7,7 +7,7 @@ use lib.ListN.{length, drop, length-append}
 use lib.Seq.{drop-append-seam}
 use Rattle.text.specs.Bytes.{isBlank, isNameStart}
 use Rattle.text.specs.Lists.{Each}
-use Rattle.chars.specs.Pieces.{less, Piece, spell, spells, resolved, GoodPiece}
+use Rattle.characters.specs.Pieces.{less, Piece, spell, spells, resolved, GoodPiece}
 use Rattle.xml.specs.House.{Blanks, IsName, attrs, Tag, tag, GoodTag, Content, end, piece, empty, full, render, Good, OneElement, declaration, Tree, whole, GoodTree}
 use Rattle.xml.specs.Message.{Attrs, attrsOf, partsOf, rootAt, messageOf}
 use Rattle.xml.proofs.Lang.{endOn}

@@ -10,13 +10,13 @@ use lib.ListN.{length, drop, length-append}
 use lib.Seq.{slice}
 use Rattle.text.specs.Bytes.{isBlank}
 use Rattle.text.specs.Lists.{Each, span}
-use Rattle.chars.specs.Utf8.{encode}
-use Rattle.chars.specs.Pieces.{Entity, amp, lt, gt, quot, apos, word, Piece, char, entity, spell, spells, resolved, resolvedAll, GoodPiece, Spells}
-use Rattle.chars.specs.Chars.{charOf, NextChar}
-use Rattle.chars.specs.Resolving.{charAt}
-use Rattle.chars.specs.declared.utf8.Char.{Char}
+use Rattle.characters.specs.Utf8.{encode}
+use Rattle.characters.specs.Pieces.{Entity, amp, lt, gt, quot, apos, word, Piece, char, entity, spell, spells, resolved, resolvedAll, GoodPiece, Spells}
+use Rattle.characters.specs.Chars.{charOf, NextChar}
+use Rattle.characters.specs.Resolving.{charAt}
+use Rattle.characters.specs.declared.utf8.Char.{Char}
 use Rattle.text.proofs.Classes as classes
-use Rattle.chars.proofs.Resolving.{Head, head-of, complete, next-of, next-one, piece-some}
+use Rattle.characters.proofs.Resolving.{Head, head-of, complete, next-of, next-one, piece-some}
 use Rattle.xml.proofs.Basics.{by-blank}
 use Rattle.tags.specs.Tokens.{inkIn}
 use Rattle.tags.specs.Story.{chars, inkOf, Text, Reads, over, next}

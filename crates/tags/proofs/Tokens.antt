@@ -11,7 +11,7 @@ use lib.Seq.{drop-append-seam}
 use borrow.Author.Tests.{ne-eqb}
 use Rattle.text.specs.Bytes.{isBlank, isNamePart, isNameStart}
 use Rattle.text.specs.Lists.{All, Each, span}
-use Rattle.chars.specs.Pieces.{less, greater, solidus, Piece, spell, spells, GoodPiece}
+use Rattle.characters.specs.Pieces.{less, greater, solidus, Piece, spell, spells, GoodPiece}
 use Rattle.xml.specs.House.{Blanks, IsName, attrs, Tag, tag, GoodTag}
 use Rattle.tags.specs.declared.attribute.Attribute.{Attribute}
 use Rattle.tags.specs.declared.token.Kind.the-variants.{Open, Empty, Close, End}

@@ -6,7 +6,7 @@ use lib.Dec.{eqb}
 use lib.ListN.{drop}
 use Rattle.text.specs.Bytes.{isBlank}
 use Rattle.text.specs.Lists.{span}
-use Rattle.chars.specs.Pieces.{apostrophe, quotation, solidus, greater}
+use Rattle.characters.specs.Pieces.{apostrophe, quotation, solidus, greater}
 
 -- any byte but this
 abbrev pub but : ℕ → ℕ → Bool

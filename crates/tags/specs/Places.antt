@@ -2,7 +2,7 @@
 use mathlib.Core.List.{List, [], _∷_}
 use Prim.Native.Nat.{ℕ, _+_}
 use lib.ListN.{length}
-use Rattle.chars.specs.Pieces.{spells}
+use Rattle.characters.specs.Pieces.{spells}
 use Rattle.xml.specs.House.{Attr, Tag}
 use Rattle.tags.specs.declared.attribute.Attribute.{Attribute}
 use Rattle.tags.specs.declared.token.Kind.{Kind}

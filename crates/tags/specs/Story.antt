@@ -7,9 +7,9 @@ use lib.ListN.{length, drop}
 use lib.Seq.{slice}
 use Rattle.text.specs.Bytes.{isBlank}
 use Rattle.text.specs.Lists.{Each}
-use Rattle.chars.specs.Chars.{NextChar}
-use Rattle.chars.specs.declared.utf8.Char.{Char}
-use Rattle.chars.specs.Pieces.{Piece, spell, spells, resolved, GoodPiece, Spells}
+use Rattle.characters.specs.Chars.{NextChar}
+use Rattle.characters.specs.declared.utf8.Char.{Char}
+use Rattle.characters.specs.Pieces.{Piece, spell, spells, resolved, GoodPiece, Spells}
 use Rattle.xml.specs.Message.{Attrs, Parts}
 use Rattle.xml.specs.Message as message
 use Rattle.tags.specs.declared.attribute.Attribute.{Attribute}

@@ -6,10 +6,10 @@ use native.Mathlib.Omega.{arith}
 use lib.ListN.{length, length-append, take, drop}
 use lib.Seq.{take-at, drop-at}
 use Rattle.text.specs.Lists.{Each}
-use Rattle.chars.specs.Utf8.{Scalar, encode, encodeAll}
+use Rattle.characters.specs.Utf8.{Scalar, encode, encodeAll}
 use Rattle.text.specs.Numbers.{bigEndian}
 use Rattle.text.proofs.Numbers.{big-prefix}
-use Rattle.chars.proofs.Decoding.{by-length, encode-some, encode-prefix}
+use Rattle.characters.proofs.Decoding.{by-length, encode-some, encode-prefix}
 
 -- a character has four bytes at most
 four-bytes : (c : ℕ) → length (encode c) ≤ 4

@@ -7,8 +7,8 @@ use Prim.Native.Nat.{ℕ, zero, suc}
 use native.Mathlib.Omega.{arith}
 use lib.ListN.{length}
 use Rattle.text.specs.Bytes.{ascii, isCapital}
-use Rattle.chars.specs.Utf8.{encodeAll}
-use Rattle.chars.proofs.Spelling.{one-text}
+use Rattle.characters.specs.Utf8.{encodeAll}
+use Rattle.characters.proofs.Spelling.{one-text}
 use Rattle.list.specs.Listing.{Leaf, ref, iban, ccy, bool, num, amt, date, dtm, txt}
 use Rattle.types.specs.declared.judged.Judged.{Judged}
 use Rattle.types.specs.declared.judged.Judged.the-variants as J

@@ -10,13 +10,13 @@ use lib.ListN.{length, drop, getD, length-drop}
 use lib.Seq.{getD-drop}
 use borrow.Author.Tests.{ne-eqb}
 use Rattle.text.specs.Lists.{span}
-use Rattle.chars.specs.Pieces.{GoodPiece, spell, resolved}
-use Rattle.chars.specs.Chars.{charOf, First, NextChar}
-use Rattle.chars.specs.Passing.{Passes}
-use Rattle.chars.specs.declared.utf8.Char.{Char}
+use Rattle.characters.specs.Pieces.{GoodPiece, spell, resolved}
+use Rattle.characters.specs.Chars.{charOf, First, NextChar}
+use Rattle.characters.specs.Passing.{Passes}
+use Rattle.characters.specs.declared.utf8.Char.{Char}
 use Rattle.text.proofs.Classes.{yes, is-in}
-use Rattle.chars.proofs.Chars as chars
-use Rattle.chars.proofs.Resolving.{next-ascii, piece-some}
+use Rattle.characters.proofs.Chars as chars
+use Rattle.characters.proofs.Resolving.{next-ascii, piece-some}
 use Rattle.text.proofs.Spans.{span-le}
 use Rattle.types.specs.Text.{isTxt, isRef, notSpace}
 use Rattle.types.specs.Texts.{classOf, textOf, widthOf, quietOf}

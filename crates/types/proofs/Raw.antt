@@ -8,11 +8,11 @@ use native.Mathlib.Omega.{arith}
 use lib.ListN.{length, length-append}
 use Rattle.text.specs.Bytes.{isBlank}
 use Rattle.text.specs.Lists.{Each}
-use Rattle.chars.specs.Utf8.{encode, encodeAll}
-use Rattle.chars.specs.Pieces.{XmlChar, amp, lt, gt, quot, apos, Piece, char, entity, spells, resolvedAll, Spells}
+use Rattle.characters.specs.Utf8.{encode, encodeAll}
+use Rattle.characters.specs.Pieces.{XmlChar, amp, lt, gt, quot, apos, Piece, char, entity, spells, resolvedAll, Spells}
 use Rattle.types.proofs.Classes.{Solid}
 use Rattle.text.proofs.Classes.{is-in, blank}
-use Rattle.chars.proofs.Decoding.{encode1}
+use Rattle.characters.proofs.Decoding.{encode1}
 use Rattle.types.proofs.Encoding.{encoded-long}
 
 -- a character that stands for itself alone

@@ -9,10 +9,10 @@ use lib.Dec.{eqb}
 use lib.ListN.{length, drop, length-drop}
 use borrow.Author.Tests.{eqb-false, ne-eqb}
 use Rattle.text.specs.Lists.{Each}
-use Rattle.chars.specs.Pieces.{Spells}
-use Rattle.chars.specs.Resolving.{charAt}
-use Rattle.chars.proofs.Resolving.{next-is}
-use Rattle.chars.proofs.Spelling.{next-begins, spells-none, none-spells, leads, spells-more, one-text}
+use Rattle.characters.specs.Pieces.{Spells}
+use Rattle.characters.specs.Resolving.{charAt}
+use Rattle.characters.proofs.Resolving.{next-is}
+use Rattle.characters.proofs.Spelling.{next-begins, spells-none, none-spells, leads, spells-more, one-text}
 use Rattle.types.specs.Code.{Ccy}
 use Rattle.types.specs.Resolved.{ahead, charsWithin, charsOf}
 use Rattle.types.proofs.Classes.{Solid, each-map}

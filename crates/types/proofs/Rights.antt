@@ -10,7 +10,7 @@ use Rattle.text.specs.Bytes.{ascii, isCapital}
 use Rattle.text.specs.Lists.{Each, Begins}
 use Rattle.text.specs.Words.{starts}
 use Rattle.text.proofs.Parts as parts
-use Rattle.chars.specs.Pieces.{Spells}
+use Rattle.characters.specs.Pieces.{Spells}
 use Rattle.list.specs.Listing.{Leaf, ref, iban, ccy, bool, num, amt, date, dtm, txt, enum}
 use Rattle.types.specs.declared.judged.Judged.{Judged}
 use Rattle.types.specs.declared.judged.Judged.the-variants as J

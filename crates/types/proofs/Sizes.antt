@@ -9,15 +9,15 @@ use native.Mathlib.Decide.{decLt}
 use lib.ListN.{length, drop, drop-of-length-le, length-append}
 use lib.Seq.{drop-drop}
 use borrow.Author.Tests.{lt-ltb, le-ltb}
-use Rattle.chars.specs.Utf8.{encode, encodeAll}
-use Rattle.chars.specs.Pieces.{Piece, char, entity, amp, lt, gt, quot, apos, spell, resolved, Spells}
-use Rattle.chars.specs.Passing.{Passes}
-use Rattle.chars.specs.Chars.{NextChar}
-use Rattle.chars.specs.declared.utf8.Char.{Char}
-use Rattle.chars.proofs.Spelling as spelling
+use Rattle.characters.specs.Utf8.{encode, encodeAll}
+use Rattle.characters.specs.Pieces.{Piece, char, entity, amp, lt, gt, quot, apos, spell, resolved, Spells}
+use Rattle.characters.specs.Passing.{Passes}
+use Rattle.characters.specs.Chars.{NextChar}
+use Rattle.characters.specs.declared.utf8.Char.{Char}
+use Rattle.characters.proofs.Spelling as spelling
 use Rattle.types.specs.Texts.{Spelled, spelled, widthOf}
 use Rattle.types.specs.declared.judged.Judged.the-variants as J
-use Rattle.chars.proofs.Decoding.{encode1}
+use Rattle.characters.proofs.Decoding.{encode1}
 
 pub width-one : (len code : ℕ) → code < 128 → widthOf len code ≡ 1
 unfolding widthOf

@@ -10,15 +10,15 @@ use lib.Dec.{ltb, eqb}
 use lib.ListN.{length, drop, length-drop}
 use borrow.Author.Tests.{lt-ltb, le-ltb, ltb-true, eqb-true}
 use Rattle.text.specs.Lists.{All, Any}
-use Rattle.chars.specs.Pieces.{GoodPiece, spell, resolved}
-use Rattle.chars.specs.Chars.{First, NextChar}
-use Rattle.chars.specs.Passing.{Passes}
-use Rattle.chars.specs.Resolving.{charAt}
-use Rattle.chars.specs.declared.utf8.Char.{Char}
+use Rattle.characters.specs.Pieces.{GoodPiece, spell, resolved}
+use Rattle.characters.specs.Chars.{First, NextChar}
+use Rattle.characters.specs.Passing.{Passes}
+use Rattle.characters.specs.Resolving.{charAt}
+use Rattle.characters.specs.declared.utf8.Char.{Char}
 use Rattle.text.proofs.Classes.{and-is, or-is}
-use Rattle.chars.proofs.Chars as chars
-use Rattle.chars.proofs.Resolving.{next-is}
-use Rattle.chars.proofs.Spelling as spelling
+use Rattle.characters.proofs.Chars as chars
+use Rattle.characters.proofs.Resolving.{next-is}
+use Rattle.characters.proofs.Spelling as spelling
 use Rattle.types.specs.Text.{notSpace, Txt, Ref}
 use Rattle.types.specs.Texts.{classOf, textFrom, textOf}
 

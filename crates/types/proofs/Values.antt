@@ -10,9 +10,9 @@ use native.Mathlib.Decide.{decLt}
 use lib.ListN.{length, length-append}
 use Rattle.text.specs.Bytes.{isCapital, isLetter, isDigit}
 use Rattle.text.specs.Lists.{Each, All}
-use Rattle.chars.specs.Utf8.{Scalar, encodeAll}
+use Rattle.characters.specs.Utf8.{Scalar, encodeAll}
 use Rattle.text.specs.Numbers.{bigEndian}
-use Rattle.chars.specs.Pieces.{Spells}
+use Rattle.characters.specs.Pieces.{Spells}
 use Rattle.text.proofs.Classes as classes
 use Rattle.text.proofs.Numbers.{big-length, big-prefix}
 use Rattle.list.specs.Listing.{Leaf, ref, iban, ccy, bool, num, amt, date, dtm, txt, enum}

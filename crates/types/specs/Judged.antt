@@ -5,8 +5,8 @@ use mathlib.Core.Logic.{_≢_}
 use mathlib.Core.List.{List}
 use Prim.Native.Nat.{ℕ, _+_}
 use lib.ListN.{length}
-use Rattle.chars.specs.Utf8.{encodeAll}
-use Rattle.chars.specs.Pieces.{Spells}
+use Rattle.characters.specs.Utf8.{encodeAll}
+use Rattle.characters.specs.Pieces.{Spells}
 use Rattle.list.specs.Listing.{Leaf}
 use Rattle.types.specs.Code.{Ccy}
 use Rattle.types.specs.Kind.{code, Given}

@@ -3,7 +3,7 @@ use mathlib.Core.Path.{_≡_}
 use mathlib.Core.List.{List, [], _++_}
 use Prim.Native.Nat.{ℕ, _+_, _≤_}
 use lib.ListN.{length}
-use Rattle.chars.specs.Pieces.{Spells}
+use Rattle.characters.specs.Pieces.{Spells}
 use Rattle.list.specs.Listing.{Leaf, ref, iban, ccy, bool, num, amt, date, dtm, txt, enum}
 use Rattle.list.specs.WellFormed.{LeafOk}
 use Rattle.types.specs.Value.{Value, IsValue, Spelt, bytes}

@@ -6,8 +6,8 @@ use Prim.Native.Nat.{ℕ, suc}
 use lib.Dec.{ltb, eqb}
 use lib.ListN.{length}
 use Rattle.text.specs.Bytes.{inRange}
-use Rattle.chars.specs.Utf8.{encodeAll}
-use Rattle.chars.specs.Passing.{Passes}
+use Rattle.characters.specs.Utf8.{encodeAll}
+use Rattle.characters.specs.Passing.{Passes}
 use Rattle.types.specs.Text.{isTxt, isRef, notSpace}
 use Rattle.types.specs.declared.judged.Judged.{Judged}
 use Rattle.types.specs.declared.judged.Judged.the-variants.{Refused, Text}

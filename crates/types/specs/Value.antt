@@ -5,7 +5,7 @@ use mathlib.Core.List.{List, [], _∷_, _++_}
 use Prim.Native.Nat.{ℕ, _≤_, _<_, _^_}
 use lib.ListN.{length}
 use Rattle.text.specs.Numbers.{bigEndian}
-use Rattle.chars.specs.Utf8.{encodeAll}
+use Rattle.characters.specs.Utf8.{encodeAll}
 use Rattle.list.specs.Listing.{Leaf, ref, iban, ccy, bool, num, amt, date, dtm, txt, enum}
 use Rattle.types.specs.Text.{Ref, Txt}
 use Rattle.types.specs.Code.{Iban, Ccy, WordAt}

@@ -11,7 +11,7 @@ ghost use Rattle.text.specs.Bytes.{isBlank};
 ghost use Rattle.types.specs.Trim.{Trim, InkEnd};
 
 // The part of s from a up to b, as far as s reaches.
-pub(crate) fn part_of(s: &[u8], a: usize, b: usize) -> &[u8]
+pub fn part_of(s: &[u8], a: usize, b: usize) -> &[u8]
     ensures { λ r. ⌜ now r ≡ slice a b (now (s .entry)) ⌝ }
 {
     if s.len() < b {
@@ -43,7 +43,7 @@ fn ink_end(s: &[u8], lo: usize) -> usize
 }
 
 // s without the blanks at both ends.
-pub(crate) fn trimmed(s: &[u8]) -> &[u8]
+pub fn trimmed(s: &[u8]) -> &[u8]
     ensures { λ r. ⌜ Trim (now (s .entry)) (now r) ⌝ }
 {
     let lo = blanks_end(s, 0);

@@ -2,7 +2,7 @@
 // each of which is a character of the class by itself: these are counted at once.
 
 use crate::judged::Judged;
-use chars::piece::next_char;
+use characters::piece::next_char;
 ghost use mathlib.Core.Path.{_≡_};
 ghost use mathlib.Core.Bool.{cond, _&&_, _||_};
 ghost use Prim.Native.Nat.{_+_};
@@ -141,7 +141,7 @@ fn run_of(s: &[u8], at: usize, strict: bool, ink: bool) -> usize
 }
 
 // The raw text of a reference (strict, k is 35) or of TXTk: how many bytes its characters have.
-pub(crate) fn spelled(s: &[u8], strict: bool, k: usize) -> Judged
+pub fn spelled(s: &[u8], strict: bool, k: usize) -> Judged
     ensures { λ r. ⌜ Spelled (textOf strict k) (now (s .entry)) r ⌝ }
 {
     let mut i = 0;

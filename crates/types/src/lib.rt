@@ -3,8 +3,4 @@ pub mod judged; // judged.rt: what a text is judged to be
 pub mod blanks; // blanks.rt: a part of a text, and blanks at both ends
 pub mod code; // code.rt: account numbers and currencies
 pub mod plain; // plain.rt: numbers, and yes or no
-pub mod amount; // amount.rt: amounts
-pub mod day; // day.rt: days
-pub mod moment; // moment.rt: moments
 pub mod chars; // chars.rt: references and texts
-pub mod check; // check.rt: the checkers by kind

@@ -14,7 +14,7 @@ fn wide(x: u8) -> u64
 }
 
 // The number of at most 18 digits: all of them count, zeros at the front too.
-pub(crate) fn natural(t: &[u8]) -> Judged
+pub fn natural(t: &[u8]) -> Judged
     ensures { λ r. ⌜ FormedAny num (now (t .entry)) r ⌝ }
 {
     if t.len() == 0 {
@@ -46,7 +46,7 @@ fn is_word(t: &[u8], word: &[u8]) -> bool
     begins(t, 0, word)
 }
 
-pub(crate) fn truth(t: &[u8]) -> Judged
+pub fn truth(t: &[u8]) -> Judged
     ensures { λ r. ⌜ FormedAny bool (now (t .entry)) r ⌝ }
 {
     if is_word(t, b"true") {

@@ -7,9 +7,9 @@ use native.Mathlib.Omega.{arith}
 use lib.ListN.{length, take, drop}
 use Rattle.answer.specs.declared.Answer.{Answer}
 use Rattle.answer.specs.Table.{answer, accepted, limit, tooLong, notUtf8, notHouseXml, noRoom}
-use Rattle.chars.specs.Utf8.{Utf8, LongestUtf8}
+use Rattle.characters.specs.Utf8.{Utf8, LongestUtf8}
 use Rattle.text.specs.Pasting.{pasted}
-use Rattle.chars.proofs.Longest.{utf8-whole, whole-utf8}
+use Rattle.characters.proofs.Longest.{utf8-whole, whole-utf8}
 use Rattle.text.proofs.Pasting.{pasted-yes}
 use Rattle.list.specs.Listing.{Listing}
 use Rattle.list.specs.Table.{listOf}

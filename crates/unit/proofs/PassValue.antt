@@ -10,11 +10,11 @@ use native.Mathlib.Decide.{ℕ-discrete}
 use lib.ListN.{length}
 use Rattle.text.specs.Bytes.{inRange}
 use Rattle.text.specs.Pasting.{pasted}
-use Rattle.chars.specs.Pieces.{Spells}
-use Rattle.chars.specs.Utf8.{encodeAll}
+use Rattle.characters.specs.Pieces.{Spells}
+use Rattle.characters.specs.Utf8.{encodeAll}
 use Rattle.text.proofs.Classes.{in-range-is}
 use Rattle.text.proofs.Pasting.{length-pasted}
-use Rattle.chars.proofs.Spelling.{one-text}
+use Rattle.characters.proofs.Spelling.{one-text}
 use Rattle.list.specs.Listing.{Leaf, ref, enum, Kind, group, choice, leaf, isGroup}
 use Rattle.list.specs.WellFormed.{LeafOk}
 use Rattle.list.specs.Table.{cell, placeIn, kindOf, wordsIn}

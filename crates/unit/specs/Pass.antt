@@ -7,7 +7,7 @@ use Prim.Native.Nat.{ℕ, suc, _+_, _≤_, _<_}
 use lib.ListN.{length}
 use Rattle.answer.specs.Table.{limit}
 use Rattle.text.specs.Pasting.{pasted}
-use Rattle.chars.specs.Pieces.{Spells}
+use Rattle.characters.specs.Pieces.{Spells}
 use Rattle.list.specs.Listing.{Leaf, amt, Kind, leaf, Listing, isGroup}
 use Rattle.list.specs.WellFormed.{LeafOk}
 use Rattle.list.specs.Content.{Content}

@@ -2,7 +2,7 @@
 use crate::pass::fill;
 use crate::pass::measure;
 use answer::Answer;
-use chars::utf8::utf8_end;
+use characters::utf8::utf8_end;
 use list::house::pool;
 use list::house::rows;
 use scan::Scanned;

@@ -12,8 +12,8 @@ use lib.Seq.{slice}
 use borrow.Author.Tests.{eq-eqb, ne-eqb, lt-ltb}
 use Rattle.text.specs.Bytes.{ascii}
 use Rattle.text.specs.Lists.{All, same}
-use Rattle.chars.specs.Pieces.{Piece, Spells, isUnmarked}
-use Rattle.chars.proofs.Unmarked.{unmarked-same}
+use Rattle.characters.specs.Pieces.{Piece, Spells, isUnmarked}
+use Rattle.characters.proofs.Unmarked.{unmarked-same}
 use Rattle.list.specs.Listing.{Listing, isGroup}
 use Rattle.list.specs.WellFormed.{WellFormed}
 use Rattle.list.specs.Table.{cell, listOf}

@@ -9,8 +9,8 @@ use native.Mathlib.Decide.{ℕ-discrete}
 use lib.Dec.{eqb, ltb}
 use lib.ListN.{length, length-append}
 use borrow.Author.Tests.{eq-eqb, ne-eqb, lt-ltb, le-ltb}
-use Rattle.chars.specs.Pieces.{Piece, spell, spells, resolvedAll}
-use Rattle.chars.proofs.Resolving.{piece-some}
+use Rattle.characters.specs.Pieces.{Piece, spell, spells, resolvedAll}
+use Rattle.characters.proofs.Resolving.{piece-some}
 use Rattle.list.specs.Listing.{Leaf, Kind, group, choice, leaf, Listing, Child, child, isGroup}
 use Rattle.list.specs.Table.{cell, listOf}
 use Rattle.list.specs.Sound.{Sound}

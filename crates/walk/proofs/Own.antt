@@ -10,9 +10,9 @@ use lib.Seq.{slice}
 use borrow.Author.Tests.{eqb-true, eq-eqb, ne-eqb}
 use Rattle.text.specs.Bytes.{ascii, isCapital}
 use Rattle.text.specs.Lists.{All, same}
-use Rattle.chars.specs.Pieces.{Spells, isUnmarked}
+use Rattle.characters.specs.Pieces.{Spells, isUnmarked}
 use Rattle.text.proofs.Classes.{and-is, capital, is-in, yes}
-use Rattle.chars.proofs.Unmarked.{unmarked, unmarked-is, unmarked-same}
+use Rattle.characters.proofs.Unmarked.{unmarked, unmarked-is, unmarked-same}
 use Rattle.list.specs.Listing.{ccy, rowAt}
 use Rattle.list.specs.Table.{cell, kindOf, wordsIn, listOf}
 use Rattle.list.proofs.Rows.{kind-is}

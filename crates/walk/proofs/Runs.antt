@@ -8,8 +8,8 @@ use lib.Dec.{eqb, ltb}
 use lib.ListN.{length, length-append}
 use borrow.Author.Tests.{eq-eqb, lt-ltb, le-ltb}
 use Rattle.text.specs.Bytes.{isBlank}
-use Rattle.chars.specs.Pieces.{Piece, spell, spells, resolved, resolvedAll}
-use Rattle.chars.proofs.Resolving.{piece-some}
+use Rattle.characters.specs.Pieces.{Piece, spell, spells, resolved, resolvedAll}
+use Rattle.characters.proofs.Resolving.{piece-some}
 use Rattle.list.specs.Listing.{Kind, group, choice, leaf, Listing, isGroup}
 use Rattle.xml.specs.Message.{Attrs}
 use Rattle.tags.specs.Story.{Event, enter, leave, chars, inkOf}

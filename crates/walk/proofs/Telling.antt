@@ -5,7 +5,7 @@ use mathlib.Core.List.{List, [], _∷_}
 use Prim.Native.Nat.{ℕ, suc, _+_, _<_}
 use native.Mathlib.Omega.{arith}
 use lib.ListN.{length}
-use Rattle.chars.specs.Pieces.{Piece, spell}
+use Rattle.characters.specs.Pieces.{Piece, spell}
 use Rattle.list.specs.Listing.{Listing}
 use Rattle.xml.specs.Message.{Attrs, Parts, none, char, element}
 use Rattle.tags.specs.declared.token.Kind.{Kind as Mark}

@@ -6,7 +6,7 @@ use mathlib.Core.Option.{Option}
 use Prim.Native.Nat.{ℕ, zero, suc, _≤_, _<_}
 use lib.ListN.{length}
 use lib.Seq.{slice}
-use Rattle.chars.specs.Pieces.{Spells}
+use Rattle.characters.specs.Pieces.{Spells}
 use Rattle.list.specs.Listing.{amt, leaf, Listing, Child}
 use Rattle.list.specs.Table.{listOf}
 use Rattle.list.specs.Sound.{Sound}

@@ -11,7 +11,7 @@ use lib.Dec.{eqb, ltb}
 use lib.ListN.{length}
 use lib.Seq.{slice}
 use borrow.Author.Tests.{eqb-false, eq-eqb, ne-eqb, lt-ltb, le-ltb}
-use Rattle.chars.specs.Pieces.{Piece, resolvedAll}
+use Rattle.characters.specs.Pieces.{Piece, resolvedAll}
 use Rattle.list.specs.Listing.{amt, Kind, group, choice, leaf, Listing, Child, child, isGroup}
 use Rattle.list.specs.Table.{cell, listOf}
 use Rattle.list.specs.Sound.{Sound, level}

@@ -10,11 +10,11 @@ use lib.Dec.{eqb}
 use lib.ListN.{length}
 use borrow.Author.Tests.{eqb-true, eqb-false}
 use Rattle.text.specs.Lists.{Each}
-use Rattle.chars.specs.Utf8.{encodeAll}
+use Rattle.characters.specs.Utf8.{encodeAll}
 use Rattle.text.specs.Pasting.{pasted}
-use Rattle.chars.specs.Pieces.{Spells}
+use Rattle.characters.specs.Pieces.{Spells}
 use Rattle.text.proofs.Pasting.{pasted-none}
-use Rattle.chars.proofs.Spelling.{one-text}
+use Rattle.characters.proofs.Spelling.{one-text}
 use Rattle.list.specs.Listing.{Leaf, ref, iban, ccy, bool, num, amt, date, dtm, txt, enum}
 use Rattle.types.specs.Code.{Ccy}
 use Rattle.types.specs.Kind.{code, Given}

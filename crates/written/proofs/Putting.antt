@@ -11,11 +11,11 @@ use lib.ListN.{length, set, length-append}
 use borrow.Author.Tests.{leb-true, le-leb, lt-leb, not-true, not-false}
 use Rattle.text.specs.Numbers.{bigEndian}
 use Rattle.text.specs.Pasting.{pasted}
-use Rattle.chars.specs.Pieces.{Spells}
-use Rattle.chars.specs.Utf8.{encodeAll}
+use Rattle.characters.specs.Pieces.{Spells}
+use Rattle.characters.specs.Utf8.{encodeAll}
 use Rattle.text.proofs.Numbers.{big-length}
 use Rattle.text.proofs.Pasting.{pasted-no, pasted-one, pasted-none, pasted-then, length-pasted}
-use Rattle.chars.proofs.Spelling.{one-text}
+use Rattle.characters.proofs.Spelling.{one-text}
 use Rattle.types.specs.Code.{Ccy}
 use Rattle.types.specs.Judged.{Exactly, momentValue}
 use Rattle.types.specs.Value.{text, truth, natural, amount, day, moment, bytes}

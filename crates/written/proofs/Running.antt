@@ -11,17 +11,17 @@ use lib.ListN.{length, getD, take, drop, drop-of-length-le, length-drop, length-
 use lib.Seq.{slice, drop-drop, take-append-add, drop-append-add, take-all}
 use borrow.Author.Tests.{eq-eqb, ne-eqb}
 use Rattle.text.specs.Lists.{Each, All, span}
-use Rattle.chars.specs.Utf8.{encode, encodeAll}
+use Rattle.characters.specs.Utf8.{encode, encodeAll}
 use Rattle.text.specs.Pasting.{pasted}
-use Rattle.chars.specs.Pieces.{ampersand, Entity, amp, lt, gt, quot, apos, word, stands, Piece, char, entity, spell, spells, resolved, resolvedAll, GoodPiece, Spells}
-use Rattle.chars.specs.Chars.{NextChar}
-use Rattle.chars.specs.declared.utf8.Char.{Char}
-use Rattle.chars.proofs.Chars as firsts
-use Rattle.chars.proofs.Decoding as decoding
+use Rattle.characters.specs.Pieces.{ampersand, Entity, amp, lt, gt, quot, apos, word, stands, Piece, char, entity, spell, spells, resolved, resolvedAll, GoodPiece, Spells}
+use Rattle.characters.specs.Chars.{NextChar}
+use Rattle.characters.specs.declared.utf8.Char.{Char}
+use Rattle.characters.proofs.Chars as firsts
+use Rattle.characters.proofs.Decoding as decoding
 use Rattle.text.proofs.Parts.{part-take, part-length}
 use Rattle.text.proofs.Pasting.{pasted-none, pasted-then}
 use Rattle.text.proofs.Spans.{span-le, span-stop, span-go, span-append}
-use Rattle.chars.proofs.Spelling.{Begins, Leads, next-begins, leads, none-spells, one-text}
+use Rattle.characters.proofs.Spelling.{Begins, Leads, next-begins, leads, none-spells, one-text}
 use Rattle.written.specs.Runs.{isOwn, Roomy, CharsPut}
 use Rattle.written.proofs.Putting.{kept}
 

@@ -9,9 +9,9 @@ use lib.Dec.{eqb}
 use lib.ListN.{length, length-append}
 use borrow.Author.Tests.{eqb-true, eqb-false}
 use Rattle.text.specs.Numbers.{bigEndian}
-use Rattle.chars.specs.Utf8.{encodeAll}
+use Rattle.characters.specs.Utf8.{encodeAll}
 use Rattle.text.specs.Pasting.{pasted}
-use Rattle.chars.specs.Pieces.{Spells}
+use Rattle.characters.specs.Pieces.{Spells}
 use Rattle.text.proofs.Pasting.{pasted-none}
 use Rattle.list.specs.Listing.{Leaf}
 use Rattle.list.specs.WellFormed.{LeafOk}

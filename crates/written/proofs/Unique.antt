@@ -10,7 +10,7 @@ use lib.ListN.{length}
 use borrow.Author.Tests.{eqb-true, eqb-false}
 use Rattle.text.specs.Bytes.{isCapital}
 use Rattle.text.specs.Pasting.{pasted}
-use Rattle.chars.proofs.Spelling.{one-text}
+use Rattle.characters.proofs.Spelling.{one-text}
 use Rattle.list.specs.Listing.{Leaf, ref, iban, ccy, bool, num, amt, date, dtm, txt, enum}
 use Rattle.types.specs.Code.{Ccy}
 use Rattle.types.specs.Kind.{code, Given}

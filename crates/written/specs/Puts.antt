@@ -6,8 +6,8 @@ use Prim.Native.Nat.{ℕ, _+_}
 use lib.Dec.{leb}
 use lib.ListN.{length}
 use Rattle.text.specs.Pasting.{pasted}
-use Rattle.chars.specs.Utf8.{encodeAll}
-use Rattle.chars.specs.Pieces.{Spells}
+use Rattle.characters.specs.Utf8.{encodeAll}
+use Rattle.characters.specs.Pieces.{Spells}
 use Rattle.types.specs.Code.{Ccy}
 use Rattle.types.specs.Value.{text, amount, bytes}
 

@@ -6,8 +6,8 @@ use Prim.Native.Nat.{ℕ, _+_, _≤_}
 use lib.Dec.{eqb}
 use lib.ListN.{length}
 use Rattle.text.specs.Pasting.{pasted}
-use Rattle.chars.specs.Utf8.{encodeAll}
-use Rattle.chars.specs.Pieces.{ampersand, Spells}
+use Rattle.characters.specs.Utf8.{encodeAll}
+use Rattle.characters.specs.Pieces.{ampersand, Spells}
 
 -- a byte of a character that stands for itself
 unfoldable pub isOwn : ℕ → Bool

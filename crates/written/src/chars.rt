@@ -1,7 +1,7 @@
 // The characters of a raw text, entities resolved: the bytes between two entities are copied as they stand.
 
 use crate::place::place;
-use chars::piece::next_char;
+use characters::piece::next_char;
 use text::number::copy;
 use text::part::part_len;
 ghost use mathlib.Core.Path.{_≡_};

@@ -7,7 +7,7 @@ use crate::values::write_moment;
 use crate::values::write_natural;
 use crate::values::write_text;
 use crate::values::write_truth;
-use types::check::check;
+use judge::check::check;
 use types::judged::Judged;
 ghost use lib.Seq.{slice};
 ghost use Rattle.written.specs.Giving.{Sized, Written};

@@ -8,9 +8,9 @@ use native.Mathlib.Omega.{arith}
 use lib.Dec.{leb, ltb, eqb}
 use borrow.Author.Tests.{eqb-true, eqb-false, eq-eqb, ne-eqb}
 use Rattle.text.specs.Bytes.{ascii, isBlank, isNameStart, isNamePart}
-use Rattle.chars.specs.Utf8.{encode}
+use Rattle.characters.specs.Utf8.{encode}
 use Rattle.text.specs.Lists.{All, Begins}
-use Rattle.chars.specs.Pieces.{Piece, char, entity, spell, GoodPiece}
+use Rattle.characters.specs.Pieces.{Piece, char, entity, spell, GoodPiece}
 use Rattle.xml.specs.House.{Blanks, SomeBlanks, IsName, Quote, single, double, mark, GoodValue, Attr, GoodAttr, Fresh, GoodAttrs, Tag, GoodTag, Content, end, piece, empty, full, OneElement, declaration}
 use Rattle.xml.proofs.Runs.{cuts, brackets, GoodAfter}
 use Rattle.xml.specs.Auto.{Part, Read, bad, all, more, lead, go-on, takes, At, done, start, first, before, root, declare, name, tail, gap, attr, equals, quote, value, within, slash, content, part, less, close, St, dead, at, member, after, tailStep, endStep, gapStep, equalsStep, valueNext, contentNext, push, closeStep, declareNext, next, step, run}

@@ -8,11 +8,11 @@ use native.Mathlib.Omega.{arith}
 use lib.Dec.{leb, ltb, eqb}
 use borrow.Author.Tests.{lt-ltb, le-ltb, le-leb, lt-leb, eq-eqb, ne-eqb, ltb-true, ltb-false, leb-true, leb-false, eqb-true, eqb-false}
 use Rattle.text.specs.Bytes.{ascii, inRange}
-use Rattle.chars.specs.Pieces.{XmlChar, tab, line, return, low, middle, high}
-use Rattle.chars.specs.Utf8.{encode}
+use Rattle.characters.specs.Pieces.{XmlChar, tab, line, return, low, middle, high}
+use Rattle.characters.specs.Utf8.{encode}
 use Rattle.text.proofs.Classes.{in-range, in-range-is}
-use Rattle.chars.proofs.Decoding.{encode1, encode2, encode3, encode4}
-use Rattle.chars.specs.Pieces.{Entity, amp, lt, gt, quot, apos, word, Piece, char, entity, spell, GoodPiece}
+use Rattle.characters.proofs.Decoding.{encode1, encode2, encode3, encode4}
+use Rattle.characters.specs.Pieces.{Entity, amp, lt, gt, quot, apos, word, Piece, char, entity, spell, GoodPiece}
 use Rattle.xml.proofs.Runs.{cuts, brackets}
 use Rattle.xml.specs.Auto.{Part, one, two, three, e0, ed, ef, efbf, f0, f4, ampersand, ampersandA, rest, Read, bad, all, more, toWord, asciiLead, long, lead, go-on, takes}
 

@@ -9,10 +9,10 @@ use lib.Dec.{leb, ltb, eqb}
 use lib.ListN.{getD}
 use borrow.Author.Tests.{lt-ltb, le-ltb, eqb-true, eqb-false, eq-eqb, ne-eqb, ltb-true, ltb-false}
 use Rattle.text.specs.Bytes.{ascii, isBlank, isNameStart, isNamePart}
-use Rattle.chars.specs.Pieces.{XmlChar, tab, line, return, low, middle, high}
-use Rattle.chars.specs.Utf8.{encode}
+use Rattle.characters.specs.Pieces.{XmlChar, tab, line, return, low, middle, high}
+use Rattle.characters.specs.Utf8.{encode}
 use Rattle.text.specs.Lists.{All, Begins}
-use Rattle.chars.specs.Pieces.{Entity, amp, lt, gt, quot, apos, word, Piece, char, entity, spell, GoodPiece}
+use Rattle.characters.specs.Pieces.{Entity, amp, lt, gt, quot, apos, word, Piece, char, entity, spell, GoodPiece}
 use Rattle.xml.specs.House.{Blanks, SomeBlanks, IsName, Quote, single, double, mark, GoodValue, Attr, GoodAttr, Fresh, GoodAttrs, Tag, GoodTag, Content, end, piece, empty, full, OneElement, declaration, Tree, GoodTree, whole}
 use Rattle.xml.proofs.Runs.{brackets, GoodAfter, to-after}
 use Rattle.xml.specs.Auto.{Part, Read, bad, all, more, lead, go-on, takes}
