@@ -45,7 +45,3 @@ pub mod Example
 pub mod Meaning
 -- and over the house list
 pub mod House
--- the reader that holds its run
-pub mod Holding
--- a held reader is taken apart, and another function is called
-pub mod Apart

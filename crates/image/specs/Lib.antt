@@ -7,8 +7,6 @@ pub mod Kinds
 pub mod Place
 -- what the picker answers and hands back
 pub mod Pick
--- what a reader that holds its run answers
-pub mod Held
 -- document 01's example
 pub mod Example
 -- a mirror: which row may come directly behind which

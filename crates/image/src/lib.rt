@@ -1,5 +1,4 @@
-// Images: the reader, the picker and the reader that holds its run, over any list of rows.
+// Images: the reader and the picker, over any list of rows.
 mod order; // order.rt: which row may come directly behind which
 pub mod reader; // reader.rt: the image that a run begins with
 pub mod picker; // picker.rt: the n-th leaf of a row in it
-pub mod held; // held.rt: a reader that holds its run and its place

@@ -1,11 +1,11 @@
 -- `held::read_at` meets its contract. Assumes nothing.
 use borrow.Author.Needs.{needs}
-use Rattle.image.proofs.held.read_at.Statement.{statement}
-use Rattle.image.proofs.held.read_at.Tie as tie
+use Rattle.hold.proofs.held.read_at.Statement.{statement}
+use Rattle.hold.proofs.held.read_at.Tie as tie
 use mathlib.Core.Path.{sym}
 use native.Mathlib.Omega.{arith}
 use Rattle.image.proofs.House.{house-reads}
-use Rattle.image.proofs.Holding.{step-stays, step-on, step-room}
+use Rattle.hold.proofs.Holding.{step-stays, step-on, step-room}
 
 rows-requires : tie.Need-rows-requires
 rows-requires c κs = search needs

@@ -46,21 +46,21 @@ use denote.Triple.Table.{entered, cited}
 use denote.Triple.Walked.{says, Stays, stay-ref, walkOf, goes-ref, Walks, ends-at, walked, walk-meets}
 use Rattle.answer.proofs.Answer as S
 use Rattle.answer.proofs.Answer.Laws as S′
-use Rattle.image.specs.Held.{Steps, Next}
-use Rattle.image.specs.declared.held.Held.{Held}
-use Rattle.image.specs.declared.held.Step.{Step}
-use Rattle.image.proofs.held.Held as T
-use Rattle.image.proofs.held.Held.Laws as T′
-use Rattle.image.proofs.held.Step as P
-use Rattle.image.proofs.held.Step.Laws as P′
-use Rattle.image.proofs.held.read_at as step
-use Rattle.image.proofs.held.read_at.Symbol as step-def
-use Rattle.image.proofs.held.read_at.Symbol.{name as #image·held·read-at}
-use Rattle.image.proofs.held.read_at.Met as step-thm
-use Rattle.image.proofs.held.next.Key.{name as #image·held·next}
-use Rattle.image.proofs.held.next as next
-use Rattle.image.proofs.held.next.Statement as stated
-use Rattle.image.proofs.held.next.Code as code
+use Rattle.hold.specs.Held.{Steps, Next}
+use Rattle.hold.specs.declared.held.Held.{Held}
+use Rattle.hold.specs.declared.held.Step.{Step}
+use Rattle.hold.proofs.held.Held as T
+use Rattle.hold.proofs.held.Held.Laws as T′
+use Rattle.hold.proofs.held.Step as P
+use Rattle.hold.proofs.held.Step.Laws as P′
+use Rattle.hold.proofs.held.read_at as step
+use Rattle.hold.proofs.held.read_at.Symbol as step-def
+use Rattle.hold.proofs.held.read_at.Symbol.{name as #image·held·read-at}
+use Rattle.hold.proofs.held.read_at.Met as step-thm
+use Rattle.hold.proofs.held.next.Key.{name as #image·held·next}
+use Rattle.hold.proofs.held.next as next
+use Rattle.hold.proofs.held.next.Statement as stated
+use Rattle.hold.proofs.held.next.Code as code
 
 -- 'a, and the struct's type at it
 abbrev α : Lft → NamedLft

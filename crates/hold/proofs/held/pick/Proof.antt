@@ -9,19 +9,19 @@ use denote.Struct.Laws as LL
 use denote.Triple.Spec.{tripleOf}
 use denote.Triple.Table.{entered, cited}
 use Rattle.list.specs.House.{house}
 use Rattle.image.specs.Kinds.{values}
 use Rattle.image.specs.Pick.{Answers}
 use Rattle.answer.specs.declared.Answer.{Answer}
 use Rattle.answer.proofs.Answer as S
 use Rattle.answer.proofs.Answer.Laws as S′
-use Rattle.image.proofs.Apart.{Told, meets}
-use Rattle.image.proofs.held.pick_at.Symbol as step-def
-use Rattle.image.proofs.held.pick_at.Symbol.{name as #image·held·pick-at}
-use Rattle.image.proofs.held.pick_at.Met as step-thm
-use Rattle.image.proofs.held.pick.Key.{name as #image·held·pick}
-use Rattle.image.proofs.held.pick as pick
-use Rattle.image.proofs.held.pick.Statement as stated
-use Rattle.image.proofs.held.pick.Code as code
+use Rattle.hold.proofs.Apart.{Told, meets}
+use Rattle.hold.proofs.held.pick_at.Symbol as step-def
+use Rattle.hold.proofs.held.pick_at.Symbol.{name as #image·held·pick-at}
+use Rattle.hold.proofs.held.pick_at.Met as step-thm
+use Rattle.hold.proofs.held.pick.Key.{name as #image·held·pick}
+use Rattle.hold.proofs.held.pick as pick
+use Rattle.hold.proofs.held.pick.Statement as stated
+use Rattle.hold.proofs.held.pick.Code as code
 
 abbrev R : Lfts 1 → RattleType
 R κs = S.the-row

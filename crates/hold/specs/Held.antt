@@ -7,10 +7,10 @@ use lib.ListN.{drop}
 use denote.Ref.{now}
 use Rattle.answer.specs.declared.Answer.{Answer}
 use Rattle.list.specs.House.{house}
 use Rattle.image.specs.Kinds.{values}
 use Rattle.image.specs.Place.{Reads}
-use Rattle.image.specs.declared.held.Held.{Held}
-use Rattle.image.specs.declared.held.Step.{Step}
+use Rattle.hold.specs.declared.held.Held.{Held}
+use Rattle.hold.specs.declared.held.Step.{Step}
 
 -- "the rest of the run", "places counted from the start of that rest". From the run's end on it is empty, and so "a held place past the run's end
 -- answers 15"

@@ -15,13 +15,13 @@ use Rattle.list.specs.Listing.{Listing}
 use Rattle.list.specs.House.{house}
 use Rattle.list.specs.Content.{Content, Meets}
 use Rattle.types.specs.Value.{Value, IsValue}
 use Rattle.image.specs.Image.{Values, image, images}
 use Rattle.image.specs.Kinds.{values}
 use Rattle.image.specs.Place.{Accepts, Reads, over, foreign, version, broken, whole}
-use Rattle.image.specs.Held.{left, Moves, Steps, Next, Calls, rested, called}
-use Rattle.image.specs.declared.held.Held.{Held}
-use Rattle.image.specs.declared.held.Step.{Step}
+use Rattle.hold.specs.Held.{left, Moves, Steps, Next, Calls, rested, called}
+use Rattle.hold.specs.declared.held.Held.{Held}
+use Rattle.hold.specs.declared.held.Step.{Step}
 use Rattle.image.proofs.House.{house-reads-one}
 
 -- ---- an answer that accepts
 

@@ -35,13 +35,13 @@ use denote.Triple.Spec.{Meets, tripleOf}
 use denote.Triple.Table.{entered}
 use denote.Triple.Walked.{says, Stays, stay-none-slice, walkOf, goes-none-slice, Walks, ends-at, walked, walk-meets}
 use denote.Exit.{yes}
-use Rattle.image.specs.declared.held.Held.{Held}
-use Rattle.image.proofs.held.Held as T
-use Rattle.image.proofs.held.Held.Laws as T′
-use Rattle.image.proofs.held.hold.Key.{name as #image·held·hold}
-use Rattle.image.proofs.held.hold as hold
-use Rattle.image.proofs.held.hold.Statement as stated
-use Rattle.image.proofs.held.hold.Code as code
+use Rattle.hold.specs.declared.held.Held.{Held}
+use Rattle.hold.proofs.held.Held as T
+use Rattle.hold.proofs.held.Held.Laws as T′
+use Rattle.hold.proofs.held.hold.Key.{name as #image·held·hold}
+use Rattle.hold.proofs.held.hold as hold
+use Rattle.hold.proofs.held.hold.Statement as stated
+use Rattle.hold.proofs.held.hold.Code as code
 
 abbrev stayed : Stays (hold.ended .signature .params) (hold.ended .kept)
 stayed = (stay-none-slice (0 ∷ []) tt (plain (λ _. u8)) yes, tt)

@@ -11,16 +11,16 @@
 // and the values of an image are picked before it is read. At the run's end, and past it, every call answers 15: nothing is left there.
 //
 // The four functions that have a `Held` only take it apart; the work is done by the others, on the slice and the place.
-use crate::picker;
-use crate::reader;
 use answer::Answer;
+use image::picker;
+use image::reader;
 use list::house::rows;
 ghost use mathlib.Core.Path.{_≡_};
 ghost use lib.ListN.{drop};
 ghost use Rattle.list.specs.House.{house};
 ghost use Rattle.image.specs.Kinds.{values};
 ghost use Rattle.image.specs.Pick.{Answers, Hands};
-ghost use Rattle.image.specs.Held.{left, Steps, Next};
+ghost use Rattle.hold.specs.Held.{left, Steps, Next};
 
 // The run and the place.
 pub struct Held<'a> {

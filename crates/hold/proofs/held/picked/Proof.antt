@@ -13,16 +13,16 @@ use denote.Slice.{sliceTy, shr-slice-lawful}
 use denote.Triple.Spec.{tripleOf}
 use denote.Triple.Table.{entered, cited}
 use Rattle.list.specs.House.{house}
 use Rattle.image.specs.Kinds.{values}
 use Rattle.image.specs.Pick.{Hands}
-use Rattle.image.proofs.Apart.{Told, meets}
-use Rattle.image.proofs.held.picked_at.Symbol as step-def
-use Rattle.image.proofs.held.picked_at.Symbol.{name as #image·held·picked-at}
-use Rattle.image.proofs.held.picked_at.Met as step-thm
-use Rattle.image.proofs.held.picked.Key.{name as #image·held·picked}
-use Rattle.image.proofs.held.picked as picked
-use Rattle.image.proofs.held.picked.Statement as stated
-use Rattle.image.proofs.held.picked.Code as code
+use Rattle.hold.proofs.Apart.{Told, meets}
+use Rattle.hold.proofs.held.picked_at.Symbol as step-def
+use Rattle.hold.proofs.held.picked_at.Symbol.{name as #image·held·picked-at}
+use Rattle.hold.proofs.held.picked_at.Met as step-thm
+use Rattle.hold.proofs.held.picked.Key.{name as #image·held·picked}
+use Rattle.hold.proofs.held.picked as picked
+use Rattle.hold.proofs.held.picked.Statement as stated
+use Rattle.hold.proofs.held.picked.Code as code
 
 abbrev R : Lfts 1 → RattleType
 R κs = typeAt {n = 1} (shrSlice 0 tt (λ _. u8)) κs

@@ -43,9 +43,9 @@ use denote.Triple.Spec.{Meets, tripleOf}
 use denote.Triple.Walked.{says, Stays, stay-none, walkOf, goes-none, Walks, ends-at, walked, walk-meets}
 use denote.Exit.{yes}
 use denote.Triple.Clauses.{Ended, Clauses, ensured, closing, lasts}
-use Rattle.image.specs.declared.held.Held.{Held}
-use Rattle.image.proofs.held.Held as T
-use Rattle.image.proofs.held.Held.Laws as T′
+use Rattle.hold.specs.declared.held.Held.{Held}
+use Rattle.hold.proofs.held.Held as T
+use Rattle.hold.proofs.held.Held.Laws as T′
 
 -- the struct's type, over the signature's lifetimes
 abbrev B : Lfts 1 → RattleType

@@ -1,7 +1,7 @@
 -- `held::rest` meets its contract. Assumes nothing.
 use borrow.Author.Needs.{needs}
-use Rattle.image.proofs.held.rest.Statement.{statement}
-use Rattle.image.proofs.held.rest.Tie as tie
+use Rattle.hold.proofs.held.rest.Statement.{statement}
+use Rattle.hold.proofs.held.rest.Tie as tie
 use mathlib.Core.Path.{sym}
 use Prim.Native.Nat.{_-_, _≤_}
 use native.Mathlib.Omega.{arith}

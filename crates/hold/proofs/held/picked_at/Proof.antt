@@ -1,13 +1,13 @@
 -- `held::picked_at` meets its contract. Assumes nothing.
 use mathlib.Core.Path.{sym}
 use borrow.Author.Needs.{needs}
 use Rattle.image.proofs.House.{house-hands}
-use Rattle.image.proofs.held.picked_at.Statement.{statement}
-use Rattle.image.proofs.held.picked_at.Tie as tie
-use Rattle.image.proofs.held.picked_at.Reads as reads
-use Rattle.image.proofs.held.picked_at.Lts as lts
-use Rattle.image.proofs.held.rest.Reads as rest-reads
+use Rattle.hold.proofs.held.picked_at.Statement.{statement}
+use Rattle.hold.proofs.held.picked_at.Tie as tie
+use Rattle.hold.proofs.held.picked_at.Reads as reads
+use Rattle.hold.proofs.held.picked_at.Lts as lts
+use Rattle.hold.proofs.held.rest.Reads as rest-reads
 use Rattle.image.proofs.picker.picked.Reads as picked-reads
 use Rattle.list.proofs.house.rows.Reads as rows-reads
 
 -- src/held.rt:52:16

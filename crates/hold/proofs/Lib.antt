@@ -1,0 +1,5 @@
+-- The laws of `hold`.
+-- the reader that holds its run
+pub mod Holding
+-- a held reader is taken apart, and another function is called
+pub mod Apart
