@@ -14,10 +14,10 @@ use Rattle.answer.specs.Table.{accepted, limit}
 use Rattle.list.specs.Words.{firstFrom}
 use Rattle.list.specs.Listing.{Leaf, ref, iban, ccy, bool, num, amt, date, dtm, txt, enum, Kind, group, choice, leaf, Row, rowAt, size}
 use Rattle.list.specs.Content.{Content}
-use Rattle.list.specs.House.{house}
+use Rattle.house.specs.House.{house}
 use Rattle.list.proofs.Words.{firstFrom-none}
 use Rattle.list.proofs.Next.{row-past}
-use Rattle.list.proofs.HouseSound.{house-well}
+use Rattle.house.proofs.HouseSound.{house-well}
 use Rattle.types.specs.Value.{Value}
 use Rattle.types.proofs.Values.{value-laws}
 use Rattle.types.proofs.Spell.{spell-sound, spell-complete}

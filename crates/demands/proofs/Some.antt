@@ -15,8 +15,8 @@ use Rattle.characters.proofs.Longest.{stop, more}
 use Rattle.list.specs.Listing.{Listing}
 use Rattle.list.specs.WellFormed.{WellFormed}
 use Rattle.list.specs.Content.{Content}
-use Rattle.list.specs.House.{house}
-use Rattle.list.proofs.HouseSound.{house-well}
+use Rattle.house.specs.House.{house}
+use Rattle.house.proofs.HouseSound.{house-well}
 use Rattle.xml.specs.House.{HouseXml}
 use Rattle.xml.specs.Message.{rootAt}
 use Rattle.xml.specs.Auto.{At, done, start, first, before, root, declare, name, tail, gap, attr, equals, quote, value, within, slash, content, part, less, close, St, dead, at, run, liveLen}

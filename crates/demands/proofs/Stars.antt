@@ -20,9 +20,9 @@ use Rattle.list.specs.Words.{firstFrom}
 use Rattle.list.specs.Listing.{rowAt, child, nextDue}
 use Rattle.list.specs.Sound.{firstOf, secondOf}
 use Rattle.list.specs.Content.{Content as Kept}
-use Rattle.list.specs.House.{house}
+use Rattle.house.specs.House.{house}
 use Rattle.list.specs.Test.{every, begins}
-use Rattle.list.proofs.HouseSound.{house-well}
+use Rattle.house.proofs.HouseSound.{house-well}
 use Rattle.list.proofs.Words.{same-eq}
 use Rattle.xml.specs.House.{double, Tag, Content, end, piece, empty, full, OneElement, whole}
 use Rattle.xml.specs.Message.{messageOf}

@@ -7,7 +7,7 @@ use Rattle.answer.specs.declared.Answer.{Answer}
 use Rattle.answer.specs.Table.{answer, accepted, limit, tooLong, notUtf8, notHouseXml, noRoom}
 use Rattle.characters.specs.Utf8.{Utf8, LongestUtf8}
 use Rattle.list.specs.Listing.{Listing}
-use Rattle.list.specs.House.{house}
+use Rattle.house.specs.House.{house}
 use Rattle.list.specs.Content.{Content}
 use Rattle.xml.specs.House.{HouseXml, Longest}
 use Rattle.walk.specs.First.{found, firstViolation}

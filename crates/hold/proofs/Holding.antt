@@ -12,7 +12,7 @@ use Rattle.text.specs.Lists.{Each}
 use Rattle.answer.specs.declared.Answer.{Answer}
 use Rattle.answer.specs.Table.{limit, accepted, noHeader}
 use Rattle.list.specs.Listing.{Listing}
-use Rattle.list.specs.House.{house}
+use Rattle.house.specs.House.{house}
 use Rattle.list.specs.Content.{Content, Meets}
 use Rattle.types.specs.Value.{Value, IsValue}
 use Rattle.image.specs.Image.{Values, image, images}

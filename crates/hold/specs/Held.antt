@@ -6,7 +6,7 @@ use Prim.Native.Nat.{ℕ, _+_}
 use lib.ListN.{drop}
 use denote.Ref.{now}
 use Rattle.answer.specs.declared.Answer.{Answer}
-use Rattle.list.specs.House.{house}
+use Rattle.house.specs.House.{house}
 use Rattle.image.specs.Kinds.{values}
 use Rattle.image.specs.Place.{Reads}
 use Rattle.hold.specs.declared.held.Held.{Held}

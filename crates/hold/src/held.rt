@@ -12,12 +12,12 @@
 //
 // The four functions that have a `Held` only take it apart; the work is done by the others, on the slice and the place.
 use answer::Answer;
+use house::tables::rows;
 use image::picker;
 use image::reader;
-use list::house::rows;
 ghost use mathlib.Core.Path.{_≡_};
 ghost use lib.ListN.{drop};
-ghost use Rattle.list.specs.House.{house};
+ghost use Rattle.house.specs.House.{house};
 ghost use Rattle.image.specs.Kinds.{values};
 ghost use Rattle.image.specs.Pick.{Answers, Hands};
 ghost use Rattle.hold.specs.Held.{left, Steps, Next};

@@ -15,8 +15,8 @@ use Rattle.characters.specs.Decoding.{decoded}
 use Rattle.characters.specs.Utf8.{encode}
 use Rattle.list.specs.Listing.{rowAt}
 use Rattle.list.specs.Table.{cell}
-use Rattle.list.specs.House.{house}
-use Rattle.list.specs.HouseTable.{houseRows}
+use Rattle.house.specs.House.{house}
+use Rattle.house.specs.HouseTable.{houseRows}
 use Rattle.list.specs.Content.{items}
 use Rattle.types.specs.Text.{isRef, isTxt}
 use Rattle.stored.specs.Tests.{isByte, every, some as any, apart as slashes}

@@ -4,9 +4,9 @@ use mathlib.Core.List.{List}
 use Prim.Native.Nat.{ℕ}
 use Rattle.answer.specs.declared.Answer.{Answer}
 use Rattle.list.specs.Listing.{Listing}
-use Rattle.list.specs.House.{house}
-use Rattle.list.specs.HouseTable.{houseRows, housePool}
-use Rattle.list.proofs.HouseSound.{house-is, house-sound, house-well}
+use Rattle.house.specs.House.{house}
+use Rattle.house.specs.HouseTable.{houseRows, housePool}
+use Rattle.house.proofs.HouseSound.{house-is, house-sound, house-well}
 use Rattle.image.specs.Kinds.{values}
 use Rattle.image.specs.Place.{Reads}
 use Rattle.image.specs.Pick.{Picks, Answers, Hands}

@@ -12,7 +12,7 @@ use Rattle.answer.specs.declared.Answer.{Answer}
 use Rattle.answer.specs.Table.{answer}
 use Rattle.line.specs.Line.{refusal}
 use Rattle.line.proofs.Lines.{taken-out, counts}
-use Rattle.list.specs.House.{house}
+use Rattle.house.specs.House.{house}
 use Rattle.image.specs.Kinds.{values}
 use Rattle.image.specs.Place.{Reads}
 use Rattle.demands.specs.Checks.{Checks}

@@ -7,9 +7,7 @@ use native.Mathlib.Decide.{ℕ-discrete}
 use Rattle.list.specs.Listing.{Listing, Child}
 use Rattle.list.specs.WellFormed.{WellFormed}
 use Rattle.list.specs.EachRow.{EachRow}
-use Rattle.list.specs.House.{house}
 use Rattle.list.proofs.Levels.{level-child, level-bound}
-use Rattle.list.proofs.HouseSound.{house-well}
 
 module _ (l : Listing) (w : WellFormed l) (p r : ℕ) (c : Child l p r) where
   pub each-row : EachRow l p r
@@ -29,7 +27,3 @@ module _ (l : Listing) (w : WellFormed l) (p r : ℕ) (c : Child l p r) where
     uncounted = w .uncounted p r c;
     kind = w .kinds p r c;
   }
-
--- and so every row of the house list
-pub house-row : (p r : ℕ) → Child house p r → EachRow house p r
-house-row p r c = each-row house house-well p r c

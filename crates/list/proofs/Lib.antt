@@ -25,7 +25,5 @@ pub mod Split
 pub mod Places
 -- what passes the computed test is sound
 pub mod Sound
--- the house list is what its constants say
-pub mod HouseSound
--- every row of a well-formed list, and of the house list
+-- every row of a well-formed list
 pub mod EachRow

@@ -17,7 +17,3 @@ pub mod EachRow
 pub mod Test
 -- how the lookups go
 pub mod Lookup
--- the house list
-pub mod House
--- its tables
-pub mod HouseTable

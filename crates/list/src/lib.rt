@@ -4,4 +4,3 @@
 pub mod table; // table.rt: the columns, and the numbers for counts and kinds
 pub mod lookup; // lookup.rt: a cell, a child by its name, what is due, a word's place
 pub mod word; // word.rt: the place of a word in an ENUM
-pub mod house; // house.rt: the 57 rows

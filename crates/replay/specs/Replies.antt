@@ -6,7 +6,7 @@ use Prim.Native.Nat.{ℕ}
 use lib.Dec.{eqb}
 use lib.ListN.{length, take}
 use Rattle.answer.specs.declared.Answer.{Answer}
-use Rattle.list.specs.House.{house}
+use Rattle.house.specs.House.{house}
 use Rattle.image.specs.Kinds.{values}
 use Rattle.image.specs.Place.{Reads}
 use Rattle.image.specs.Pick.{Picks}

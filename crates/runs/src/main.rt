@@ -2,12 +2,12 @@
 // picked, in hexadecimal. A run stands behind 13 bytes: 1 for a read or 2 for a pick, then the row, the n and the run's length, each
 // in 32 bits, little-endian. The answers that it is held to were computed by another program.
 use answer::Answer;
+use house::tables::rows;
 use image::picker::pick;
 use image::picker::picked;
 use image::reader::read;
 use libc::STDIN_FILENO;
 use libc::STDOUT_FILENO;
-use list::house::rows;
 ghost use Prim.Native.Nat.{_<_};
 
 fn wide(x: u8) -> usize

@@ -14,10 +14,10 @@ use Rattle.text.proofs.Pasting.{pasted-yes}
 use Rattle.list.specs.Listing.{Listing}
 use Rattle.list.specs.Table.{listOf}
 use Rattle.list.specs.Sound.{Sound}
-use Rattle.list.specs.HouseTable.{houseRows, housePool}
+use Rattle.house.specs.HouseTable.{houseRows, housePool}
 use Rattle.list.specs.WellFormed.{WellFormed}
-use Rattle.list.specs.House.{house}
-use Rattle.list.proofs.HouseSound.{house-is, house-sound, house-well}
+use Rattle.house.specs.House.{house}
+use Rattle.house.proofs.HouseSound.{house-is, house-sound, house-well}
 use Rattle.list.specs.Content.{Content, Meets}
 use Rattle.xml.specs.House.{HouseXml, Longest, Content as Tags, end, piece, empty, full, OneElement}
 use Rattle.xml.specs.Message.{Parts, partsOf, rootAt, messageOf}

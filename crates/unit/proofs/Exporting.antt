@@ -10,8 +10,8 @@ use lib.Seq.{slice, slice-empty, take-append-seam}
 use Rattle.answer.specs.declared.Answer.{Answer}
 use Rattle.answer.specs.Table.{answer}
 use Rattle.text.proofs.Parts.{part-take, part-length}
-use Rattle.list.specs.House.{house}
-use Rattle.list.specs.HouseTable.{houseRows}
+use Rattle.house.specs.House.{house}
+use Rattle.house.specs.HouseTable.{houseRows}
 use Rattle.image.specs.Kinds.{values}
 use Rattle.image.specs.Place.{Reads, over, foreign, version, broken, whole}
 use Rattle.image.specs.Pick.{Picks}

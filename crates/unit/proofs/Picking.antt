@@ -8,7 +8,7 @@ use lib.ListN.{length, drop, length-append, length-drop}
 use Rattle.answer.specs.declared.Answer.{Answer}
 use Rattle.list.specs.Listing.{Kind, Listing, rowAt}
 use Rattle.list.specs.Content.{items}
-use Rattle.list.specs.House.{house}
+use Rattle.house.specs.House.{house}
 use Rattle.image.specs.Image.{Values, Item, header, valueBytes, itemBytes, bytes, image}
 use Rattle.image.specs.Kinds.{values}
 use Rattle.image.specs.Pick.{Picks, refused, missing, found, Answers, Hands}

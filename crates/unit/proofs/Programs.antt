@@ -8,7 +8,7 @@ use lib.Seq.{take-append-seam}
 use Rattle.answer.specs.declared.Answer.{Answer}
 use Rattle.answer.specs.Table.{accepted}
 use Rattle.list.specs.Content.{Content}
-use Rattle.list.specs.House.{house}
+use Rattle.house.specs.House.{house}
 use Rattle.types.specs.Value.{Value}
 use Rattle.image.specs.Kinds.{values}
 use Rattle.image.specs.Place.{Reads}

@@ -2,9 +2,9 @@
 use crate::check::check;
 use crate::read::read;
 use answer::Answer;
-use list::house::rows;
+use house::tables::rows;
 ghost use Rattle.answer.specs.Table.{answer};
-ghost use Rattle.list.specs.House.{house};
+ghost use Rattle.house.specs.House.{house};
 ghost use Rattle.image.specs.Kinds.{values};
 ghost use Rattle.image.specs.Place.{Reads};
 ghost use Rattle.demands.specs.Checks.{Checks};

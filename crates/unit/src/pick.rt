@@ -1,7 +1,7 @@
 // The entry for values: the n-th leaf, from 0, of a row in the image that a run begins with.
 use answer::Answer;
-use list::house::rows;
-ghost use Rattle.list.specs.House.{house};
+use house::tables::rows;
+ghost use Rattle.house.specs.House.{house};
 ghost use Rattle.image.specs.Kinds.{values};
 ghost use Rattle.image.specs.Pick.{Answers, Hands};
 

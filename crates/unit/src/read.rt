@@ -1,7 +1,7 @@
 // The entry for images: the length of the image that a run begins with, or why it begins with none.
 use answer::Answer;
-use list::house::rows;
-ghost use Rattle.list.specs.House.{house};
+use house::tables::rows;
+ghost use Rattle.house.specs.House.{house};
 ghost use Rattle.image.specs.Kinds.{values};
 ghost use Rattle.image.specs.Place.{Reads};
 

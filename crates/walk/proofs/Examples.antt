@@ -6,7 +6,7 @@ use Rattle.text.specs.Bytes.{isBlank}
 use Rattle.text.specs.Lists.{Each, same}
 use Rattle.list.specs.Words.{firstFrom}
 use Rattle.list.specs.Listing.{rowAt, child}
-use Rattle.list.specs.House.{house}
+use Rattle.house.specs.House.{house}
 use Rattle.xml.specs.Message.{Parts}
 use Rattle.walk.specs.First.{Found, absent, childRows, inside, firstViolation}
 use Rattle.walk.specs.Example.{anyText, examples}

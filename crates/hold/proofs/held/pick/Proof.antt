@@ -8,7 +8,7 @@ use denote.RattleType.{RattleType}
 use denote.Struct.Laws as LL
 use denote.Triple.Spec.{tripleOf}
 use denote.Triple.Table.{entered, cited}
-use Rattle.list.specs.House.{house}
+use Rattle.house.specs.House.{house}
 use Rattle.image.specs.Kinds.{values}
 use Rattle.image.specs.Pick.{Answers}
 use Rattle.answer.specs.declared.Answer.{Answer}
@@ -16,9 +16,9 @@ use Rattle.answer.proofs.Answer as S
 use Rattle.answer.proofs.Answer.Laws as S′
 use Rattle.hold.proofs.Apart.{Told, meets}
 use Rattle.hold.proofs.held.pick_at.Symbol as step-def
-use Rattle.hold.proofs.held.pick_at.Symbol.{name as #image·held·pick-at}
+use Rattle.hold.proofs.held.pick_at.Symbol.{name as #hold·held·pick-at}
 use Rattle.hold.proofs.held.pick_at.Met as step-thm
-use Rattle.hold.proofs.held.pick.Key.{name as #image·held·pick}
+use Rattle.hold.proofs.held.pick.Key.{name as #hold·held·pick}
 use Rattle.hold.proofs.held.pick as pick
 use Rattle.hold.proofs.held.pick.Statement as stated
 use Rattle.hold.proofs.held.pick.Code as code
@@ -33,6 +33,6 @@ pub pick-spec : {M : Type 1} → stated.statement M
 unfolding code.routine tablesOf
 pick-spec 𝓤 H 𝓜 𝓖 𝓡 =
     entered 𝓤 H (tripleOf 𝓤 H (𝓖 .A) pick.signature (pick.spec 𝓤 H (𝓖 .A) (𝓜 .mem) (𝓡 .run)))
-    (tables 𝓤 H 𝓜 𝓡 code.env .C) (tables 𝓤 H 𝓜 𝓡 code.env .Λ) #image·held·pick code.function (code.unfolded 𝓤 H 𝓜 𝓡)
-    (meets R Claim 𝓤 H (𝓖 .A) (givenOf 𝓤 H 𝓜 𝓖) S′.mir #image·held·pick-at (λ κ r u is. LL.lawful S.the-type S′.the-laws 𝓤 H (𝓖 .A) (givenOf 𝓤 H 𝓜 𝓖) .typed r _ is .0) (tablesOf 𝓤 H 𝓜 (tables 𝓤 H 𝓜 𝓡 code.env))
-    (cited 𝓤 H (Told R Claim 𝓤 H (𝓖 .A)) 𝓜 𝓡 code.env #image·held·pick-at step-def.routine code.calls-image·held·pick-at (step-thm.met 𝓤 H 𝓜 𝓖 𝓡)))
+    (tables 𝓤 H 𝓜 𝓡 code.env .C) (tables 𝓤 H 𝓜 𝓡 code.env .Λ) #hold·held·pick code.function (code.unfolded 𝓤 H 𝓜 𝓡)
+    (meets R Claim 𝓤 H (𝓖 .A) (givenOf 𝓤 H 𝓜 𝓖) S′.mir #hold·held·pick-at (λ κ r u is. LL.lawful S.the-type S′.the-laws 𝓤 H (𝓖 .A) (givenOf 𝓤 H 𝓜 𝓖) .typed r _ is .0) (tablesOf 𝓤 H 𝓜 (tables 𝓤 H 𝓜 𝓡 code.env))
+    (cited 𝓤 H (Told R Claim 𝓤 H (𝓖 .A)) 𝓜 𝓡 code.env #hold·held·pick-at step-def.routine code.calls-hold·held·pick-at (step-thm.met 𝓤 H 𝓜 𝓖 𝓡)))

@@ -8,7 +8,7 @@ use Rattle.hold.proofs.held.picked_at.Reads as reads
 use Rattle.hold.proofs.held.picked_at.Lts as lts
 use Rattle.hold.proofs.held.rest.Reads as rest-reads
 use Rattle.image.proofs.picker.picked.Reads as picked-reads
-use Rattle.list.proofs.house.rows.Reads as rows-reads
+use Rattle.house.proofs.tables.rows.Reads as rows-reads
 
 -- src/held.rt:52:16
 rows-requires : tie.Need-rows-requires

@@ -3,7 +3,7 @@ use borrow.Author.Needs.{needs}
 use Rattle.unit.proofs.check.check.Statement.{statement}
 use Rattle.unit.proofs.check.check.Tie as tie
 use native.Mathlib.Omega.{arith}
-use Rattle.list.specs.House.{house}
+use Rattle.house.specs.House.{house}
 use Rattle.demands.specs.Instance.{houseKinds}
 use Rattle.demands.proofs.Saying.{all-utf8, says-long, says-bytes}
 use Rattle.unit.proofs.Checking.{says-markup, is-whole}

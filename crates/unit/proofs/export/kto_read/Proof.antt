@@ -3,7 +3,7 @@ use mathlib.Core.Path.{subst}
 use Prim.Native.Nat.{ℕ}
 use borrow.Author.Needs.{needs}
 use Rattle.answer.specs.Table.{answer}
-use Rattle.list.specs.House.{house}
+use Rattle.house.specs.House.{house}
 use Rattle.image.specs.Kinds.{values}
 use Rattle.image.specs.Place.{Reads}
 use Rattle.unit.proofs.Exporting.{read-row}

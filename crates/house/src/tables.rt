@@ -1,6 +1,6 @@
 // The house list as its two tables.
 ghost use mathlib.Core.Path.{_≡_};
-ghost use Rattle.list.specs.HouseTable.{houseRows, housePool};
+ghost use Rattle.house.specs.HouseTable.{houseRows, housePool};
 
 // Sixteen cells a row (lookup's columns), row 0 the list's own.
 const ROWS: [u16; 928] = [

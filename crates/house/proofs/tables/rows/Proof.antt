@@ -1,8 +1,8 @@
 -- `house::rows` meets its contract. Assumes nothing.
 use mathlib.Core.Path.{refl}
-use Rattle.list.specs.HouseTable.{houseRows}
-use Rattle.list.proofs.house.rows.Statement.{statement}
-use Rattle.list.proofs.house.rows.Tie as tie
+use Rattle.house.specs.HouseTable.{houseRows}
+use Rattle.house.proofs.tables.rows.Statement.{statement}
+use Rattle.house.proofs.tables.rows.Tie as tie
 
 returns : tie.Need-returns
 unfolding houseRows

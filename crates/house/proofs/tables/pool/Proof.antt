@@ -1,8 +1,8 @@
 -- `house::pool` meets its contract. Assumes nothing.
 use mathlib.Core.Path.{refl}
-use Rattle.list.specs.HouseTable.{housePool}
-use Rattle.list.proofs.house.pool.Statement.{statement}
-use Rattle.list.proofs.house.pool.Tie as tie
+use Rattle.house.specs.HouseTable.{housePool}
+use Rattle.house.proofs.tables.pool.Statement.{statement}
+use Rattle.house.proofs.tables.pool.Tie as tie
 
 returns : tie.Need-returns
 unfolding housePool

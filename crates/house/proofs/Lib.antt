@@ -1,0 +1,3 @@
+-- The laws of `house`.
+-- the house list is what its constants say
+pub mod HouseSound
