@@ -15,9 +15,10 @@ use Rattle.types.specs.declared.judged.Judged.the-variants as J
 use Rattle.types.specs.Code.{Ccy}
 use Rattle.types.specs.Kind.{code, Given}
 use Rattle.types.specs.Value.{Value, text, place, truth, natural, amount, day, moment, Spelt}
-use Rattle.types.specs.Judged.{Exactly, Means, Right, accepted, refused, Checked}
+use Rattle.types.specs.Judged.{Exactly, Means, Right, accepted, refused, Formed, formed, formless, FormedAny, Checked}
+use Rattle.types.specs.Texts.{Spelled, spelled, unspelled}
 use Rattle.types.proofs.Numbered.{code-low, code-high}
-use Rattle.types.proofs.Spell.{Apart, one-spelt}
+use Rattle.types.proofs.Spell.{Apart, one-form, one-spelt}
 
 -- ---- tests
 pub exactly-one : (q r : Bool) {P : Type 0} → Exactly q P → Exactly r P → q ≡ r
@@ -85,3 +86,19 @@ checked-one kind k s q r a b = go (kinds kind k)
     go : Kinds kind k → q ≡ r
     go (has l e n g d) = right-one l (ascii "EUR") s q r d (a .known l e n g (ascii "EUR") some-ccy) (b .known l e n g (ascii "EUR") some-ccy)
     go (none f) = a .unknown f ∙ sym (b .unknown f)
+
+-- ---- the checkers of single kinds
+pub formed-one : (k : Leaf) (t : List ℕ) (q r : Judged) → Apart k → FormedAny k t q → FormedAny k t r → q ≡ r
+formed-one k t q r d a b = go (a (ascii "EUR") some-ccy) (b (ascii "EUR") some-ccy)
+  where
+    go : Formed k (ascii "EUR") t q → Formed k (ascii "EUR") t r → q ≡ r
+    go (formed v f m) (formed v′ f′ m′) = means-one q (ascii "EUR") t v m ∙ ap meaning (one-form k (ascii "EUR") t v v′ d f f′) ∙ sym (means-one r (ascii "EUR") t v′ m′)
+    go (formed v f m) (formless e n) = absurd (n v f)
+    go (formless e n) (formed v f m) = absurd (n v f)
+    go (formless e n) (formless e′ n′) = e ∙ sym e′
+
+pub spelled-one : (g : List ℕ → Bool) (s : List ℕ) (q r : Judged) → Spelled g s q → Spelled g s r → q ≡ r
+spelled-one g s q r (spelled p e) (spelled p′ e′) = e ∙ ap (λ (cs : List ℕ). J.Text (length (encodeAll cs))) (one-text s (p .chars) (p′ .chars) (p .spells) (p′ .spells)) ∙ sym e′
+spelled-one g s q r (spelled p e) (unspelled e′ n) = absurd (n p)
+spelled-one g s q r (unspelled e n) (spelled p e′) = absurd (n p)
+spelled-one g s q r (unspelled e n) (unspelled e′ n′) = e ∙ sym e′

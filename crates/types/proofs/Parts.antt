@@ -12,7 +12,7 @@ use Rattle.text.proofs.Spans.{span-all, span-next}
 use Rattle.types.specs.Plain.{Trimmed}
 use Rattle.types.specs.Trim.{Trim, InkEnd}
 use Rattle.types.proofs.Classes.{Solid, solid-ink}
-use Rattle.types.proofs.Trim.{Dense, clash, front, back}
+use Rattle.types.proofs.Trim.{Dense, clash, front, back, solid-last}
 
 -- ---- a part by its two ends
 pub part-none : (a b : ℕ) (s : List ℕ) → (length s < a) → [] ≡ slice a b s
@@ -77,13 +77,24 @@ all-has : (l : List ℕ) (x : ℕ) (t : List ℕ) → All isBlank (l ++ (x ∷ t
 all-has [] x t h = h .0
 all-has (y ∷ l) x t h = all-has l x t (h .1)
 
-trim-go : (s t u : List ℕ) → Trim s t → Trimmed s u → Each Solid u → 1 ≤ length u → u ≡ t
-trim-go s t [] w v d h = absurd (omega arith)
-trim-go s [] (y ∷ u) w v d h =
-    absurd (clash y (all-has (v .lead) y (u ++ v .tail) (subst (All isBlank) (sym (w .is .is) ∙ v .is) (all-join (w .is .lead) (w .is .tail) (w .is .blanks .0) (w .is .blanks .1)))) (solid-ink y (d .0)))
-trim-go s (x ∷ t) (y ∷ u) w v d h =
-    back (y ∷ u) (x ∷ t) (v .tail) (w .is .tail) d (w .last) (v .blanks .1) (w .is .blanks .1)
-    (front (v .lead) (w .is .lead) y x (u ++ v .tail) (t ++ w .is .tail) (v .blanks .0) (w .is .blanks .0) (solid-ink y (d .0)) (w .first x t refl) (sym (v .is) ∙ w .is .is))
+-- a text that is all blanks has no character that is none
+none-left : (s : List ℕ) (x : ℕ) (t : List ℕ) → Trim s [] → Trim s (x ∷ t) → ⊥
+none-left s x t w v =
+    clash x
+    (all-has (v .is .lead) x (t ++ v .is .tail) (subst (All isBlank) (sym (w .is .is) ∙ v .is .is) (all-join (w .is .lead) (w .is .tail) (w .is .blanks .0) (w .is .blanks .1))))
+    (v .first x t refl)
 
+pub trim-one : (s t u : List ℕ) → Trim s t → Trim s u → t ≡ u
+trim-one s [] [] w v = refl
+trim-one s [] (y ∷ u) w v = absurd (none-left s y u w v)
+trim-one s (x ∷ t) [] w v = absurd (none-left s x t v w)
+trim-one s (x ∷ t) (y ∷ u) w v =
+    back (x ∷ t) (y ∷ u) (w .is .tail) (v .is .tail) (w .last) (v .last) (w .is .blanks .1) (v .is .blanks .1)
+    (front (w .is .lead) (v .is .lead) x y (t ++ w .is .tail) (u ++ v .is .tail) (w .is .blanks .0) (v .is .blanks .0) (w .first x t refl) (v .first y u refl) (sym (w .is .is) ∙ v .is .is))
+
+-- where what is left has no blank, it is that
 pub trim-is : (s t u : List ℕ) → Trim s t → Trimmed s u → Dense u → u ≡ t
-trim-is s t u w v d = trim-go s t u w v (d .solid) (d .some)
+trim-is s t u w v d = trim-one s u t dense w
+  where
+    dense : Trim s u
+    dense = record { is = v; first = λ x l e. solid-ink x (subst (Each Solid) e (d .solid) .0); last = solid-last u (d .solid) }

@@ -213,7 +213,13 @@ spell-found k w cs v d s = ap (formOf k w) (left-of k w cs (s .left) v (s .lost)
 pub spell-complete : (k : Leaf) (w cs : List ℕ) (v : Value) → LeafOk k → Spelt k w cs v → spell k w cs ≡ some v
 spell-complete k w cs v ok s = spell-found k w cs v (apart-of k ok) s
 
--- a text spells at most one value
+-- characters have at most one value, and so has a text
+pub one-form : (k : Leaf) (w t : List ℕ) (v v′ : Value) → Apart k → Form k w t v → Form k w t v′ → v ≡ v′
+one-form k w t v v′ d a b =
+    let p = form-complete k w t v d a in
+    let q = form-complete k w t v′ d b in
+    cc
+
 pub one-spelt : (k : Leaf) (w cs : List ℕ) (v v′ : Value) → Apart k → Spelt k w cs v → Spelt k w cs v′ → v ≡ v′
 one-spelt k w cs v v′ d a b =
     let p = spell-found k w cs v d a in

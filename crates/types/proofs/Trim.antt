@@ -40,13 +40,20 @@ blank-end (x ∷ []) r h f = absurd (clash x (h .0) (f [] x refl))
 blank-end (x ∷ y ∷ t) r h f = let e = blank-end (y ∷ t) r (h .1) (last-tail x (y ∷ t) f) in absurd (let z : _≡_ {A = ℕ} 0 1 = cc in omega arith)
 
 -- and so are those behind it
-pub back : (u t l m : List ℕ) → Each Solid u → Last t → All isBlank l → All isBlank m → u ++ l ≡ t ++ m → u ≡ t
-back [] t l m s f a b e = sym (blank-end t m (subst (All isBlank) e a) f)
-back (x ∷ u) [] l m s f a b e = absurd (clash x (subst (All isBlank) (sym e) b .0) (solid-ink x (s .0)))
-back (x ∷ u) (y ∷ t) l m s f a b e =
+pub back : (u t l m : List ℕ) → Last u → Last t → All isBlank l → All isBlank m → u ++ l ≡ t ++ m → u ≡ t
+back [] t l m g f a b e = sym (blank-end t m (subst (All isBlank) e a) f)
+back (x ∷ u) [] l m g f a b e = blank-end (x ∷ u) l (subst (All isBlank) (sym e) b) g
+back (x ∷ u) (y ∷ t) l m g f a b e =
     let q : x ≡ y = cc in
-    let p = back u t l m (s .1) (last-tail y t f) a b (cc) in
+    let p = back u t l m (last-tail x u g) (last-tail y t f) a b (cc) in
     cc
+
+solid-end : (v : List ℕ) (x : ℕ) → Each Solid (v ++ (x ∷ [])) → Solid x
+solid-end [] x s = s .0
+solid-end (y ∷ v) x s = solid-end v x (s .1)
+
+pub solid-last : (t : List ℕ) → Each Solid t → Last t
+solid-last t s u x e = solid-ink x (solid-end u x (subst (Each Solid) e s))
 
 -- nothing is left of nothing
 pub trim-none : (t : List ℕ) → Trimmed [] t → Dense t → ⊥
