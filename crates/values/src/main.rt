@@ -66,8 +66,8 @@ fn low(n: usize) -> u8 {
 
 // The place of a word, which is its value.
 fn judge_word(parameter: u8, cases: &[u8], start: usize, end: usize) {
-    let rows = list::house::rows();
-    let pool = list::house::pool();
+    let rows = house::tables::rows();
+    let pool = house::tables::pool();
     let n = word_place(&rows, &pool, words_row(parameter), cases, start, end);
     let byte = [low(n)];
     if n == 0 {
