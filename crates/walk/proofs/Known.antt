@@ -30,6 +30,7 @@ use Rattle.tags.proofs.Steps.{token-later}
 use Rattle.walk.specs.declared.level.Level.{Level}
 use Rattle.walk.specs.declared.step.Here.{Here}
 use Rattle.walk.specs.declared.step.Turn.{Turn}
+use Rattle.walk.specs.declared.step.Met.{Met}
 use Rattle.walk.specs.declared.step.Met.the-variants.{Opened, Closed, Refused}
 use Rattle.walk.specs.Tables.{nothing, isGroupIn, openingIn}
 use Rattle.walk.specs.Stride.{ownIn, inkBefore, endIn, refusedAt, refusal, outer, closedIn, rowIn, inner, enteredIn, vacantIn, metIn, inkAhead, stepBy, stepIn}
@@ -148,6 +149,14 @@ module _ (s : List ℕ) (at : ℕ) where
 
 -- ---- a step that refuses nothing
 
+abbrev isOpened : Met → Bool
+isOpened Opened = true
+isOpened Closed = false
+isOpened Refused = false
+
+clash : Opened ≡ Closed → ⊥
+clash e = true≢false (ap isOpened e)
+
 two-ways : (b c : Bool) (x y z : Turn) → x .met ≡ Refused → z .met ≡ Refused → cond b (cond c x y) z .met ≢ Refused → cond b (cond c x y) z ≡ y
 two-ways true true x y z e f n = absurd (n e)
 two-ways true false x y z e f n = refl
@@ -210,3 +219,48 @@ module _ (t pool s st : List ℕ) (here : Here) where
   known n =
       let w = one-way (ltb (inkAhead t pool s st here token) (token .less)) (refusedAt here 10 (here .level .row) (inkAhead t pool s st here token)) (metIn t pool s st here (token .kind) token) refl n in
       (w .0, subst Went (sym (w .1)) (stays (token .kind) refl (λ f. n (ap (λ (x : Turn). x .met) (w .1) ∙ f))))
+
+  -- ---- by the byte behind the `<`
+
+  goes : (q : Kind) → token .kind ≡ q → rank q ≢ 3 → token .kind ≢ End
+  goes q e n = λ f. unlike (token .kind) q End e f n
+
+  module _ (x : Turn) (w : Went x) where
+    pub there : token .less < length s
+    there = inside s (here .at) (token .less) refl (elim w [
+      | entered k e ↦ goes Open k (λ z. absurd (omega (arith, z)))
+      | ended k d e ↦ goes Close k (λ z. absurd (omega (arith, z)))
+      | left k d e ↦ goes Close k (λ z. absurd (omega (arith, z)))
+    ])
+
+    module _ (m : ℕ) (is : m ≡ token .less) where
+      there-is : m < length s
+      there-is = subst (λ (n : ℕ). n < length s) (sym is) there
+
+      pub by-close : headIs solidus (drop (m + 1) s) ≡ true → x .met ≡ Closed
+      by-close b = elim w [
+        | entered k e ↦ absurd (unlike (token .kind) Open Close k (ap (λ (z : Token). z .kind) (is-close s (here .at) m is there-is b)) (λ z. absurd (omega (arith, z))))
+        | ended k d e ↦ ap (λ (z : Turn). z .met) e
+        | left k d e ↦ ap (λ (z : Turn). z .met) e
+      ]
+
+      pub by-open : headIs solidus (drop (m + 1) s) ≡ false → x .met ≡ Opened
+      by-open b = elim w [
+        | entered k e ↦ ap (λ (z : Turn). z .met) e
+        | ended k d e ↦ absurd (not-close s (here .at) m is there-is b k)
+        | left k d e ↦ absurd (not-close s (here .at) m is there-is b k)
+      ]
+
+    pub opened-here : x .met ≡ Opened → x .here ≡ inner t here row (token .less) (token .end) (token .first)
+    opened-here m = elim w [
+      | entered k e ↦ ap (λ (z : Turn). z .here) e
+      | ended k d e ↦ absurd (clash (sym m ∙ ap (λ (z : Turn). z .met) e))
+      | left k d e ↦ absurd (clash (sym m ∙ ap (λ (z : Turn). z .met) e))
+    ]
+
+    pub closed-here : x .met ≡ Closed → here .depth ≢ 0 → (x .less ≡ token .less) × (x .here .at ≡ token .end) × (token .kind ≡ Close)
+    closed-here m n = elim w [
+      | entered k e ↦ absurd (clash (sym (ap (λ (z : Turn). z .met) e) ∙ m))
+      | ended k d e ↦ absurd (n d)
+      | left k d e ↦ (ap (λ (z : Turn). z .less) e, ap (λ (z : Turn). z .here .at) e, k)
+    ]
