@@ -33,7 +33,7 @@ use Rattle.walk.specs.declared.verdict.Verdict.{Verdict}
 use Rattle.demands.specs.Instance.{Kinds, houseKinds}
 use Rattle.demands.specs.File.{Whole, messageIn, File, imageOf}
 use Rattle.demands.specs.Checks.{Answers, Checks, long, bytes, markup, violation, room, image}
-use Rattle.unit.specs.Measured.{verdict, Violation, Says, violates, holds, Measured}
+use Rattle.unit.specs.Measured.{verdict, Violation, Says, violates, holds, Measured, Faultless}
 use Rattle.unit.specs.Pass.{Ready, FilledIn}
 use Rattle.demands.proofs.Codes.{violation-code}
 use Rattle.demands.proofs.House.{spelling}
@@ -97,6 +97,14 @@ module _ (k : Kinds) (y : Spelling (k .types)) (l : Listing) (wf : WellFormed l)
         go (violates c r o z e) = absurd (omega (arith, code-is c r o e, violation-code (k .types) l (messageIn w) c r o z))
         go (holds z c h e) = record { content = c; none = z; has = h; file = file-of c z h; long = ap (λ (x : Verdict). x .place) e }
 
+    -- a code of 0 says that there is no violation
+    pub is-fine : v .code ≡ 0 → Faultless k l s
+    is-fine n x = go (m x)
+      where
+        go : Says k l (messageOf (x .tree)) v → firstViolation (k .types) l (messageOf (x .tree)) ≡ fine
+        go (violates c r o z e) = absurd (omega (arith, code-is c r o e, violation-code (k .types) l (messageOf (x .tree)) c r o z))
+        go (holds z c h e) = z
+
     pub says-room : (d : List ℕ) (a : Answer) → v .code ≡ 0 → length d < v .place → a ≡ noRoom (v .place) → Answers k l s d a d
     says-room d a n h e = let g = good n in room (g .content) (g .file) (omega (arith, g .long)) (e ∙ ap noRoom (g .long)) refl
 
@@ -130,6 +138,9 @@ module _ (t pool : List ℕ) (et : t ≡ houseRows) (ep : pool ≡ housePool) wh
 
       pub house-violation : (d : List ℕ) (a : Answer) → v .code ≢ 0 → a ≡ answer (v .code) (v .row) (v .place) → Checks s d a d
       house-violation = says-violation houseKinds spelling house house-well s w v of-house
+
+      pub house-fine : v .code ≡ 0 → Faultless houseKinds (listOf t pool) s
+      house-fine n = subst (λ (x : Listing). Faultless houseKinds x s) (sym list-is) (is-fine houseKinds spelling house house-well s w v of-house n)
 
       pub house-room : (d : List ℕ) (a : Answer) → v .code ≡ 0 → length d < v .place → a ≡ noRoom (v .place) → Checks s d a d
       house-room = says-room houseKinds spelling house house-well s w v of-house

@@ -21,3 +21,7 @@ pub mod PassEnd
 pub mod PassCoin
 -- a pass with document 01's types
 pub mod PassHouse
+-- where the pass that writes stands, and what each turn adds
+pub mod FillGoing
+-- the same with document 01's types
+pub mod FillHouse

@@ -19,7 +19,7 @@ use Rattle.unit.specs.Measured as measured
 use Rattle.unit.specs.Measured.{Says, Message}
 use Rattle.unit.specs.Pass.{Passes, violates, holds}
 
-abbrev isFine : Found → Bool
+abbrev pub isFine : Found → Bool
 isFine fine = true
 isFine (found c r o) = false
 

@@ -52,17 +52,17 @@ use Rattle.unit.proofs.PassPuts.{puts-none, puts-pasted, puts-then, put
 
 -- ---- what a step met
 
-abbrev isOpened : Met → Bool
+abbrev pub isOpened : Met → Bool
 isOpened Opened = true
 isOpened Closed = false
 isOpened Refused = false
 
-abbrev isRefused : Met → Bool
+abbrev pub isRefused : Met → Bool
 isRefused Opened = false
 isRefused Closed = false
 isRefused Refused = true
 
-apart : (p : Met → Bool) (x y z : Met) → x ≡ y → x ≡ z → p y ≡ true → p z ≡ false → ⊥
+pub apart : (p : Met → Bool) (x y z : Met) → x ≡ y → x ≡ z → p y ≡ true → p z ≡ false → ⊥
 apart p x y z e f g h = true≢false (sym g ∙ ap p (sym e ∙ f) ∙ h)
 
 plainly : (n : ℕ) → 0 + n ≡ n

@@ -32,6 +32,10 @@ module _ (k : Kinds) (l : Listing) where
   abbrev pub Measured : List ℕ → Verdict → Type 0
   Measured s v = (x : HouseXml s) → Says (messageOf (x .tree)) v
 
+  -- a text that is house XML has a message without violation
+  abbrev pub Faultless : List ℕ → Type 0
+  Faultless s = (x : HouseXml s) → firstViolation (k .types) l (messageOf (x .tree)) ≡ fine
+
   -- a text is house XML, its message has no violation, and c is its content
   pub record Message (s : List ℕ) (c : Content (k .types .A)) : Type 0 where
     pub xml : HouseXml s

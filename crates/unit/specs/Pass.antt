@@ -21,6 +21,7 @@ use Rattle.walk.specs.First.{fine, found, firstViolation}
 use Rattle.walk.specs.Denotes.{Has}
 use Rattle.demands.specs.Instance.{Kinds}
 use Rattle.demands.specs.File.{imageOf}
+use Rattle.unit.specs.declared.fill.Spot.{Spot}
 use Rattle.unit.specs.Measured.{verdict, Message}
 
 -- bs stand in the buffer from `at` on where they fit in, and r is the place behind them; the buffer keeps its length
@@ -78,6 +79,10 @@ module _ (k : Kinds) where
     pub most : r ≤ at + 1
     pub group : (pool : List ℕ) → isGroup (kindIn t pool row) ≡ true → Puts d at (row ∷ []) r d′
     pub leaf : (pool : List ℕ) → isGroup (kindIn t pool row) ≡ false → Puts d at [] r d′
+
+-- where the pass stands that writes
+abbrev pub spotAt : ℕ → ℕ → ℕ → Spot
+spotAt r q o = record { row = r; last = q; at = o }
 
 -- what a pass asks: a well-formed list, and a file that codes 1 and 3 do not refuse
 pub record Ready (t pool s : List ℕ) : Type 0 where

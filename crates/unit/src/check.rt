@@ -1,5 +1,5 @@
 // The entry for files: a statement file in, its image out, or the one answer that says why there is none.
-use crate::pass::fill;
+use crate::fill::fill;
 use crate::pass::measure;
 use answer::Answer;
 use characters::utf8::utf8_end;

@@ -24,12 +24,12 @@ ghost use Rattle.image.specs.Image.{header};
 ghost use Rattle.list.specs.Table.{cell, wordsIn, listOf};
 ghost use Rattle.demands.specs.Instance.{houseKinds};
 ghost use Rattle.unit.specs.Measured.{verdict, Measured};
-ghost use Rattle.unit.specs.Pass.{Puts, Worded, Valued, Shuts, Opens, Ready, Passed, FilledIn};
+ghost use Rattle.unit.specs.Pass.{Puts, Worded, Valued, Shuts, Opens, Ready, Passed};
 
 // `KTO`, version 1 in 16 bits, and the root's row byte.
 const HEAD: [u8; 6] = [75, 84, 79, 0, 1, 1];
 
-fn put_head(out: &mut [u8]) -> usize
+pub(crate) fn put_head(out: &mut [u8]) -> usize
     ensures { λ r. ⌜ Puts (now (out .entry)) 0 (header ++ (1 ∷ [])) r (now (out .exit)) ⌝ }
 {
     let head = HEAD;
@@ -76,7 +76,7 @@ fn put_word(
 
 // The value of a leaf of this row and kind whose raw text is s from a to b, and whose currency, if it is an amount, is s from c to d: how
 // many bytes it has, 0 where the text spells none. With no buffer to write to, they are only counted.
-fn put_value(
+pub(crate) fn put_value(
     rows: &[u16],
     pool: &[u8],
     s: &[u8],
@@ -185,12 +185,4 @@ pub(crate) fn measure(rows: &[u16; 928], pool: &[u8; 311], s: &[u8]) -> Verdict
 {
     let mut none = [0u8; 0];
     pass(rows, pool, s, &mut none)
-}
-
-// The image of a message that has no violation, in a buffer that has room for it.
-pub(crate) fn fill(rows: &[u16; 928], pool: &[u8; 311], s: &[u8], out: &mut [u8])
-    requires { ⌜ Ready (now rows) (now pool) (now s) ⌝ }
-    ensures { λ _. ⌜ FilledIn houseKinds (listOf (now (rows .entry)) (now (pool .entry))) (now (s .entry)) (now (out .entry)) (now (out .exit)) ⌝ }
-{
-    pass(rows, pool, s, out);
 }

@@ -41,3 +41,5 @@ pub mod Telling
 pub mod Turning
 -- the root's tag does so too, and what the walk over events finds is the first violation
 pub mod Beginning
+-- what a step that refuses nothing met, by the bytes
+pub mod Known

@@ -3,7 +3,7 @@ use borrow.Author.Needs.{needs}
 use Rattle.unit.proofs.check.message.Statement.{statement}
 use Rattle.unit.proofs.check.message.Tie as tie
 use native.Mathlib.Omega.{arith}
-use Rattle.unit.proofs.Checking.{house-ready, house-violates, house-violation, house-room, house-image}
+use Rattle.unit.proofs.Checking.{house-ready, house-fine, house-violates, house-violation, house-room, house-image}
 
 rows-requires : tie.Need-rows-requires
 rows-requires c κs = search needs
@@ -32,7 +32,7 @@ returns-2 c =
 
 fill-requires : tie.Need-fill-requires
 fill-requires c κs =
-    house-ready _ _ (c .before .before .before .before .before .before .before .before .before .before .before .rows .ensures) (c .before .before .before .before .before .before .before .before .before .before .pool .ensures) _ (c .before .before .before .before .before .before .before .before .before .before .before .before .before .before .pre)
+    (house-ready _ _ (c .before .before .before .before .before .before .before .before .before .before .before .rows .ensures) (c .before .before .before .before .before .before .before .before .before .before .pool .ensures) _ (c .before .before .before .before .before .before .before .before .before .before .before .before .before .before .pre), house-fine _ _ (c .before .before .before .before .before .before .before .before .before .before .before .rows .ensures) (c .before .before .before .before .before .before .before .before .before .before .pool .ensures) _ (c .before .before .before .before .before .before .before .before .before .before .before .before .before .before .pre) _ (c .before .before .before .before .before .before .before .measure .ensures) (omega (arith, c .before .before .before .before .before .if1 .left)))
 
 accepted-requires : tie.Need-accepted-requires
 accepted-requires c κs = search needs

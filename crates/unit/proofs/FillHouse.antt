@@ -1,0 +1,120 @@
+-- The pass that writes with document 01's types, from what the code's calls told. Assumes nothing.
+use mathlib.Core.Path.{_≡_, refl, sym, _∙_, ap, subst}
+use mathlib.Core.Logic.{_≢_}
+use mathlib.Core.Bool.{Bool, true, false}
+use mathlib.Core.List.{List, [], _∷_, _++_}
+use Prim.Native.Nat.{ℕ, _+_, _-_, _≤_, _<_}
+use native.Mathlib.Omega.{arith}
+use lib.ListN.{length, drop}
+use lib.Seq.{slice}
+use Rattle.text.specs.Bytes.{isBlank}
+use Rattle.text.specs.Lists.{span}
+use Rattle.text.specs.Pasting.{pasted}
+use Rattle.text.specs.Pieces.{less, greater, solidus}
+use Rattle.list.specs.Table.{cell, listOf}
+use Rattle.list.specs.Lookup.{childAlong}
+use Rattle.list.specs.Sound.{Sound}
+use Rattle.xml.specs.House.{HouseXml}
+use Rattle.tags.specs.declared.token.Token.{Token}
+use Rattle.tags.specs.Passing.{but, headIs, behind}
+use Rattle.tags.specs.Tokens.{openAt}
+use Rattle.walk.specs.declared.step.Turn.{Turn}
+use Rattle.walk.specs.Tables.{isGroupIn}
+use Rattle.walk.specs.Begin.{beginIn}
+use Rattle.image.specs.Image.{header}
+use Rattle.demands.specs.Instance.{houseKinds}
+use Rattle.demands.proofs.House.{spelling}
+use Rattle.unit.specs.declared.fill.Spot.{Spot}
+use Rattle.unit.specs.Measured.{verdict, Faultless}
+use Rattle.unit.specs.Pass.{Puts, Shuts, Ready, spotAt, FilledIn}
+use Rattle.unit.proofs.PassCoin.{coins}
+use Rattle.unit.proofs.PassEnd.{filled-of}
+use Rattle.unit.proofs.FillGoing.{Writing, first-spot, tag-in, place-low, same-room, spot-ends, out-less, spot-out, row-low, in-less, spot-in, close-in, leaf-less, spot-past}
+
+module _ (t pool s : List ℕ) where
+  -- where the pass stands, whatever says that the tables are sound and the text is house XML
+  abbrev pub WritingOn : List ℕ → ℕ → List ℕ → Spot → ℕ → Type 0
+  WritingOn d₁ a₁ d here at = (sd : Sound t pool) (x : HouseXml s) → Writing houseKinds t pool s sd x d₁ a₁ d here at
+
+  module _ (pre : Ready t pool s × Faultless houseKinds (listOf t pool) s) where
+    pub fill-first : (first : Turn) → first ≡ beginIn t pool s → (here : Spot) → here ≡ spotAt 1 0 (first .here .at)
+        → (d₀ : List ℕ) (a₁ : ℕ) (d₁ : List ℕ) → Puts d₀ 0 (header ++ (1 ∷ [])) a₁ d₁ → WritingOn d₁ a₁ d₁ here a₁
+    fill-first first e here h d₀ a₁ d₁ p sd x =
+        subst (λ (u : Spot). Writing houseKinds t pool s sd x d₁ a₁ d₁ u a₁) (sym h) (first-spot houseKinds t pool s sd x d₁ a₁ coins (pre .1 x) d₀ p first e)
+
+    module _ (d₁ : List ℕ) (a₁ : ℕ) (d : List ℕ) (here : Spot) (at : ℕ) (w : WritingOn d₁ a₁ d here at) (o : ℕ) (e : o ≡ here .at + span isBlank (drop (here .at) s)) where
+      abbrev sd : Sound t pool
+      sd = pre .0 .sound
+
+      abbrev x : HouseXml s
+      x = pre .0 .xml
+
+      pub name-in : o < length s
+      name-in = tag-in houseKinds t pool s sd x d₁ a₁ coins (pre .1 x) d here at (w sd x) o e
+
+      pub fill-low : at ≤ 1000000000000
+      fill-low = place-low houseKinds t pool s sd x d₁ a₁ coins (pre .1 x) d here at (w sd x) o e (pre .0 .small)
+
+      pub fill-room : length d ≡ length d₁
+      fill-room = same-room houseKinds t pool s sd x d₁ a₁ coins (pre .1 x) d here at (w sd x) o e
+
+      module _ (c : Bool) (is : c ≡ headIs solidus (drop (o + 1) s)) where
+        -- a closing tag
+        module _ (y : c ≡ true) where
+          pub fill-ends : here .row ≡ 1 → (d₀ : List ℕ) → Puts d₀ 0 (header ++ (1 ∷ [])) a₁ d₁ → (d′ : List ℕ) → d′ ≡ pasted d at (0 ∷ [])
+              → FilledIn houseKinds (listOf t pool) s d₀ d′
+          fill-ends r d₀ p d′ f q m h =
+              filled-of houseKinds (listOf t pool) spelling (sd .well) s q m d₀ (verdict 0 0 (at + 1)) d′
+              (spot-ends houseKinds t pool s sd (m .xml) d₁ a₁ coins (pre .1 (m .xml)) d here at (w sd (m .xml)) o e (sym is ∙ y) r spelling d₀ p d′ f) h
+
+          module _ (r : here .row ≢ 1) (p : ℕ) (f : p ≡ cell t (here .row) 0) (z : ℕ) (g : z ≡ behind greater (o + 1) (drop (o + 1) s)) (here′ : Spot) (h : here′ ≡ spotAt p (here .row) z) where
+            pub fill-out-less : length s - here′ .at < length s - here .at
+            fill-out-less =
+                let n = out-less houseKinds t pool s sd x d₁ a₁ coins (pre .1 x) d here at (w sd x) o e (sym is ∙ y) r in
+                omega (arith, n, g, ap (λ (u : Spot). u .at) h)
+
+            pub fill-out : WritingOn d₁ a₁ d here′ at
+            fill-out sd x =
+                subst (λ (u : Spot). Writing houseKinds t pool s sd x d₁ a₁ d u at) (sym (h ∙ ap (λ (n : ℕ). spotAt n (here .row) z) f ∙ ap (λ (n : ℕ). spotAt (cell t (here .row) 0) (here .row) n) g))
+                (spot-out houseKinds t pool s sd x d₁ a₁ coins (pre .1 x) d here at (w sd x) o e (sym is ∙ y) r)
+
+        -- an opening tag
+        module _ (y : c ≡ false) (tag : Token) (f : tag ≡ openAt o (drop o s)) (r : ℕ) (q : r ≡ childAlong t pool (here .row) (here .last) (slice (o + 1) (tag .stop) s)) where
+          pub fill-row : r ≤ 255
+          fill-row = row-low houseKinds t pool s sd x d₁ a₁ coins (pre .1 x) d here at (w sd x) o e (sym is ∙ y) tag f r q
+
+          module _ (v : ℕ) (k : v ≡ cell t r 2) (g : Bool) (i : g ≡ isGroupIn v) where
+            kind-is : isGroupIn (cell t r 2) ≡ g
+            kind-is = ap isGroupIn (sym k) ∙ sym i
+
+            -- of a group
+            module _ (j : g ≡ true) (here′ : Spot) (h : here′ ≡ spotAt r 0 (tag .end)) where
+              pub fill-in-less : length s - here′ .at < length s - here .at
+              fill-in-less =
+                  let n = in-less houseKinds t pool s sd x d₁ a₁ coins (pre .1 x) d here at (w sd x) o e (sym is ∙ y) tag f r q (kind-is ∙ j) in
+                  omega (arith, n, ap (λ (u : Spot). u .at) h)
+
+              pub fill-in : (n : ℕ) → n ≡ r → (d′ : List ℕ) → d′ ≡ pasted d at (n ∷ []) → WritingOn d₁ a₁ d′ here′ (at + 1)
+              fill-in n m d′ p sd x =
+                  subst (λ (u : Spot). Writing houseKinds t pool s sd x d₁ a₁ d′ u (at + 1)) (sym h)
+                  (spot-in houseKinds t pool s sd x d₁ a₁ coins (pre .1 x) d here at (w sd x) o e (sym is ∙ y) tag f r q (kind-is ∙ j) n m d′ p)
+
+            -- of a leaf
+            module _ (j : g ≡ false) where
+              pub fill-ready : (r ≤ 255) × (at ≤ 1000000000000) × (isGroupIn (cell t r 2) ≡ false)
+              fill-ready = (fill-row, fill-low, kind-is ∙ j)
+
+              module _ (z : ℕ) (l : z ≡ tag .end + span (but less) (drop (tag .end) s)) where
+                pub fill-close : z < length s
+                fill-close = close-in houseKinds t pool s sd x d₁ a₁ coins (pre .1 x) d here at (w sd x) o e (sym is ∙ y) tag f r q (kind-is ∙ j) z l
+
+                module _ (n : ℕ) (m : n ≡ behind greater (z + 1) (drop (z + 1) s)) (here′ : Spot) (h : here′ ≡ spotAt (here .row) r n) where
+                  pub fill-past-less : length s - here′ .at < length s - here .at
+                  fill-past-less =
+                      let u = leaf-less houseKinds t pool s sd x d₁ a₁ coins (pre .1 x) d here at (w sd x) o e (sym is ∙ y) tag f r q (kind-is ∙ j) z l in
+                      omega (arith, u, m, ap (λ (u : Spot). u .at) h)
+
+                  pub fill-past : (a′ : ℕ) (d′ : List ℕ) → Shuts houseKinds t pool r (slice (tag .first .value) (tag .first .quote) s) (slice (tag .end) z s) d at a′ d′ → WritingOn d₁ a₁ d′ here′ a′
+                  fill-past a′ d′ p sd x =
+                      subst (λ (u : Spot). Writing houseKinds t pool s sd x d₁ a₁ d′ u a′) (sym (h ∙ ap (λ (i : ℕ). spotAt (here .row) r i) m))
+                      (spot-past houseKinds t pool s sd x d₁ a₁ coins (pre .1 x) d here at (w sd x) o e (sym is ∙ y) tag f r q (kind-is ∙ j) z l a′ d′ p)

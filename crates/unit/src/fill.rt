@@ -1,0 +1,99 @@
+// The image of a message that is known to have no violation. Nothing is tested again: a name says its row, and the table which row is around.
+
+use crate::pass::put_head;
+use crate::pass::put_value;
+use list::lookup::cell;
+use list::lookup::child;
+use list::table::KIND;
+use list::table::PARENT;
+use tags::token::Token;
+use tags::token::opening;
+use text::span::blanks_end;
+use walk::begin::begin;
+use walk::skim::close_end;
+use walk::skim::is_close;
+use walk::skim::text_end;
+use walk::tag::is_group;
+use written::place::place;
+ghost use mathlib.Core.Path.{_≡_};
+ghost use mathlib.Core.Bool.{false};
+ghost use Prim.Native.Nat.{_≤_};
+ghost use lib.Seq.{slice};
+ghost use Rattle.list.specs.Table.{cell, listOf};
+ghost use Rattle.walk.specs.Tables.{isGroupIn};
+ghost use Rattle.demands.specs.Instance.{houseKinds};
+ghost use Rattle.unit.specs.Measured.{Faultless};
+ghost use Rattle.unit.specs.Pass.{spotAt, Shuts, Ready, FilledIn};
+
+// The innermost open group, its last child (0: none yet), and the place behind the last tag.
+struct Spot {
+    row: usize,
+    last: usize,
+    at: usize,
+}
+
+fn stand(row: usize, last: usize, at: usize) -> Spot
+    ensures { λ r. ⌜ r ≡ spotAt row last at ⌝ }
+{
+    Spot { row, last, at }
+}
+
+// The item of a leaf of this row, whose text goes from its tag's end up to less. The place behind it, 0 where the text spells no value.
+fn put_leaf(
+    rows: &[u16],
+    pool: &[u8],
+    s: &[u8],
+    row: usize,
+    tag: Token,
+    less: usize,
+    out: &mut [u8],
+    at: usize,
+) -> usize
+    requires { ⌜ (row ≤ 255) × (at ≤ 1000000000000) × (isGroupIn (cell (now rows) row 2) ≡ false) ⌝ }
+    ensures { λ r. ⌜ Shuts houseKinds (now (rows .entry)) (now (pool .entry)) row (slice (tag .first .value) (tag .first .quote) (now (s .entry))) (slice (tag .end) less (now (s .entry))) (now (out .entry)) at r (now (out .exit)) ⌝ }
+{
+    place(out, at, row as u8);
+    let kind = cell(rows, row, KIND);
+    let a = tag.end;
+    let c = tag.first.value;
+    let d = tag.first.quote;
+    let n = put_value(rows, pool, s, kind, row, a, less, c, d, out, at + 1);
+    if n == 0 {
+        return 0;
+    }
+    at + 1 + n
+}
+
+// Into a buffer that has room for it. A leaf is one turn, from its tag to its closing tag, so that a group is always the innermost.
+pub(crate) fn fill(rows: &[u16; 928], pool: &[u8; 311], s: &[u8], out: &mut [u8])
+    requires { ⌜ Ready (now rows) (now pool) (now s) × Faultless houseKinds (listOf (now rows) (now pool)) (now s) ⌝ }
+    ensures { λ _. ⌜ FilledIn houseKinds (listOf (now (rows .entry)) (now (pool .entry))) (now (s .entry)) (now (out .entry)) (now (out .exit)) ⌝ }
+{
+    let first = begin(rows, pool, s);
+    let mut here = stand(1, 0, first.here.at);
+    let mut at = put_head(out);
+    loop {
+        let row = here.row;
+        let less = blanks_end(s, here.at);
+        let name = less + 1;
+        if is_close(s, name) {
+            if row == 1 {
+                place(out, at, 0);
+                return;
+            }
+            here = stand(cell(rows, row, PARENT), row, close_end(s, name));
+        } else {
+            let tag = opening(s, less);
+            let r = child(rows, pool, row, here.last, s, name, tag.stop);
+            if is_group(cell(rows, r, KIND)) {
+                place(out, at, r as u8);
+                at += 1;
+                here = stand(r, 0, tag.end);
+            } else {
+                let end = text_end(s, tag.end);
+                at = put_leaf(rows, pool, s, r, tag, end, out, at);
+                here = stand(row, r, close_end(s, end + 1));
+            }
+        }
+    }
+}

@@ -1,0 +1,17 @@
+-- `skim::is_close` meets its contract. Assumes nothing.
+use borrow.Author.Needs.{needs}
+use Rattle.tags.proofs.Passing.{head-at, head-end}
+use Rattle.walk.proofs.skim.is_close.Statement.{statement}
+use Rattle.walk.proofs.skim.is_close.Tie as tie
+
+returns : tie.Need-returns
+returns c = head-end 47 _ _ (c .if1 .taken)
+
+shared-slice-read-result : tie.Need-shared-slice-read-result
+shared-slice-read-result c = search needs
+
+returns-2 : tie.Need-returns-2
+returns-2 c = head-at 47 _ _ (c .before .if1 .left)
+
+pub is-close-spec : {M : Type 1} → statement M
+is-close-spec = tie.close (tie.spec returns shared-slice-read-result returns-2)
