@@ -15,7 +15,7 @@ use Rattle.characters.specs.Pieces.{solidus, greater}
 use Rattle.text.proofs.Classes as classes
 use Rattle.text.proofs.Classes.{Named, only, _or_}
 use Rattle.text.proofs.Spans.{span-of, span-le, span-all, span-stop, span-go, span-append}
-use Rattle.tags.specs.Passing.{but, noQuote, inName, pass, one, headIs}
+use Rattle.tags.specs.Passing.{but, noQuote, inName, pass, one, headIs, behind}
 
 -- ---- all that pass a test
 
@@ -95,6 +95,11 @@ past-go s i h = rw (drop-cons s i 0 h)
 
 pub past-end : (s : List ℕ) (i : ℕ) → length s ≤ i → i ≡ i + one (drop i s)
 past-end s i h = rw (drop-of-length-le s h) (omega arith)
+
+-- behind the first such byte
+pub behind-at : (b : ℕ) (s : List ℕ) (at i : ℕ) → i ≡ at + span (but b) (drop at s) → behind b at (drop at s) ≡ i + one (drop i s)
+unfolding behind
+behind-at b s at i e = pass-at (but b) (λ o l. o + one l) s at i e
 
 pub head-at : (b : ℕ) (s : List ℕ) (i : ℕ) → i < length s → eqb (getD s i 0) b ≡ headIs b (drop i s)
 head-at b s i h = rw (drop-cons s i 0 h)

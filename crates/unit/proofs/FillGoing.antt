@@ -12,7 +12,7 @@ use borrow.Author.Tests.{lt-ltb}
 use Rattle.text.specs.Bytes.{isBlank}
 use Rattle.text.specs.Lists.{span}
 use Rattle.text.specs.Pasting.{pasted}
-use Rattle.text.specs.Pieces.{less, greater, solidus}
+use Rattle.characters.specs.Pieces.{less, greater, solidus}
 use Rattle.list.specs.Listing.{Listing, rowAt, size, Child, child, isGroup}
 use Rattle.list.specs.Table.{cell, listOf}
 use Rattle.list.specs.Lookup.{childAlong}

@@ -10,7 +10,7 @@ use lib.Seq.{slice}
 use Rattle.text.specs.Bytes.{isBlank}
 use Rattle.text.specs.Lists.{span}
 use Rattle.text.specs.Pasting.{pasted}
-use Rattle.text.specs.Pieces.{less, greater, solidus}
+use Rattle.characters.specs.Pieces.{less, greater, solidus}
 use Rattle.list.specs.Table.{cell, listOf}
 use Rattle.list.specs.Lookup.{childAlong}
 use Rattle.list.specs.Sound.{Sound}

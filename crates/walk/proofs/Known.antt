@@ -14,7 +14,7 @@ use native.Mathlib.Numerals.{add-one}
 use borrow.Author.Tests.{eqb-true, eqb-false, lt-ltb}
 use Rattle.text.specs.Bytes.{isBlank}
 use Rattle.text.specs.Lists.{span}
-use Rattle.text.specs.Pieces.{less, greater, solidus}
+use Rattle.characters.specs.Pieces.{less, greater, solidus}
 use Rattle.list.specs.Table.{cell}
 use Rattle.list.specs.Lookup.{childAlong}
 use Rattle.tags.specs.declared.attribute.Attribute.{Attribute}
@@ -34,19 +34,6 @@ use Rattle.walk.specs.declared.step.Met.{Met}
 use Rattle.walk.specs.declared.step.Met.the-variants.{Opened, Closed, Refused}
 use Rattle.walk.specs.Tables.{nothing, isGroupIn, openingIn}
 use Rattle.walk.specs.Stride.{ownIn, inkBefore, endIn, refusedAt, refusal, outer, closedIn, rowIn, inner, enteredIn, vacantIn, metIn, inkAhead, stepBy, stepIn}
-
--- ---- behind a byte
-
-module _ (s : List ℕ) (at i : ℕ) (e : i ≡ at + span (but greater) (drop at s)) where
-  behind-at : behind greater at (drop at s) ≡ i + one (drop i s)
-  unfolding behind
-  behind-at = pass-at (but greater) (λ o l. o + one l) s at i e
-
-  pub behind-in : i < length s → i + 1 ≡ behind greater at (drop at s)
-  behind-in h = past-go s i h ∙ sym behind-at
-
-  pub behind-end : length s ≤ i → i ≡ behind greater at (drop at s)
-  behind-end h = past-end s i h ∙ sym behind-at
 
 -- ---- a token, by the bytes
 

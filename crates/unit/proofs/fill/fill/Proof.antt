@@ -10,9 +10,9 @@ use Rattle.unit.proofs.fill.put_leaf.Reads as put-leaf-reads
 use Rattle.unit.proofs.fill.stand.Reads as stand-reads
 use Rattle.unit.proofs.pass.put_head.Reads as put-head-reads
 use Rattle.walk.proofs.begin.begin.Reads as begin-reads
-use Rattle.walk.proofs.skim.close_end.Reads as close-end-reads
-use Rattle.walk.proofs.skim.is_close.Reads as is-close-reads
-use Rattle.walk.proofs.skim.text_end.Reads as text-end-reads
+use Rattle.tags.proofs.skim.close_end.Reads as close-end-reads
+use Rattle.tags.proofs.skim.is_close.Reads as is-close-reads
+use Rattle.tags.proofs.skim.text_end.Reads as text-end-reads
 use Rattle.walk.proofs.tag.is_group.Reads as is-group-reads
 use Rattle.written.proofs.place.place.Reads as place-reads
 use borrow.Author.Needs.{needs}
