@@ -22,6 +22,16 @@ item-on t s x i h = go (isLeaf t x) h
     go true h = omega (arith, end-is (cell t x 2) (cell t x 3) (cell t x 15) s i h .1)
     go false h = omega arith
 
+-- as the code finds it: at a leaf's row, by what its cells say
+module _ (t s : List ℕ) (x i : ℕ) (b : Bool) (e : b ≡ isLeaf t x) where
+  pub item-leaf : b ≡ true → (c k n j : ℕ) → c ≡ cell t x 2 → k ≡ cell t x 3 → n ≡ cell t x 15 → j ≡ valueEnd c k n s i → j ≡ itemEnd t s x i
+  unfolding itemEnd
+  item-leaf y c k n j f g h v = rw (sym e, y, sym f, sym g, sym h) v
+
+  pub item-group : b ≡ false → i ≡ itemEnd t s x i
+  unfolding itemEnd
+  item-group y = rw (sym e, y)
+
 -- a part between two places, as much of it as there is
 module _ (s : List ℕ) (from to : ℕ) where
   pub part-cut : from ≤ to → take (to - from) (drop from s) ≡ slice from to s

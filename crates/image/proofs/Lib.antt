@@ -29,6 +29,8 @@ pub mod Heads
 pub mod Ends
 -- each turn of the loop
 pub mod Turning
+-- tables that are alike
+pub mod Alike
 -- the turns of the reader and the picker
 pub mod Run
 -- the turns of the picker

@@ -9,9 +9,11 @@ use list::table::MOST;
 use list::table::WORD_COUNT;
 use stored::value::value_end;
 ghost use mathlib.Core.Path.{_≡_};
-ghost use Prim.Native.Nat.{_+_, _≤_, _<_};
+ghost use Prim.Native.Nat.{_+_, _≤_, _<_, min};
+ghost use lib.ListN.{length};
 ghost use lib.Seq.{slice};
 ghost use Rattle.image.specs.Ends.{itemEnd};
+ghost use Rattle.image.specs.Laid.{Laid};
 ghost use Rattle.image.specs.Run.{Kto, Named, First, Goes, Runs};
 
 pub(crate) fn wide(x: u8) -> usize
@@ -79,7 +81,29 @@ fn first_version(run: &[u8]) -> bool
     run[4] == 1
 }
 
-// From behind the root's row byte on.
+fn least(a: usize, b: usize) -> usize
+    ensures { λ r. ⌜ r ≡ min a b ⌝ }
+{
+    if a < b {
+        return a;
+    }
+    b
+}
+
+// A table's beginning over another's.
+fn lay(rows: &[u16], table: &mut [u16; 4096])
+    requires { ⌜ length (now table) ≡ 4096 ⌝ }
+    ensures { λ _. ⌜ Laid (now (rows .entry)) (now (table .entry)) (now (table .exit)) ⌝ }
+{
+    let n = least(rows.len(), 4096);
+    let mut i = 0;
+    while i < n {
+        table[i] = rows[i];
+        i += 1;
+    }
+}
+
+// From behind the root's row byte on. Most items are groups, so that only a leaf's costs a call.
 fn items(rows: &[u16], run: &[u8]) -> Answer
     ensures { λ a. ⌜ Goes (now (rows .entry)) (itemEnd (now (rows .entry)) (now (run .entry))) (now (run .entry)) a 1 6 ⌝ }
 {
@@ -95,10 +119,20 @@ fn items(rows: &[u16], run: &[u8]) -> Answer
             return Answer::broken_image(at);
         }
         if follows(rows, q, x) {
-            i = item_end(rows, run, x, at + 1);
             q = x;
-            if i == 0 {
-                return Answer::broken_image(at);
+            if is_leaf(rows, x) {
+                i = value_end(
+                    cell(rows, x, KIND),
+                    cell(rows, x, MOST),
+                    cell(rows, x, WORD_COUNT),
+                    run,
+                    at + 1,
+                );
+                if i == 0 {
+                    return Answer::broken_image(at);
+                }
+            } else {
+                i = at + 1;
             }
         } else {
             return Answer::broken_image(at);
@@ -107,7 +141,8 @@ fn items(rows: &[u16], run: &[u8]) -> Answer
     Answer::broken_image(i)
 }
 
-// The answer for a run: the length of the image that it begins with, or why it begins with none.
+// The answer for a run: the length of the image that it begins with, or why it begins with none. The items are read over a table of 256
+// rows, zeros behind the last: the compiler knows its length, so that no lookup in it asks for its end.
 pub fn read(rows: &[u16], run: &[u8]) -> Answer
     ensures { λ a. ⌜ Runs (now (rows .entry)) (itemEnd (now (rows .entry)) (now (run .entry))) (now (run .entry)) a ⌝ }
 {
@@ -126,5 +161,7 @@ pub fn read(rows: &[u16], run: &[u8]) -> Answer
     if run[5] != 1 {
         return Answer::broken_image(5);
     }
-    items(rows, run)
+    let mut table = [0u16; 4096];
+    lay(rows, &mut table);
+    items(&table, run)
 }

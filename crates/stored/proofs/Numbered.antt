@@ -34,27 +34,11 @@ unfolding head
 head-text =
     by-kind (λ c. 2 ≤ c → c ≤ 5 → 2 ≡ head c) (λ h k. absurd (omega arith)) (λ h k. absurd (omega arith)) (λ h k. refl) (λ h k. refl) (λ h k. refl) (λ h k. refl) (λ h k. absurd (omega arith)) (λ h k. absurd (omega arith)) (λ h k. absurd (omega arith)) (λ h k. absurd (omega arith)) (λ h k. absurd (omega arith)) (λ h k. absurd (omega arith)) (λ c h k. absurd (omega arith))
 
-pub head-none : (c : ℕ) → (2 ≤ c → c ≤ 5 → ⊥) → 0 ≡ head c
-unfolding head
-head-none =
-    by-kind (λ c. (2 ≤ c → c ≤ 5 → ⊥) → 0 ≡ head c) (λ f. refl) (λ f. refl) (λ f. absurd (f (omega arith) (omega arith))) (λ f. absurd (f (omega arith) (omega arith))) (λ f. absurd (f (omega arith) (omega arith))) (λ f. absurd (f (omega arith) (omega arith))) (λ f. refl) (λ f. refl) (λ f. refl) (λ f. refl) (λ f. refl) (λ f. refl) (λ c f. refl)
-
 module _ (t : List ℕ) where
   pub width-text : (c : ℕ) → 2 ≤ c → c ≤ 5 → 2 + number (take 2 t) ≡ width c t
   unfolding width
   width-text =
       by-kind (λ c. 2 ≤ c → c ≤ 5 → 2 + number (take 2 t) ≡ width c t) (λ h k. absurd (omega arith)) (λ h k. absurd (omega arith)) (λ h k. refl) (λ h k. refl) (λ h k. refl) (λ h k. refl) (λ h k. absurd (omega arith)) (λ h k. absurd (omega arith)) (λ h k. absurd (omega arith)) (λ h k. absurd (omega arith)) (λ h k. absurd (omega arith)) (λ h k. absurd (omega arith)) (λ c h k. absurd (omega arith))
-
-  pub width-one : (c : ℕ) → 6 ≤ c → c ≤ 7 → 1 ≡ width c t
-  unfolding width
-  width-one =
-      by-kind (λ c. 6 ≤ c → c ≤ 7 → 1 ≡ width c t) (λ h k. absurd (omega arith)) (λ h k. absurd (omega arith)) (λ h k. absurd (omega arith)) (λ h k. absurd (omega arith)) (λ h k. absurd (omega arith)) (λ h k. absurd (omega arith)) (λ h k. refl) (λ h k. refl) (λ h k. absurd (omega arith)) (λ h k. absurd (omega arith)) (λ h k. absurd (omega arith)) (λ h k. absurd (omega arith)) (λ c h k. absurd (omega arith))
-
-  -- no kind
-  pub width-none : (c : ℕ) → (2 ≤ c → c ≤ 11 → ⊥) → 0 ≡ width c t
-  unfolding width
-  width-none =
-      by-kind (λ c. (2 ≤ c → c ≤ 11 → ⊥) → 0 ≡ width c t) (λ f. refl) (λ f. refl) (λ f. absurd (f (omega arith) (omega arith))) (λ f. absurd (f (omega arith) (omega arith))) (λ f. absurd (f (omega arith) (omega arith))) (λ f. absurd (f (omega arith) (omega arith))) (λ f. absurd (f (omega arith) (omega arith))) (λ f. absurd (f (omega arith) (omega arith))) (λ f. absurd (f (omega arith) (omega arith))) (λ f. absurd (f (omega arith) (omega arith))) (λ f. absurd (f (omega arith) (omega arith))) (λ f. absurd (f (omega arith) (omega arith))) (λ c f. refl)
 
   -- the bytes of a value say how many they are, whatever follows
   pub width-take : (c : ℕ) → width c (take (width c t) t) ≡ width c t

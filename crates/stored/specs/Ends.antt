@@ -1,7 +1,8 @@
 -- A mirror: where a value ends, by the number of its kind in a table (list's column 2). Assumes nothing.
+use mathlib.Core.Path.{_≡_}
 use mathlib.Core.Bool.{Bool, false, cond, _&&_}
 use mathlib.Core.List.{List, [], _∷_}
-use Prim.Native.Nat.{ℕ, _+_}
+use Prim.Native.Nat.{ℕ, _+_, _≤_, _<_}
 use lib.Dec.{leb}
 use lib.ListN.{length, getD, take, drop}
 use Rattle.text.specs.Numbers.{number}
@@ -18,6 +19,13 @@ width c t =
     getD
     (0 ∷ 0 ∷ (2 + number (take 2 t)) ∷ (2 + number (take 2 t)) ∷ (2 + number (take 2 t)) ∷ (2 + number (take 2 t)) ∷ 1 ∷ 1 ∷ 8 ∷ 12 ∷ 4 ∷ 13 ∷ [])
     c 0
+
+-- r is that width for a text, or more than there is where its length is cut off
+pub record Spans (t : List ℕ) (r : ℕ) : Type 0 where
+  pub least : 2 ≤ r
+  pub most : r ≤ 65537
+  pub cut : length t < r → length t < 2 + number (take 2 t)
+  pub is : r ≤ length t → r ≡ 2 + number (take 2 t)
 
 -- these bytes, without their length, are a value of kind c; k is that of TXTk, n the number of an ENUM's words
 unfoldable pub isValue : ℕ → ℕ → ℕ → List ℕ → Bool

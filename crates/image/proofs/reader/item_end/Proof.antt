@@ -2,8 +2,7 @@
 use borrow.Author.Needs.{needs}
 use Rattle.image.proofs.reader.item_end.Statement.{statement}
 use Rattle.image.proofs.reader.item_end.Tie as tie
-use mathlib.Core.Path.{sym}
-use Rattle.image.specs.Ends.{itemEnd}
+use Rattle.image.proofs.Ends.{item-leaf, item-group}
 
 is-leaf-requires : tie.Need-is-leaf-requires
 is-leaf-requires c κs = search needs
@@ -21,13 +20,11 @@ value-end-requires : tie.Need-value-end-requires
 value-end-requires c κs = search needs
 
 returns : tie.Need-returns
-unfolding itemEnd
 returns c =
-    rw (sym (c .before .before .before .before .before .is-leaf .ensures), c .before .before .before .before .if1 .taken, sym (c .before .before .before .cell .ensures), sym (c .before .before .cell2 .ensures), sym (c .before .cell3 .ensures)) (c .value-end .ensures)
+    item-leaf _ _ _ _ _ (c .before .before .before .before .before .is-leaf .ensures) (c .before .before .before .before .if1 .taken) _ _ _ _ (c .before .before .before .cell .ensures) (c .before .before .cell2 .ensures) (c .before .cell3 .ensures) (c .value-end .ensures)
 
 returns-2 : tie.Need-returns-2
-unfolding itemEnd
-returns-2 c = rw (sym (c .before .is-leaf .ensures), c .if1 .left)
+returns-2 c = item-group _ _ _ _ _ (c .before .is-leaf .ensures) (c .if1 .left)
 
 pub item-end-spec : {M : Type 1} → statement M
 item-end-spec =

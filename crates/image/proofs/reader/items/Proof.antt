@@ -1,13 +1,13 @@
 -- `reader::items` meets its contract. Assumes nothing.
 use Rattle.image.proofs.reader.items.Statement.{statement}
 use Rattle.image.proofs.reader.items.Tie as tie
-use mathlib.Core.Path.{subst}
 use Prim.Native.Nat.{_+_, _-_, _<_}
 use native.Mathlib.Omega.{arith}
 use lib.ListN.{length}
+use mathlib.Core.Path.{subst}
 use borrow.Author.Needs.{needs}
 use Rattle.image.specs.Ends.{itemEnd}
-use Rattle.image.proofs.Ends.{item-on}
+use Rattle.image.proofs.Ends.{item-on, item-leaf, item-group}
 use Rattle.image.proofs.Turning.{Here, begins, runs-out, closes, too-soon, strays, breaks, goes-on}
 
 abbrev Inv-loop : tie.InvT-loop
@@ -59,12 +59,28 @@ follows-requires : tie.Need-follows-requires Inv-loop μ-loop
 follows-requires c κs =
     search needs
 
-add-item-end : tie.Need-add-item-end Inv-loop μ-loop
-add-item-end c =
+is-leaf-requires : tie.Need-is-leaf-requires Inv-loop μ-loop
+is-leaf-requires c κs =
     search needs
 
-item-end-requires : tie.Need-item-end-requires Inv-loop μ-loop
-item-end-requires c κs =
+cell-requires : tie.Need-cell-requires Inv-loop μ-loop
+cell-requires c κs =
+    search needs
+
+cell-requires-2 : tie.Need-cell-requires-2 Inv-loop μ-loop
+cell-requires-2 c κs =
+    search needs
+
+cell-requires-3 : tie.Need-cell-requires-3 Inv-loop μ-loop
+cell-requires-3 c κs =
+    search needs
+
+add-value-end : tie.Need-add-value-end Inv-loop μ-loop
+add-value-end c =
+    search needs
+
+value-end-requires : tie.Need-value-end-requires Inv-loop μ-loop
+value-end-requires c κs =
     search needs
 
 broken-image-requires-2 : tie.Need-broken-image-requires-2 Inv-loop μ-loop
@@ -73,17 +89,32 @@ broken-image-requires-2 c κs =
 
 returns-3 : tie.Need-returns-3 Inv-loop μ-loop
 returns-3 c =
-    let g = c .before .before .before .before .before .before .before .before .before .before .before .before .args in
-    breaks (g .rows .now) (itemEnd (g .rows .now) (g .run .now)) (g .run .now) (c .before .before .before .before .before .before .before .before .before .loop .q) (c .before .before .before .before .before .before .before .before .before .loop .i) (c .before .before .before .before .before .before .before .before .before .loop .inv) (c .before .before .before .before .before .before .wide .result) (c .before .before .before .before .before .before .before .before .loop-test .taken) (c .before .before .before .before .before .before .wide .ensures) (c .before .before .before .before .before .if1 .left) (c .before .before .before .before .follows .result) (c .before .before .before .before .follows .ensures) (c .broken-image2 .result) (c .before .before .item-end .result) (c .broken-image2 .ensures) (c .before .before .before .if3 .taken) (c .before .before .item-end .ensures) (c .before .if4 .taken)
+    let g = c .before .before .before .before .before .before .before .before .before .before .before .before .before .before .before .before .before .args in
+    breaks (g .rows .now) (itemEnd (g .rows .now) (g .run .now)) (g .run .now) (c .before .before .before .before .before .before .before .before .before .before .before .before .before .before .loop .q) (c .before .before .before .before .before .before .before .before .before .before .before .before .before .before .loop .i) (c .before .before .before .before .before .before .before .before .before .before .before .before .before .before .loop .inv) (c .before .before .before .before .before .before .before .before .before .before .before .wide .result) (c .before .before .before .before .before .before .before .before .before .before .before .before .before .loop-test .taken) (c .before .before .before .before .before .before .before .before .before .before .before .wide .ensures) (c .before .before .before .before .before .before .before .before .before .before .if1 .left) (c .before .before .before .before .before .before .before .before .before .follows .result) (c .before .before .before .before .before .before .before .before .before .follows .ensures) (c .broken-image2 .result) (c .before .before .value-end .result) (c .broken-image2 .ensures) (c .before .before .before .before .before .before .before .before .if3 .taken) (item-leaf _ _ _ _ _ (c .before .before .before .before .before .before .before .is-leaf .ensures) (c .before .before .before .before .before .before .if4 .taken) _ _ _ _ (c .before .before .before .before .before .cell .ensures) (c .before .before .before .before .cell2 .ensures) (c .before .before .before .cell3 .ensures) (c .before .before .value-end .ensures)) (c .before .if5 .taken)
 
 loop-less : tie.Need-loop-less Inv-loop μ-loop
 loop-less c =
-    omega (arith, c .before .before .before .before .before .before .before .loop-test .taken, c .if4 .left, c .before .item-end .ensures, item-on (c .before .before .before .before .before .before .before .before .before .before .before .args .rows .now) (c .before .before .before .before .before .before .before .before .before .before .before .args .run .now) (c .before .before .before .before .before .wide .result) (c .before .before .before .before .before .before .before .before .loop .i + 1) (subst (λ z. 0 < z) (c .before .item-end .ensures) (search needs)))
+    let g = c .before .before .before .before .before .before .before .before .before .before .before .before .before .before .before .before .args in
+    let e = item-leaf (g .rows .now) (g .run .now) (c .before .before .before .before .before .before .before .before .before .before .wide .result) (c .before .before .before .before .before .before .before .before .before .before .before .before .before .loop .i + 1) _ (c .before .before .before .before .before .before .is-leaf .ensures) (c .before .before .before .before .before .if4 .taken) _ _ _ _ (c .before .before .before .before .cell .ensures) (c .before .before .before .cell2 .ensures) (c .before .before .cell3 .ensures) (c .before .value-end .ensures) in
+    omega (arith, c .before .before .before .before .before .before .before .before .before .before .before .before .loop-test .taken, c .if5 .left, e, item-on (g .rows .now) (g .run .now) (c .before .before .before .before .before .before .before .before .before .before .wide .result) (c .before .before .before .before .before .before .before .before .before .before .before .before .before .loop .i + 1) (subst (λ z. 0 < z) e (search needs)))
 
 loop-again : tie.Need-loop-again Inv-loop μ-loop
 loop-again c =
+    let g = c .before .before .before .before .before .before .before .before .before .before .before .before .before .before .before .before .args in
+    goes-on (g .rows .now) (itemEnd (g .rows .now) (g .run .now)) (g .run .now) (c .before .before .before .before .before .before .before .before .before .before .before .before .before .loop .q) (c .before .before .before .before .before .before .before .before .before .before .before .before .before .loop .i) (c .before .before .before .before .before .before .before .before .before .before .before .before .before .loop .inv) (c .before .before .before .before .before .before .before .before .before .before .wide .result) (c .before .before .before .before .before .before .before .before .before .before .before .before .loop-test .taken) (c .before .before .before .before .before .before .before .before .before .before .wide .ensures) (c .before .before .before .before .before .before .before .before .before .if1 .left) (c .before .before .before .before .before .before .before .before .follows .result) (c .before .before .before .before .before .before .before .before .follows .ensures) (c .before .value-end .result) (c .before .before .before .before .before .before .before .if3 .taken) (item-leaf _ _ _ _ _ (c .before .before .before .before .before .before .is-leaf .ensures) (c .before .before .before .before .before .if4 .taken) _ _ _ _ (c .before .before .before .before .cell .ensures) (c .before .before .before .cell2 .ensures) (c .before .before .cell3 .ensures) (c .before .value-end .ensures)) (c .if5 .left)
+
+add-i : tie.Need-add-i Inv-loop μ-loop
+add-i c =
+    search needs
+
+loop-less-2 : tie.Need-loop-less-2 Inv-loop μ-loop
+loop-less-2 c =
+    search needs
+
+loop-again-2 : tie.Need-loop-again-2 Inv-loop μ-loop
+loop-again-2 c =
     let g = c .before .before .before .before .before .before .before .before .before .before .before .args in
-    goes-on (g .rows .now) (itemEnd (g .rows .now) (g .run .now)) (g .run .now) (c .before .before .before .before .before .before .before .before .loop .q) (c .before .before .before .before .before .before .before .before .loop .i) (c .before .before .before .before .before .before .before .before .loop .inv) (c .before .before .before .before .before .wide .result) (c .before .before .before .before .before .before .before .loop-test .taken) (c .before .before .before .before .before .wide .ensures) (c .before .before .before .before .if1 .left) (c .before .before .before .follows .result) (c .before .before .before .follows .ensures) (c .before .item-end .result) (c .before .before .if3 .taken) (c .before .item-end .ensures) (c .if4 .left)
+    goes-on (g .rows .now) (itemEnd (g .rows .now) (g .run .now)) (g .run .now) (c .before .before .before .before .before .before .before .before .loop .q) (c .before .before .before .before .before .before .before .before .loop .i) (c .before .before .before .before .before .before .before .before .loop .inv) (c .before .before .before .before .before .wide .result) (c .before .before .before .before .before .before .before .loop-test .taken) (c .before .before .before .before .before .wide .ensures) (c .before .before .before .before .if1 .left) (c .before .before .before .follows .result) (c .before .before .before .follows .ensures) (c .before .before .before .before .before .before .before .before .loop .i + 1) (c .before .before .if3 .taken) (item-group _ _ _ _ _ (c .before .is-leaf .ensures) (c .if4 .left)) (omega arith)
 
 broken-image-requires-3 : tie.Need-broken-image-requires-3 Inv-loop μ-loop
 broken-image-requires-3 c κs =
@@ -119,12 +150,19 @@ items-spec =
     broken-image-requires
     returns-2
     follows-requires
-    add-item-end
-    item-end-requires
+    is-leaf-requires
+    cell-requires
+    cell-requires-2
+    cell-requires-3
+    add-value-end
+    value-end-requires
     broken-image-requires-2
     returns-3
     loop-less
     loop-again
+    add-i
+    loop-less-2
+    loop-again-2
     broken-image-requires-3
     returns-4
     broken-image-requires-4

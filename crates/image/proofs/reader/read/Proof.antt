@@ -3,11 +3,16 @@ use borrow.Author.Needs.{needs}
 use Rattle.image.proofs.reader.read.Statement.{statement}
 use Rattle.image.proofs.reader.read.Tie as tie
 use mathlib.Core.Logic.{inl, inr}
-use Prim.Native.Nat.{_-_}
 use native.Mathlib.Omega.{arith}
 use borrow.Author.Tests.{not-true, not-false}
-use borrow.Author.Needs.{needs}
 use Rattle.image.specs.Run.{over, foreign, version, rootless, rooted}
+use lib.ListN.{length, replicate, length-replicate}
+use mathlib.Core.Path.{_≡_, sym, _∙_}
+use Prim.Native.Nat.{ℕ}
+use Rattle.image.proofs.Alike.{goes-same, laid-alike}
+
+zeros : (n : ℕ) → length (replicate {A = ℕ} n 0) ≡ n
+zeros n = length-replicate n 0
 
 too-long-requires : tie.Need-too-long-requires
 too-long-requires c κs = search needs
@@ -55,12 +60,21 @@ returns-5 : tie.Need-returns-5
 returns-5 c =
     rootless (c .before .before .before .before .before .before .before .before .if1 .left) (c .before .before .before .before .before .before .before .named .ensures .yes′ (not-false (c .before .before .before .before .before .before .before .named .result) (c .before .before .before .before .before .before .if2 .left)) .0) (c .before .before .before .before .before .first-version .ensures .yes′ (not-false (c .before .before .before .before .before .first-version .result) (c .before .before .before .before .if3 .left))) (inr (c .before .if5 .taken)) (c .broken-image2 .ensures)
 
+lay-requires : tie.Need-lay-requires
+lay-requires c κs =
+    zeros 4096
+
+slice-aggregate-items : tie.Need-slice-aggregate-items
+slice-aggregate-items c =
+    sym (c .before .lay .ensures .long ∙ zeros 4096)
+
 items-requires : tie.Need-items-requires
 items-requires c κs = search needs
 
 returns-6 : tie.Need-returns-6
 returns-6 c =
-    rooted (c .before .before .before .before .before .before .before .before .if1 .left) (c .before .before .before .before .before .first-version .ensures .yes′ (not-false (c .before .before .before .before .before .first-version .result) (c .before .before .before .before .if3 .left))) (omega (arith, c .before .before .before .before .before .before .before .named .ensures .yes′ (not-false (c .before .before .before .before .before .before .before .named .result) (c .before .before .before .before .before .before .if2 .left)) .0, c .before .before .before .if4 .left)) (omega (arith, c .before .if5 .left)) (c .items .ensures)
+    let n = c .before .before .before .before .before .before .before .before .before .before .named .ensures .yes′ (not-false (c .before .before .before .before .before .before .before .before .before .before .named .result) (c .before .before .before .before .before .before .before .before .before .if2 .left)) in
+    rooted (c .before .before .before .before .before .before .before .before .before .before .before .if1 .left) (c .before .before .before .before .before .before .before .before .first-version .ensures .yes′ (not-false (c .before .before .before .before .before .before .before .before .first-version .result) (c .before .before .before .before .before .before .before .if3 .left))) (omega (arith, n .0, c .before .before .before .before .before .before .if4 .left)) (omega (arith, c .before .before .before .before .if5 .left)) (goes-same _ _ (laid-alike _ _ (c .before .before .lay .ensures)) _ _ 1 6 (c .items .ensures))
 
 pub read-spec : {M : Type 1} → statement M
 read-spec =
@@ -79,5 +93,7 @@ read-spec =
     shared-slice-read-if5
     broken-image-requires-2
     returns-5
+    lay-requires
+    slice-aggregate-items
     items-requires
     returns-6)

@@ -2,71 +2,133 @@
 use borrow.Author.Needs.{needs}
 use Rattle.stored.proofs.value.value_end.Statement.{statement}
 use Rattle.stored.proofs.value.value_end.Tie as tie
-use native.Mathlib.Omega.{arith}
-use Rattle.stored.proofs.Numbered.{head-width}
-use Rattle.stored.proofs.Placing.{end-past, end-short, end-no, end-yes}
-use lib.ListN.{drop}
+use Rattle.stored.specs.Ends.{isValue, begins, valueEnd}
+use mathlib.Core.Path.{sym}
+use Rattle.stored.proofs.Numbered.{other-value}
+use Rattle.stored.proofs.Placing.{end-past, end-at, end-none}
 
 returns : tie.Need-returns
 returns c =
     end-past _ _ _ _ _ (c .if1 .taken)
 
-width-requires : tie.Need-width-requires
-width-requires c κs = search needs
+reference-end-requires : tie.Need-reference-end-requires
+reference-end-requires c κs = search needs
 
-sub-if2 : tie.Need-sub-if2
-sub-if2 c = search needs
+writing-end-requires : tie.Need-writing-end-requires
+writing-end-requires c κs = search needs
+
+account-end-requires : tie.Need-account-end-requires
+account-end-requires c κs = search needs
+
+currency-end-requires : tie.Need-currency-end-requires
+currency-end-requires c κs = search needs
+
+place-end-requires : tie.Need-place-end-requires
+place-end-requires c κs = search needs
+
+truth-end-requires : tie.Need-truth-end-requires
+truth-end-requires c κs = search needs
+
+natural-end-requires : tie.Need-natural-end-requires
+natural-end-requires c κs = search needs
+
+amount-end-requires : tie.Need-amount-end-requires
+amount-end-requires c κs = search needs
+
+day-end-requires : tie.Need-day-end-requires
+day-end-requires c κs = search needs
+
+moment-end-requires : tie.Need-moment-end-requires
+moment-end-requires c κs = search needs
 
 returns-2 : tie.Need-returns-2
+unfolding valueEnd begins isValue
 returns-2 c =
-    end-short _ _ _ _ _ _ (c .before .width .ensures) (c .if2 .taken)
-
-head-requires : tie.Need-head-requires
-head-requires c κs = search needs
-
-add-from : tie.Need-add-from
-add-from c =
-    omega (arith, c .head .ensures, c .before .before .width .ensures, head-width (drop (c .before .before .before .before .before .args .at) (c .before .before .before .before .before .args .s .now)) (c .before .before .before .before .before .args .kind))
-
-add-end : tie.Need-add-end
-add-end c = search needs
-
-sub-is-value : tie.Need-sub-is-value
-sub-is-value c =
-    omega (arith, c .head .ensures, c .before .before .width .ensures, head-width (drop (c .before .before .before .before .before .args .at) (c .before .before .before .before .before .args .s .now)) (c .before .before .before .before .before .args .kind))
-
-part-is-value-start : tie.Need-part-is-value-start
-part-is-value-start c =
-    omega (arith, c .head .ensures, c .before .before .width .ensures, head-width (drop (c .before .before .before .before .before .args .at) (c .before .before .before .before .before .args .s .now)) (c .before .before .before .before .before .args .kind))
-
-part-is-value-end : tie.Need-part-is-value-end
-part-is-value-end c = search needs
-
-is-value-requires : tie.Need-is-value-requires
-is-value-requires c κs = search needs
+    let g = c .before .before .before .before .args in
+    end-at _ (g .k) (g .words) (g .s .now) (g .at) 2 (c .before .match .keys1) _ (c .reference-end .ensures)
 
 returns-3 : tie.Need-returns-3
+unfolding valueEnd begins isValue
 returns-3 c =
-    end-yes _ _ _ (c .before .before .before .before .before .before .before .before .args .s .now) (c .before .before .before .before .before .before .before .before .args .at) _ (c .before .before .before .before .before .width .ensures) _ (c .before .before .before .head .ensures) (c .before .before .before .before .if2 .left) (λ i. omega (arith, c .before .before .before .before .before .before .before .shared-slice-known .given i)) _ (c .before .is-value .ensures) (c .if3 .taken)
+    let g = c .before .before .before .before .args in
+    end-at _ (g .k) (g .words) (g .s .now) (g .at) 3 (c .before .match .keys2) _ (c .writing-end .ensures)
 
 returns-4 : tie.Need-returns-4
+unfolding valueEnd begins isValue
 returns-4 c =
-    end-no _ _ _ (c .before .before .before .before .before .before .before .before .args .s .now) (c .before .before .before .before .before .before .before .before .args .at) _ (c .before .before .before .before .before .width .ensures) _ (c .before .before .before .head .ensures) _ (c .before .is-value .ensures) (c .if3 .left)
+    let g = c .before .before .before .before .args in
+    end-at _ (g .k) (g .words) (g .s .now) (g .at) 4 (c .before .match .keys3) _ (c .account-end .ensures)
+
+returns-5 : tie.Need-returns-5
+unfolding valueEnd begins isValue
+returns-5 c =
+    let g = c .before .before .before .before .args in
+    end-at _ (g .k) (g .words) (g .s .now) (g .at) 5 (c .before .match .keys4) _ (c .currency-end .ensures)
+
+returns-6 : tie.Need-returns-6
+unfolding valueEnd begins isValue
+returns-6 c =
+    let g = c .before .before .before .before .args in
+    end-at _ (g .k) (g .words) (g .s .now) (g .at) 6 (c .before .match .keys5) _ (c .place-end .ensures)
+
+returns-7 : tie.Need-returns-7
+unfolding valueEnd begins isValue
+returns-7 c =
+    let g = c .before .before .before .before .args in
+    end-at _ (g .k) (g .words) (g .s .now) (g .at) 7 (c .before .match .keys6) _ (c .truth-end .ensures)
+
+returns-8 : tie.Need-returns-8
+unfolding valueEnd begins isValue
+returns-8 c =
+    let g = c .before .before .before .before .args in
+    end-at _ (g .k) (g .words) (g .s .now) (g .at) 8 (c .before .match .keys7) _ (c .natural-end .ensures)
+
+returns-9 : tie.Need-returns-9
+unfolding valueEnd begins isValue
+returns-9 c =
+    let g = c .before .before .before .before .args in
+    end-at _ (g .k) (g .words) (g .s .now) (g .at) 9 (c .before .match .keys8) _ (c .amount-end .ensures)
+
+returns-10 : tie.Need-returns-10
+unfolding valueEnd begins isValue
+returns-10 c =
+    let g = c .before .before .before .before .args in
+    end-at _ (g .k) (g .words) (g .s .now) (g .at) 10 (c .before .match .keys9) _ (c .day-end .ensures)
+
+returns-11 : tie.Need-returns-11
+unfolding valueEnd begins isValue
+returns-11 c =
+    let g = c .before .before .before .before .args in
+    end-at _ (g .k) (g .words) (g .s .now) (g .at) 11 (c .before .match .keys10) _ (c .moment-end .ensures)
+
+returns-12 : tie.Need-returns-12
+returns-12 c =
+    let r = c .match .rest in
+    end-none _ _ _ _ _ (λ b. sym (other-value _ _ _ b (r .0 .0 .0 .0 .0 .0 .0 .0 .0 .1) (r .0 .0 .0 .0 .0 .0 .0 .0 .1) (r .0 .0 .0 .0 .0 .0 .0 .1) (r .0 .0 .0 .0 .0 .0 .1) (r .0 .0 .0 .0 .0 .1) (r .0 .0 .0 .0 .1) (r .0 .0 .0 .1) (r .0 .0 .1) (r .0 .1) (r .1)))
 
 pub value-end-spec : {M : Type 1} → statement M
 value-end-spec =
     tie.close
     (tie.spec
     returns
-    width-requires
-    sub-if2
+    reference-end-requires
+    writing-end-requires
+    account-end-requires
+    currency-end-requires
+    place-end-requires
+    truth-end-requires
+    natural-end-requires
+    amount-end-requires
+    day-end-requires
+    moment-end-requires
     returns-2
-    head-requires
-    add-from
-    add-end
-    sub-is-value
-    part-is-value-start
-    part-is-value-end
-    is-value-requires
     returns-3
-    returns-4)
+    returns-4
+    returns-5
+    returns-6
+    returns-7
+    returns-8
+    returns-9
+    returns-10
+    returns-11
+    returns-12)
