@@ -8,7 +8,7 @@ use Rattle.tags.proofs.token.opening.Reads as opening-reads
 use Rattle.text.proofs.span.blanks_end.Reads as blanks-end-reads
 use Rattle.unit.proofs.fill.put_leaf.Reads as put-leaf-reads
 use Rattle.unit.proofs.fill.stand.Reads as stand-reads
-use Rattle.unit.proofs.pass.put_head.Reads as put-head-reads
+use Rattle.unit.proofs.fill.put_head.Reads as put-head-reads
 use Rattle.walk.proofs.begin.begin.Reads as begin-reads
 use Rattle.walk.proofs.skim.close_end.Reads as close-end-reads
 use Rattle.walk.proofs.skim.is_close.Reads as is-close-reads
