@@ -7,13 +7,13 @@ use list::table::KIND;
 use list::table::MOST;
 use list::table::PARENT;
 use list::word::word_place;
-use tags::token::Token;
-use tags::token::opening;
 use text::number::copy;
 use text::span::blanks_end;
 use walk::begin::begin;
+use walk::skim::Tag;
 use walk::skim::close_end;
 use walk::skim::is_close;
+use walk::skim::tag_at;
 use walk::skim::text_end;
 use walk::tag::is_group;
 use written::place::place;
@@ -110,19 +110,19 @@ fn put_leaf(
     pool: &[u8],
     s: &[u8],
     row: usize,
-    tag: Token,
+    tag: Tag,
     less: usize,
     out: &mut [u8],
     at: usize,
 ) -> usize
     requires { ⌜ (row ≤ 255) × (at ≤ 1000000000000) × (isGroupIn (cell (now rows) row 2) ≡ false) ⌝ }
-    ensures { λ r. ⌜ Shuts houseKinds (now (rows .entry)) (now (pool .entry)) row (slice (tag .first .value) (tag .first .quote) (now (s .entry))) (slice (tag .end) less (now (s .entry))) (now (out .entry)) at r (now (out .exit)) ⌝ }
+    ensures { λ r. ⌜ Shuts houseKinds (now (rows .entry)) (now (pool .entry)) row (slice (tag .value) (tag .quote) (now (s .entry))) (slice (tag .end) less (now (s .entry))) (now (out .entry)) at r (now (out .exit)) ⌝ }
 {
     place(out, at, row as u8);
     let kind = cell(rows, row, KIND);
     let a = tag.end;
-    let c = tag.first.value;
-    let d = tag.first.quote;
+    let c = tag.value;
+    let d = tag.quote;
     let n = put_value(rows, pool, s, kind, row, a, less, c, d, out, at + 1);
     if n == 0 {
         return 0;
@@ -149,7 +149,7 @@ pub(crate) fn fill(rows: &[u16; 928], pool: &[u8; 311], s: &[u8], out: &mut [u8]
             }
             here = stand(cell(rows, row, PARENT), row, close_end(s, name));
         } else {
-            let tag = opening(s, less);
+            let tag = tag_at(s, less);
             let r = child(rows, pool, row, here.last, s, name, tag.stop);
             if is_group(cell(rows, r, KIND)) {
                 place(out, at, r as u8);

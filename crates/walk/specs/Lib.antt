@@ -15,3 +15,5 @@ pub mod Stride
 pub mod Begin
 -- messages against the house list, with their first violations
 pub mod Example
+-- a mirror: an opening tag whose attributes are not tested
+pub mod Skimmed

@@ -5,4 +5,4 @@ pub mod tag; // tag.rt: the tests of a tag
 pub mod attributes; // attributes.rt: the attributes of a tag
 pub mod step; // step.rt: one step, over a text and the tag behind it
 pub mod begin; // begin.rt: the root's tag
-pub mod skim; // skim.rt: where a text and a closing tag end
+pub mod skim; // skim.rt: texts and tags of a message that is known to be good
