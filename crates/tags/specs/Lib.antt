@@ -9,3 +9,5 @@ pub mod Passing
 pub mod Attributes
 -- a mirror: how it passes a text and the tag behind it
 pub mod Tokens
+-- a mirror: an opening tag whose attributes are not tested
+pub mod Skimmed

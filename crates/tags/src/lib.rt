@@ -3,4 +3,4 @@
 pub mod attribute; // attribute.rt: one attribute, and how many there are
 mod pass; // pass.rt: up to a byte, and over it
 pub mod token; // token.rt: a text and the tag behind it; where the root begins
-pub mod skim; // skim.rt: where a text and a closing tag end
+pub mod skim; // skim.rt: texts and tags of a message that is known to be good

@@ -19,6 +19,8 @@ use Rattle.tags.specs.declared.token.Token.{Token}
 use Rattle.tags.specs.Passing.{but, headIs, behind}
 use Rattle.tags.specs.Tokens.{openAt}
 use Rattle.walk.specs.declared.step.Turn.{Turn}
+use Rattle.tags.specs.declared.skim.Tag.{Tag}
+use Rattle.tags.specs.Skimmed.{tagOf}
 use Rattle.walk.specs.Tables.{isGroupIn}
 use Rattle.walk.specs.Begin.{beginIn}
 use Rattle.image.specs.Image.{header}
@@ -79,9 +81,18 @@ module _ (t pool s : List ℕ) where
                 (spot-out houseKinds t pool s sd x d₁ a₁ coins (pre .1 x) d here at (w sd x) o e (sym is ∙ y) r)
 
         -- an opening tag
-        module _ (y : c ≡ false) (tag : Token) (f : tag ≡ openAt o (drop o s)) (r : ℕ) (q : r ≡ childAlong t pool (here .row) (here .last) (slice (o + 1) (tag .stop) s)) where
+        module _ (y : c ≡ false) (tag : Tag) (f : tag ≡ tagOf (openAt o (drop o s))) (r : ℕ) (q : r ≡ childAlong t pool (here .row) (here .last) (slice (o + 1) (tag .stop) s)) where
+          abbrev token : Token
+          token = openAt o (drop o s)
+
+          row-is : r ≡ childAlong t pool (here .row) (here .last) (slice (o + 1) (token .stop) s)
+          row-is = q ∙ ap (λ (u : Tag). childAlong t pool (here .row) (here .last) (slice (o + 1) (u .stop) s)) f
+
+          end-is : tag .end ≡ token .end
+          end-is = ap (λ (u : Tag). u .end) f
+
           pub fill-row : r ≤ 255
-          fill-row = row-low houseKinds t pool s sd x d₁ a₁ coins (pre .1 x) d here at (w sd x) o e (sym is ∙ y) tag f r q
+          fill-row = row-low houseKinds t pool s sd x d₁ a₁ coins (pre .1 x) d here at (w sd x) o e (sym is ∙ y) token refl r row-is
 
           module _ (v : ℕ) (k : v ≡ cell t r 2) (g : Bool) (i : g ≡ isGroupIn v) where
             kind-is : isGroupIn (cell t r 2) ≡ g
@@ -91,13 +102,13 @@ module _ (t pool s : List ℕ) where
             module _ (j : g ≡ true) (here′ : Spot) (h : here′ ≡ spotAt r 0 (tag .end)) where
               pub fill-in-less : length s - here′ .at < length s - here .at
               fill-in-less =
-                  let n = in-less houseKinds t pool s sd x d₁ a₁ coins (pre .1 x) d here at (w sd x) o e (sym is ∙ y) tag f r q (kind-is ∙ j) in
-                  omega (arith, n, ap (λ (u : Spot). u .at) h)
+                  let n = in-less houseKinds t pool s sd x d₁ a₁ coins (pre .1 x) d here at (w sd x) o e (sym is ∙ y) token refl r row-is (kind-is ∙ j) in
+                  omega (arith, n, end-is, ap (λ (u : Spot). u .at) h)
 
               pub fill-in : (n : ℕ) → n ≡ r → (d′ : List ℕ) → d′ ≡ pasted d at (n ∷ []) → WritingOn d₁ a₁ d′ here′ (at + 1)
               fill-in n m d′ p sd x =
-                  subst (λ (u : Spot). Writing houseKinds t pool s sd x d₁ a₁ d′ u (at + 1)) (sym h)
-                  (spot-in houseKinds t pool s sd x d₁ a₁ coins (pre .1 x) d here at (w sd x) o e (sym is ∙ y) tag f r q (kind-is ∙ j) n m d′ p)
+                  subst (λ (u : Spot). Writing houseKinds t pool s sd x d₁ a₁ d′ u (at + 1)) (sym (h ∙ ap (λ (n : ℕ). spotAt r 0 n) end-is))
+                  (spot-in houseKinds t pool s sd x d₁ a₁ coins (pre .1 x) d here at (w sd x) o e (sym is ∙ y) token refl r row-is (kind-is ∙ j) n m d′ p)
 
             -- of a leaf
             module _ (j : g ≡ false) where
@@ -105,16 +116,20 @@ module _ (t pool s : List ℕ) where
               fill-ready = (fill-row, fill-low, kind-is ∙ j)
 
               module _ (z : ℕ) (l : z ≡ tag .end + span (but less) (drop (tag .end) s)) where
+                text-is : z ≡ token .end + span (but less) (drop (token .end) s)
+                text-is = l ∙ ap (λ (u : Tag). u .end + span (but less) (drop (u .end) s)) f
+
                 pub fill-close : z < length s
-                fill-close = close-in houseKinds t pool s sd x d₁ a₁ coins (pre .1 x) d here at (w sd x) o e (sym is ∙ y) tag f r q (kind-is ∙ j) z l
+                fill-close = close-in houseKinds t pool s sd x d₁ a₁ coins (pre .1 x) d here at (w sd x) o e (sym is ∙ y) token refl r row-is (kind-is ∙ j) z text-is
 
                 module _ (n : ℕ) (m : n ≡ behind greater (z + 1) (drop (z + 1) s)) (here′ : Spot) (h : here′ ≡ spotAt (here .row) r n) where
                   pub fill-past-less : length s - here′ .at < length s - here .at
                   fill-past-less =
-                      let u = leaf-less houseKinds t pool s sd x d₁ a₁ coins (pre .1 x) d here at (w sd x) o e (sym is ∙ y) tag f r q (kind-is ∙ j) z l in
+                      let u = leaf-less houseKinds t pool s sd x d₁ a₁ coins (pre .1 x) d here at (w sd x) o e (sym is ∙ y) token refl r row-is (kind-is ∙ j) z text-is in
                       omega (arith, u, m, ap (λ (u : Spot). u .at) h)
 
-                  pub fill-past : (a′ : ℕ) (d′ : List ℕ) → Shuts houseKinds t pool r (slice (tag .first .value) (tag .first .quote) s) (slice (tag .end) z s) d at a′ d′ → WritingOn d₁ a₁ d′ here′ a′
+                  pub fill-past : (a′ : ℕ) (d′ : List ℕ) → Shuts houseKinds t pool r (slice (tag .value) (tag .quote) s) (slice (tag .end) z s) d at a′ d′ → WritingOn d₁ a₁ d′ here′ a′
                   fill-past a′ d′ p sd x =
                       subst (λ (u : Spot). Writing houseKinds t pool s sd x d₁ a₁ d′ u a′) (sym (h ∙ ap (λ (i : ℕ). spotAt (here .row) r i) m))
-                      (spot-past houseKinds t pool s sd x d₁ a₁ coins (pre .1 x) d here at (w sd x) o e (sym is ∙ y) tag f r q (kind-is ∙ j) z l a′ d′ p)
+                      (spot-past houseKinds t pool s sd x d₁ a₁ coins (pre .1 x) d here at (w sd x) o e (sym is ∙ y) token refl r row-is (kind-is ∙ j) z text-is a′ d′
+                      (subst (λ (u : Tag). Shuts houseKinds t pool r (slice (u .value) (u .quote) s) (slice (u .end) z s) d at a′ d′) f p))

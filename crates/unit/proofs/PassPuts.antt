@@ -1,10 +1,12 @@
 -- Bytes put one behind the other into a buffer. Assumes nothing.
 use mathlib.Core.Path.{_≡_, refl, sym, _∙_, ap, subst}
-use mathlib.Core.List.{List, [], _++_}
+use mathlib.Core.List.{List, [], _∷_, _++_}
 use Prim.Native.Nat.{ℕ, _+_}
 use native.Mathlib.Omega.{arith}
 use lib.ListN.{length, length-append}
 use Rattle.text.specs.Pasting.{pasted}
+use Rattle.text.specs.Numbers.{bigEndian}
+use Rattle.image.specs.Image.{header}
 use Rattle.text.proofs.Pasting.{pasted-none, pasted-then, length-pasted}
 use Rattle.unit.specs.Pass.{Puts}
 
@@ -32,3 +34,20 @@ puts-then d at u r d′ v q d″ x y = record {
 -- the same bytes under another name
 pub puts-as : (d : List ℕ) (at : ℕ) (u v : List ℕ) (r : ℕ) (d′ : List ℕ) → u ≡ v → Puts d at u r d′ → Puts d at v r d′
 puts-as d at u v r d′ e x = subst (λ (z : List ℕ). Puts d at z r d′) e x
+
+-- ---- into no buffer
+
+empty-of : (d : List ℕ) → length d ≡ 0 → [] ≡ d
+empty-of [] e = refl
+empty-of (x ∷ d) e = absurd (omega arith)
+
+pub pasted-nowhere : (at : ℕ) (bs : List ℕ) → [] ≡ pasted [] at bs
+pasted-nowhere at bs = empty-of (pasted [] at bs) (length-pasted [] at bs)
+
+head-long : 6 ≡ length (header ++ (1 ∷ []))
+unfolding header bigEndian
+head-long = refl
+
+-- the header and the root's row byte
+pub head-nowhere : Puts [] 0 (header ++ (1 ∷ [])) 6 []
+head-nowhere = record { behind = omega (arith, head-long); long = refl; is = λ h. pasted-nowhere 0 (header ++ (1 ∷ [])) }

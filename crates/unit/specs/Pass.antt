@@ -37,6 +37,10 @@ pub record Worded (ws : List (List ℕ)) (raw d : List ℕ) (at n : ℕ) (d′ :
   pub none : placeIn ws raw ≡ 0 → Puts d at [] (at + n) d′
   pub some : (p : ℕ) → placeIn ws raw ≡ suc p → p < 255 → Puts d at (suc p ∷ []) (at + n) d′
 
+-- the same where nothing is written
+abbrev pub WordSize : List (List ℕ) → List ℕ → ℕ → Type 0
+WordSize ws raw n = (at : ℕ) → Worded ws raw [] at n []
+
 module _ (t pool : List ℕ) where
   abbrev pub kindIn : ℕ → Kind
   kindIn r = kindOf (cell t r 2) (cell t r 3) (wordsIn t pool r)
@@ -61,6 +65,10 @@ module _ (k : Kinds) where
       pub most : n ≤ 65537
       pub long : length d′ ≡ length d
       pub value : (f : Leaf) (w cs : List ℕ) → Shut t pool row cur raw f w cs → Puts d at (given f (k .types .spell f w cs)) (at + n) d′
+
+    -- the same where nothing is written, whatever the currency
+    abbrev pub Sizes : ℕ → List ℕ → ℕ → Type 0
+    Sizes row raw n = (cur : List ℕ) (at : ℕ) → Valued row cur raw [] at n []
 
     -- "An item is the row byte and, for a leaf, its value": up to r, which is 0 where there is no value
     abbrev pub ItemPut : ℕ → Leaf → Option (k .types .A) → List ℕ → ℕ → ℕ → List ℕ → Type 0

@@ -1,29 +1,95 @@
 // The image of a message that is known to have no violation. Nothing is tested again: a name says its row, and the table which row is around.
 
-use crate::pass::put_head;
-use crate::pass::put_value;
 use list::lookup::cell;
 use list::lookup::child;
+use list::table::ENUM;
 use list::table::KIND;
+use list::table::MOST;
 use list::table::PARENT;
+use list::word::word_place;
+use tags::skim::Tag;
 use tags::skim::close_end;
 use tags::skim::is_close;
+use tags::skim::tag_at;
 use tags::skim::text_end;
-use tags::token::Token;
-use tags::token::opening;
+use text::number::copy;
 use text::span::blanks_end;
 use walk::begin::begin;
 use walk::tag::is_group;
 use written::place::place;
+use written::write::write;
 ghost use mathlib.Core.Path.{_≡_};
 ghost use mathlib.Core.Bool.{false};
+ghost use mathlib.Core.List.{[], _∷_, _++_};
 ghost use Prim.Native.Nat.{_≤_};
 ghost use lib.Seq.{slice};
-ghost use Rattle.list.specs.Table.{cell, listOf};
+ghost use Rattle.image.specs.Image.{header};
+ghost use Rattle.list.specs.Table.{cell, wordsIn, listOf};
 ghost use Rattle.walk.specs.Tables.{isGroupIn};
 ghost use Rattle.demands.specs.Instance.{houseKinds};
 ghost use Rattle.unit.specs.Measured.{Faultless};
-ghost use Rattle.unit.specs.Pass.{spotAt, Shuts, Ready, FilledIn};
+ghost use Rattle.unit.specs.Pass.{Puts, Worded, Valued, spotAt, Shuts, Ready, FilledIn};
+
+// `KTO`, version 1 in 16 bits, and the root's row byte.
+const HEAD: [u8; 6] = [75, 84, 79, 0, 1, 1];
+
+fn put_head(out: &mut [u8]) -> usize
+    ensures { λ r. ⌜ Puts (now (out .entry)) 0 (header ++ (1 ∷ [])) r (now (out .exit)) ⌝ }
+{
+    let head = HEAD;
+    copy(&head, 0, 6, out, 0);
+    6
+}
+
+// The place of an ENUM's word in its row's list, as one byte: how many bytes there are, 0 where it is no word of the list.
+fn put_word(
+    rows: &[u16],
+    pool: &[u8],
+    s: &[u8],
+    row: usize,
+    a: usize,
+    b: usize,
+    out: &mut [u8],
+    at: usize,
+) -> usize
+    ensures { λ n. ⌜ Worded (wordsIn (now (rows .entry)) (now (pool .entry)) row) (slice a b (now (s .entry))) (now (out .entry)) at n (now (out .exit)) ⌝ }
+{
+    let word = word_place(rows, pool, row, s, a, b);
+    if word == 0 {
+        return 0;
+    }
+    // No well-formed list has so many words.
+    if 255 < word {
+        return 0;
+    }
+    place(out, at, word as u8);
+    1
+}
+
+// The value of a leaf of this row and kind whose raw text is s from a to b, and whose currency, if it is an amount, is s from c to d: how
+// many bytes it has, 0 where the text spells none.
+fn put_value(
+    rows: &[u16],
+    pool: &[u8],
+    s: &[u8],
+    kind: usize,
+    row: usize,
+    a: usize,
+    b: usize,
+    c: usize,
+    d: usize,
+    out: &mut [u8],
+    at: usize,
+) -> usize
+    requires { ⌜ (kind ≡ cell (now rows) row 2) × (kind ≤ 11) ⌝ }
+    ensures { λ n. ⌜ Valued houseKinds (now (rows .entry)) (now (pool .entry)) row (slice c d (now (s .entry))) (slice a b (now (s .entry))) (now (out .entry)) at n (now (out .exit)) ⌝ }
+{
+    if kind == ENUM {
+        return put_word(rows, pool, s, row, a, b, out, at);
+    }
+    let most = cell(rows, row, MOST);
+    write(kind as u8, most, s, a, b, c, d, out, at)
+}
 
 // The innermost open group, its last child (0: none yet), and the place behind the last tag.
 struct Spot {
@@ -44,19 +110,19 @@ fn put_leaf(
     pool: &[u8],
     s: &[u8],
     row: usize,
-    tag: Token,
+    tag: Tag,
     less: usize,
     out: &mut [u8],
     at: usize,
 ) -> usize
     requires { ⌜ (row ≤ 255) × (at ≤ 1000000000000) × (isGroupIn (cell (now rows) row 2) ≡ false) ⌝ }
-    ensures { λ r. ⌜ Shuts houseKinds (now (rows .entry)) (now (pool .entry)) row (slice (tag .first .value) (tag .first .quote) (now (s .entry))) (slice (tag .end) less (now (s .entry))) (now (out .entry)) at r (now (out .exit)) ⌝ }
+    ensures { λ r. ⌜ Shuts houseKinds (now (rows .entry)) (now (pool .entry)) row (slice (tag .value) (tag .quote) (now (s .entry))) (slice (tag .end) less (now (s .entry))) (now (out .entry)) at r (now (out .exit)) ⌝ }
 {
     place(out, at, row as u8);
     let kind = cell(rows, row, KIND);
     let a = tag.end;
-    let c = tag.first.value;
-    let d = tag.first.quote;
+    let c = tag.value;
+    let d = tag.quote;
     let n = put_value(rows, pool, s, kind, row, a, less, c, d, out, at + 1);
     if n == 0 {
         return 0;
@@ -83,7 +149,7 @@ pub(crate) fn fill(rows: &[u16; 928], pool: &[u8; 311], s: &[u8], out: &mut [u8]
             }
             here = stand(cell(rows, row, PARENT), row, close_end(s, name));
         } else {
-            let tag = opening(s, less);
+            let tag = tag_at(s, less);
             let r = child(rows, pool, row, here.last, s, name, tag.stop);
             if is_group(cell(rows, r, KIND)) {
                 place(out, at, r as u8);

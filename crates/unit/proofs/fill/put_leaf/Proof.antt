@@ -4,7 +4,7 @@ use Rattle.unit.proofs.fill.put_leaf.Tie as tie
 use Rattle.unit.proofs.fill.put_leaf.Reads as reads
 use Rattle.unit.proofs.fill.put_leaf.Lts as lts
 use Rattle.list.proofs.lookup.cell.Reads as cell-reads
-use Rattle.unit.proofs.pass.put_value.Reads as put-value-reads
+use Rattle.unit.proofs.fill.put_value.Reads as put-value-reads
 use Rattle.written.proofs.place.place.Reads as place-reads
 use mathlib.Core.Path.{refl, sym, ap, _∙_}
 use mathlib.Core.Bool.{false}

@@ -1,7 +1,7 @@
--- `pass::put_word` meets its contract. Assumes nothing.
+-- `fill::put_word` meets its contract. Assumes nothing.
 use borrow.Author.Needs.{needs}
-use Rattle.unit.proofs.pass.put_word.Statement.{statement}
-use Rattle.unit.proofs.pass.put_word.Tie as tie
+use Rattle.unit.proofs.fill.put_word.Statement.{statement}
+use Rattle.unit.proofs.fill.put_word.Tie as tie
 use Rattle.unit.proofs.PassValue.{worded-none, worded-far, worded-some}
 
 word-place-requires : tie.Need-word-place-requires
