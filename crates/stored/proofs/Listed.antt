@@ -73,23 +73,11 @@ bytes-at (x ∷ s) f = (f zero, bytes-at s (λ i. f (suc i)))
 -- ---- loops: what is still to come from i on makes up the answer
 
 module _ (p : ℕ → Bool) (s : List ℕ) (i : ℕ) where
-  pub every-end : (r : Bool) → every p (drop i s) ≡ r → length s ≤ i → true ≡ r
-  unfolding every
-  every-end r w h = ap (every p) (sym (drop-of-length-le s h)) ∙ w
-
   pub some-end : (r : Bool) → some p (drop i s) ≡ r → length s ≤ i → false ≡ r
   unfolding some
   some-end r w h = ap (some p) (sym (drop-of-length-le s h)) ∙ w
 
   module _ (h : i < length s) where
-    pub every-stop : (r : Bool) → every p (drop i s) ≡ r → p (getD s i 0) ≡ false → false ≡ r
-    unfolding every
-    every-stop r w e = sym (rw (drop-cons s i 0, e)) ∙ w
-
-    pub every-go : (r : Bool) → every p (drop i s) ≡ r → p (getD s i 0) ≡ true → every p (drop (i + 1) s) ≡ r
-    unfolding every
-    every-go r w e = sym (rw (add-one i, drop-cons s i 0, e)) ∙ w
-
     pub some-stop : (r : Bool) → some p (drop i s) ≡ r → p (getD s i 0) ≡ true → true ≡ r
     unfolding some
     some-stop r w e = sym (rw (drop-cons s i 0, e)) ∙ w

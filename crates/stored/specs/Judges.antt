@@ -1,11 +1,12 @@
 -- A mirror: which bytes are those of a value, kind by kind; of a text, the bytes behind its length. Assumes nothing.
-use mathlib.Core.Bool.{Bool, true, false, _&&_, _||_, not}
+use mathlib.Core.Bool.{Bool, true, false, cond, _&&_, _||_, not}
 use mathlib.Core.List.{List}
 use Prim.Native.Nat.{ℕ, _+_, _%_, _^_}
 use lib.Dec.{eqb, ltb, leb}
 use lib.ListN.{length, getD, take, drop}
 use Rattle.text.specs.Bytes.{inRange, isCapital, isDigit}
 use Rattle.text.specs.Numbers.{number}
+use Rattle.characters.specs.Decoding.{decoded}
 use Rattle.types.specs.Text.{isTxt, isRef, notSpace}
 use Rattle.types.specs.Code.{isLetterOrDigit}
 unfoldable pub use Rattle.types.specs.Day.{isReal}
@@ -26,6 +27,10 @@ textFrom k n ink cs = leb (n + length cs) k && (every isTxt cs && (ink || some n
 -- of TXTk, and one byte
 unfoldable pub isAsciiTxt : ℕ → Bool
 isAsciiTxt x = inRange 32 95 x || inRange 97 126 x
+
+-- how many bytes the character of TXTk has that t begins with; 0 where it begins with none
+unfoldable pub txtLen : List ℕ → ℕ
+txtLen t = cond (isTxt (decoded t .code)) (decoded t .len) 0
 
 unfoldable pub isWriting : ℕ → List ℕ → Bool
 isWriting k b = textFrom k 0 false (chars b)

@@ -4,11 +4,13 @@ use characters::utf8::decode;
 use text::class::is_digit;
 use text::class::is_letter;
 ghost use mathlib.Core.Path.{_≡_};
-ghost use mathlib.Core.Bool.{true, _&&_, _||_};
-ghost use Prim.Native.Nat.{_≤_, _<_};
+ghost use mathlib.Core.Bool.{true, _&&_};
+ghost use Prim.Native.Nat.{_+_, _≤_, _<_};
+ghost use lib.ListN.{drop};
+ghost use Rattle.text.specs.Lists.{span};
 ghost use Rattle.types.specs.Text.{isTxt, isRef, notSpace};
 ghost use Rattle.stored.specs.Tests.{every, some, apart};
-ghost use Rattle.stored.specs.Judges.{isWord, isReference, isAsciiTxt, isWriting};
+ghost use Rattle.stored.specs.Judges.{isWord, isReference, isAsciiTxt, txtLen, isWriting};
 
 // Of a reference, but no slash. The bytes that a range lacks stand in rows without neighbours: each row is one test of a mask.
 fn is_sign(x: u8) -> bool
@@ -96,17 +98,18 @@ fn is_ascii_txt(x: u8) -> bool
     }
 }
 
-fn all_ascii_txt(b: &[u8]) -> bool
-    ensures { λ r. ⌜ r ≡ every isAsciiTxt (now (b .entry)) ⌝ }
+// How far ASCII characters of a text reach from a place.
+fn ascii_end(b: &[u8], at: usize) -> usize
+    ensures { λ r. ⌜ r ≡ at + span isAsciiTxt (drop at (now (b .entry))) ⌝ }
 {
-    let mut i = 0;
+    let mut i = at;
     while i < b.len() {
         if !is_ascii_txt(b[i]) {
-            return false;
+            return i;
         }
         i += 1;
     }
-    true
+    i
 }
 
 fn is_low_txt(c: u32) -> bool
@@ -140,61 +143,33 @@ fn is_txt(c: u32) -> bool
     is_high_txt(c)
 }
 
-fn inks(ink: bool, c: u32) -> bool
-    ensures { λ r. ⌜ r ≡ (ink || notSpace c) ⌝ }
+// How many bytes the character of a text has that begins at a place; 0 where none does. `decode` finds the code 0 there, which no text has.
+fn char_len(b: &[u8], at: usize) -> usize
+    ensures { λ r. ⌜ r ≡ txtLen (drop at (now (b .entry))) ⌝ }
 {
-    if ink {
-        return true;
+    let c = decode(b, at);
+    if is_txt(c.code) {
+        return c.len;
     }
-    c != 32
+    0
 }
 
-fn wide(x: u8) -> u32
-    ensures { λ r. ⌜ r ≡ x ⌝ }
-{
-    x as u32
-}
-
-// Character by character, of which most are one byte. Where none begins, `decode` finds the code 0, which no text has.
-fn is_written(b: &[u8], k: usize) -> bool
-    ensures { λ r. ⌜ r ≡ isWriting k (now (b .entry)) ⌝ }
-{
-    let mut i = 0;
-    let mut n: usize = 0;
-    let mut ink = false;
-    while i < b.len() {
-        if k <= n {
-            return false;
-        }
-        let x = b[i];
-        if is_ascii_txt(x) {
-            i += 1;
-            n += 1;
-            ink = inks(ink, wide(x));
-        } else {
-            let c = decode(b, i);
-            let len = c.len;
-            let code = c.code;
-            if !is_txt(code) {
-                return false;
-            }
-            i += len;
-            n += 1;
-            ink = inks(ink, code);
-        }
-    }
-    ink
-}
-
-// TXTk: most texts are ASCII, one byte a character.
+// TXTk: runs of ASCII, one byte a character, and the characters between them; `more` counts the bytes behind the first of each.
 pub(crate) fn is_writing(b: &[u8], k: usize) -> bool
     ensures { λ r. ⌜ r ≡ isWriting k (now (b .entry)) ⌝ }
 {
-    if all_ascii_txt(b) {
-        if k < b.len() {
+    if !inked(b) {
+        return false;
+    }
+    let mut i = ascii_end(b, 0);
+    let mut more: usize = 0;
+    while i < b.len() {
+        let n = char_len(b, i);
+        if n == 0 {
             return false;
         }
-        return inked(b);
+        more = more + (n - 1);
+        i = ascii_end(b, i + n);
     }
-    is_written(b, k)
+    b.len() - more <= k
 }

@@ -1,37 +1,93 @@
 -- `letters::is_writing` meets its contract. Assumes nothing.
-use borrow.Author.Needs.{needs}
 use Rattle.stored.proofs.letters.is_writing.Statement.{statement}
 use Rattle.stored.proofs.letters.is_writing.Tie as tie
 use mathlib.Core.Path.{sym, _∙_}
-use Rattle.stored.proofs.Writings.{ascii-long, ascii-inked}
+use Prim.Native.Nat.{_-_}
+use native.Mathlib.Omega.{arith}
+use lib.ListN.{length}
+use borrow.Author.Needs.{needs}
+use borrow.Author.Tests.{not-true, not-false}
+use Rattle.stored.proofs.Writings.{uninked, Passing, pass-none, pass-run, pass-end, pass-bad, pass-room, pass-char}
 
-all-ascii-txt-requires : tie.Need-all-ascii-txt-requires
-all-ascii-txt-requires c κs = search needs
+abbrev Inv-loop : tie.InvT-loop
+Inv-loop b k i₀ more₀ i more = Passing b i more
 
-returns : tie.Need-returns
+abbrev μ-loop : tie.MeasureT-loop
+μ-loop b k i₀ more₀ i more = length b - i
+
+inked-requires : tie.Need-inked-requires Inv-loop μ-loop
+inked-requires c κs =
+    search needs
+
+returns : tie.Need-returns Inv-loop μ-loop
 returns c =
-    ascii-long _ _ (sym (c .before .before .all-ascii-txt .ensures) ∙ c .before .if1 .taken) (c .if2 .taken)
+    uninked _ _ (sym (c .before .inked .ensures) ∙ not-true _ (c .if1 .taken))
 
-inked-requires : tie.Need-inked-requires
-inked-requires c κs = search needs
+ascii-end-requires : tie.Need-ascii-end-requires Inv-loop μ-loop
+ascii-end-requires c κs =
+    search needs
 
-returns-2 : tie.Need-returns-2
+loop-holds : tie.Need-loop-holds Inv-loop μ-loop
+loop-holds c =
+    pass-run _ 0 0 (pass-none _) _ (c .ascii-end .ensures)
+
+char-len-requires : tie.Need-char-len-requires Inv-loop μ-loop
+char-len-requires c κs =
+    search needs
+
+returns-2 : tie.Need-returns-2 Inv-loop μ-loop
 returns-2 c =
-    ascii-inked _ _ (sym (c .before .before .before .all-ascii-txt .ensures) ∙ c .before .before .if1 .taken) (c .before .if2 .left) _ (c .inked .ensures)
+    pass-bad _ _ _ (c .before .before .before .loop .inv) (c .before .before .loop-test .taken) _ (c .before .char-len .ensures) (c .if2 .taken) _
 
-is-written-requires : tie.Need-is-written-requires
-is-written-requires c κs = search needs
+sub-more : tie.Need-sub-more Inv-loop μ-loop
+sub-more c =
+    search needs
 
-returns-3 : tie.Need-returns-3
-returns-3 c = search needs
+add-more : tie.Need-add-more Inv-loop μ-loop
+add-more c =
+    omega (arith, c .before .before .before .loop .inv .spare, pass-room _ _ _ (c .before .before .before .loop .inv) (c .before .before .loop-test .taken) _ (c .before .char-len .ensures) (c .if2 .left))
+
+add-ascii-end : tie.Need-add-ascii-end Inv-loop μ-loop
+add-ascii-end c =
+    omega (arith, pass-room _ _ _ (c .before .before .before .loop .inv) (c .before .before .loop-test .taken) _ (c .before .char-len .ensures) (c .if2 .left))
+
+ascii-end-requires-2 : tie.Need-ascii-end-requires-2 Inv-loop μ-loop
+ascii-end-requires-2 c κs =
+    search needs
+
+loop-less : tie.Need-loop-less Inv-loop μ-loop
+loop-less c =
+    omega (arith, c .ascii-end2 .ensures, c .before .if2 .left, c .before .before .before .loop-test .taken)
+
+loop-again : tie.Need-loop-again Inv-loop μ-loop
+loop-again c =
+    pass-run _ _ _ (pass-char _ _ _ (c .before .before .before .before .loop .inv) (c .before .before .before .loop-test .taken) _ (c .before .before .char-len .ensures) (c .before .if2 .left)) _ (c .ascii-end2 .ensures)
+
+sub-result : tie.Need-sub-result Inv-loop μ-loop
+sub-result c =
+    omega (arith, c .before .loop .inv .spare, c .before .loop .inv .within)
+
+returns-3 : tie.Need-returns-3 Inv-loop μ-loop
+returns-3 c =
+    pass-end _ _ _ (c .before .loop .inv) _ (sym (c .before .before .before .before .inked .ensures) ∙ not-false _ (c .before .before .before .if1 .left)) (c .loop-test .left)
 
 pub is-writing-spec : {M : Type 1} → statement M
 is-writing-spec =
     tie.close
     (tie.spec
-    all-ascii-txt-requires
-    returns
+    Inv-loop
+    μ-loop
     inked-requires
+    returns
+    ascii-end-requires
+    loop-holds
+    char-len-requires
     returns-2
-    is-written-requires
+    sub-more
+    add-more
+    add-ascii-end
+    ascii-end-requires-2
+    loop-less
+    loop-again
+    sub-result
     returns-3)
