@@ -1,5 +1,5 @@
 -- What the program writes, case by case; and that nothing else fits. Assumes nothing.
-use mathlib.Core.Path.{_≡_, refl, sym, _∙_, ap}
+use mathlib.Core.Path.{_≡_, refl, sym, _∙_, ap, subst}
 use mathlib.Core.Logic.{_≢_}
 use mathlib.Core.List.{List}
 use Prim.Native.Nat.{ℕ, _≤_, _<_}
@@ -16,8 +16,9 @@ use Rattle.house.specs.House.{house}
 use Rattle.image.specs.Kinds.{values}
 use Rattle.image.specs.Place.{Reads}
 use Rattle.demands.specs.Checks.{Checks}
-use Rattle.unit.proofs.Programs.{reads-back, rooms-alike}
+use Rattle.unit.proofs.Programs.{place-fits, reads-back, rooms-alike}
 use Rattle.kto.specs.Says.{most, Says, longer, refused, written}
+use Rattle.kto.specs.Answered.{Answered, over, within}
 
 -- the line of a refusal, taken from the buffer that it was put into
 pub line-taken : (a : Answer) (d d′ : List ℕ) (r : ℕ) → r ≡ length (refusal a) → r ≤ length d → d′ ≡ pasted d 0 (refusal a) → take r d′ ≡ refusal a
@@ -27,27 +28,27 @@ line-taken a d d′ r e h f = ap (take r) f ∙ taken-out d (refusal a) r e h
 pub line-counts : (a : Answer) (d d′ : List ℕ) (r : ℕ) → r ≤ length d → d′ ≡ pasted d 0 (refusal a) → Counts r d′
 line-counts a d d′ r h f = counts r d′ (omega (arith, ap length f, length-pasted d 0 (refusal a)))
 
-module _ (input : List ℕ) where
-  -- longer input
-  pub says-longer : (a : Answer) (d d′ : List ℕ) (r : ℕ) → most < length input → a ≡ answer 1 0 most → r ≡ length (refusal a) → r ≤ length d → d′ ≡ pasted d 0 (refusal a) → Says input (take r d′)
-  says-longer a d d′ r h e f g k = longer h (line-taken a d d′ r f g k ∙ ap refusal e)
+module _ (input d : List ℕ) where
+  -- the reader gives the answer that check gave
+  pub read-again : length input ≤ most → (a : Answer) (d′ : List ℕ) → Checks input d a d′ → a .code ≡ 0 → (b : Answer) → Reads values house (take (a .place) d′) b → Answered input d b d′
+  read-again h a d′ p z b q =
+      let e : b ≡ a = reads-back input d a d′ p z b q in
+      subst (λ (x : Answer). Answered input d x d′) (sym e) (within h p (λ _. subst (λ (x : Answer). Reads values house (take (a .place) d′) x) e q))
 
-  module _ (h : length input ≤ most) (a : Answer) (d d′ : List ℕ) (n : length d ≡ most) (p : Checks input d a d′) where
-    -- a refusal
-    pub says-refused : a .code ≢ 0 → (x : List ℕ) (r : ℕ) → r ≡ length (refusal a) → r ≤ length d′ → x ≡ pasted d′ 0 (refusal a) → Says input (take r x)
-    says-refused z x r f g k = refused h a d d′ n p z (line-taken a d′ x r f g k)
+  module _ (n : length d ≡ most) (a : Answer) (d′ : List ℕ) where
+    -- longer input, or a refusal
+    pub says-refused : Answered input d a d′ → a .code ≢ 0 → (x : List ℕ) (r : ℕ) → r ≡ length (refusal a) → r ≤ length d′ → x ≡ pasted d′ 0 (refusal a) → Says input (take r x)
+    says-refused (over h e) z x r f g k = longer h (line-taken a d′ x r f g k ∙ ap refusal e)
+    says-refused (within h p b) z x r f g k = refused h a d d′ n p z (line-taken a d′ x r f g k)
 
-    module _ (z : a .code ≡ 0) (b : Answer) (q : Reads values house (take (a .place) d′) b) where
-      -- the reader never refuses what check wrote
-      pub never-unread : b .code ≢ 0 → ⊥
-      never-unread c = c (ap (λ (x : Answer). x .code) (reads-back input d a d′ p z b q) ∙ z)
+    -- an image
+    pub says-written : Answered input d a d′ → a .code ≡ 0 → Says input (take (a .place) d′)
+    says-written (over h e) z = absurd (omega (arith, ap (λ (x : Answer). x .code) e, z))
+    says-written (within h p b) z = written h a d d′ n p z refl (b z)
 
-      -- an image
-      pub says-written : Says input (take (a .place) d′)
-      says-written = written h a d d′ n p z refl (subst-answer (reads-back input d a d′ p z b q))
-        where
-          subst-answer : b ≡ a → Reads values house (take (a .place) d′) a
-          subst-answer e = rw e at q
+    pub image-counts : Answered input d a d′ → a .code ≡ 0 → length d′ ≡ length d → Counts (a .place) d′
+    image-counts (over h e) z l = absurd (omega (arith, ap (λ (x : Answer). x .code) e, z))
+    image-counts (within h p b) z l = counts _ _ (omega (arith, l, place-fits input d a d′ p z))
 
 -- only one output fits
 pub says-one : (input u v : List ℕ) → Says input u → Says input v → u ≡ v

@@ -7,6 +7,7 @@ ghost use mathlib.Core.Path.{_≡_};
 ghost use lib.ListN.{length, take};
 ghost use Rattle.io.specs.Counts.{Counts};
 ghost use Rattle.kto.specs.Says.{Says};
+ghost use Rattle.kto.specs.Answered.{Answered};
 
 // The most bytes that count.
 pub(crate) const MOST: usize = 65536;
@@ -22,23 +23,30 @@ fn longer() -> Answer
     }
 }
 
+// The answer to an input, with its image in the buffer where it is accepted: an image counts as one once it is read back.
+fn answered(input: &[u8], out: &mut [u8]) -> Answer
+    ensures { λ r. ⌜ Answered (now (input .entry)) (now (out .entry)) r (now (out .exit)) ⌝ }
+{
+    if MOST < input.len() {
+        return longer();
+    }
+    let a = check(input, out);
+    if a.code != Answer::ACCEPTED {
+        return a;
+    }
+    let n = a.place;
+    read(&out[..n])
+}
+
 // Puts what is written for an input to the start of a buffer, and answers how many bytes it is.
 pub(crate) fn said(input: &[u8], out: &mut [u8]) -> usize
     requires { ⌜ length (now out) ≡ 65536 ⌝ }
     ensures is { λ r. ⌜ Says (now (input .entry)) (take r (now (out .exit))) ⌝ }
     ensures within { λ r. ⌜ Counts r (now (out .exit)) ⌝ }
 {
-    if MOST < input.len() {
-        return put_refusal(out, 0, longer());
+    let a = answered(input, out);
+    if a.code == Answer::ACCEPTED {
+        return a.place;
     }
-    let a = check(input, out);
-    if a.code != Answer::ACCEPTED {
-        return put_refusal(out, 0, a);
-    }
-    let n = a.place;
-    let back = read(&out[..n]);
-    if back.code != Answer::ACCEPTED {
-        return put_refusal(out, 0, back);
-    }
-    n
+    put_refusal(out, 0, a)
 }

@@ -1,10 +1,11 @@
 -- Attributes. Assumes nothing.
 use mathlib.Core.Path.{_≡_, refl, sym, _∙_, ap, subst}
 use mathlib.Core.Bool.{Bool, true, false, cond}
-use mathlib.Core.Logic.{_≢_}
+use mathlib.Core.Logic.{_≢_, ⊎-elim}
 use mathlib.Core.List.{List, [], _∷_, _++_}
 use Prim.Native.Nat.{ℕ, zero, suc, _+_, _-_, _≤_, _<_}
 use native.Mathlib.Omega.{arith}
+use types.Run.{OneOf}
 use lib.Dec.{eqb}
 use lib.ListN.{length, getD, drop}
 use borrow.Author.Tests.{eq-eqb, ne-eqb}
@@ -17,6 +18,10 @@ use Rattle.scan.specs.declared.Went.{Went}
 use Rattle.scan.specs.declared.Went.the-variants.{On, Stopped}
 use Rattle.scan.proofs.Fate.{fate-end, fate-dead, fate-byte, run-within, run-behind, run-over}
 use Rattle.scan.proofs.Goes.{goes-after, goes-byte, goes-then, goes-stop}
+
+-- either quote
+pub a-mark : (x : ℕ) → OneOf (34 ∷ 39 ∷ []) x → Marked x
+a-mark x w = ⊎-elim (λ e. record { quote = double; is = sym e }) (λ e. record { quote = single; is = sym e }) w
 
 -- ---- the automaton at a byte of a value, before it, before `=`
 

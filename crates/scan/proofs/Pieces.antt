@@ -1,10 +1,11 @@
 -- Characters and entities, by their bytes. Assumes nothing.
 use mathlib.Core.Path.{_≡_, refl, sym, _∙_, ap, subst}
 use mathlib.Core.Bool.{Bool, true, false, cond, _&&_, _||_}
-use mathlib.Core.Logic.{_≢_}
+use mathlib.Core.Logic.{_≢_, ⊎-elim, inl, inr}
 use mathlib.Core.List.{List, [], _∷_}
 use Prim.Native.Nat.{ℕ, zero, suc, _+_, _≤_, _<_}
 use native.Mathlib.Omega.{arith}
+use types.Run.{OneOf}
 use lib.Dec.{leb, ltb, eqb}
 use lib.ListN.{length, getD}
 use borrow.Author.Tests.{lt-ltb, le-ltb, le-leb, lt-leb, eq-eqb, ne-eqb}
@@ -199,3 +200,11 @@ lead-less = refl
 pub lead-ampersand : lead 38 ≡ more ampersand
 unfolding lead
 lead-ampersand = refl
+
+-- ---- an entity by its first byte
+
+pub angle : (x : ℕ) → OneOf (103 ∷ 108 ∷ []) x → go-on ampersand x ≡ toWord (116 ∷ 59 ∷ [])
+angle x w = ⊎-elim (λ e. ap (go-on ampersand) e) (λ e. ap (go-on ampersand) e) w
+
+pub no-entity : (x : ℕ) → x ≢ 97 → (OneOf (103 ∷ 108 ∷ []) x → ⊥) → x ≢ 113 → go-on ampersand x ≡ bad
+no-entity x a w q = rw (ne-eqb x 97 a, ne-eqb x 108 (λ e. w (inr e)), ne-eqb x 103 (λ e. w (inl e)), ne-eqb x 113 q) refl

@@ -50,13 +50,10 @@ fn equals(s: &[u8], at: usize) -> Went
         return Went::Stopped(mark);
     }
     let quote = s[mark];
-    if quote == b'\'' {
-        return value(s, mark + 1, quote);
+    match quote {
+        b'"' | b'\'' => value(s, mark + 1, quote),
+        _ => Went::Stopped(mark),
     }
-    if quote == b'"' {
-        return value(s, mark + 1, quote);
-    }
-    Went::Stopped(mark)
 }
 
 // Whether the name from a to e is one of the first n, which stand from from[k] to to[k].

@@ -4,6 +4,7 @@ use elements::elements;
 use prolog::prolog;
 use run::CLASSES;
 use text::span::blanks_end;
+ghost use Rattle.scan.specs.Classes.{Classed};
 ghost use Rattle.scan.specs.Right.{Right};
 
 mod attribute; // attribute.rt: an attribute, whose name is none of those before it
@@ -30,13 +31,14 @@ pub enum Scanned {
     Stops(usize),
 }
 
-pub fn scan(s: &[u8]) -> Scanned
+// Over a whole text: what stands before the first element, the element, and blanks behind it.
+fn document(s: &[u8], classes: &[u8; 256]) -> Scanned
+    requires { ⌜ Classed (now classes) ⌝ }
     ensures { λ r. ⌜ Right (now (s .entry)) r ⌝ }
 {
-    let classes = CLASSES;
     match prolog(s) {
         Went::Stopped(n) => Scanned::Stops(n),
-        Went::On(root) => match elements(s, root, &classes) {
+        Went::On(root) => match elements(s, root, classes) {
             Went::Stopped(n) => Scanned::Stops(n),
             Went::On(behind) => {
                 let end = blanks_end(s, behind);
@@ -47,4 +49,11 @@ pub fn scan(s: &[u8]) -> Scanned
             }
         },
     }
+}
+
+pub fn scan(s: &[u8]) -> Scanned
+    ensures { λ r. ⌜ Right (now (s .entry)) r ⌝ }
+{
+    let classes = CLASSES;
+    document(s, &classes)
 }

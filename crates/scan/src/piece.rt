@@ -106,14 +106,11 @@ fn behind_a(s: &[u8], at: usize) -> Went
     if s.len() <= at {
         return Went::Stopped(at);
     }
-    let x = s[at];
-    if x == b'm' {
-        return word(s, at + 1, b"p;");
+    match s[at] {
+        b'm' => word(s, at + 1, b"p;"),
+        b'p' => word(s, at + 1, b"os;"),
+        _ => Went::Stopped(at),
     }
-    if x == b'p' {
-        return word(s, at + 1, b"os;");
-    }
-    Went::Stopped(at)
 }
 
 // Behind `&`: the rest of one of the five entities.
@@ -124,20 +121,12 @@ fn entity(s: &[u8], at: usize) -> Went
     if s.len() <= at {
         return Went::Stopped(at);
     }
-    let x = s[at];
-    if x == b'a' {
-        return behind_a(s, at + 1);
+    match s[at] {
+        b'a' => behind_a(s, at + 1),
+        b'g' | b'l' => word(s, at + 1, b"t;"),
+        b'q' => word(s, at + 1, b"uot;"),
+        _ => Went::Stopped(at),
     }
-    if x == b'l' {
-        return word(s, at + 1, b"t;");
-    }
-    if x == b'g' {
-        return word(s, at + 1, b"t;");
-    }
-    if x == b'q' {
-        return word(s, at + 1, b"uot;");
-    }
-    Went::Stopped(at)
 }
 
 // Over the piece at the place.

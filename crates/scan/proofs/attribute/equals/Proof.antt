@@ -1,10 +1,14 @@
 use borrow.Author.Needs.{needs}
 use Rattle.scan.proofs.attribute.equals.Statement.{statement}
 use Rattle.scan.proofs.attribute.equals.Tie as tie
+use Rattle.scan.proofs.attribute.equals.Reads as reads
+use Rattle.scan.proofs.attribute.equals.Lts as lts
+use Rattle.scan.proofs.attribute.value.Reads as value-reads
+use Rattle.text.proofs.span.blanks_end.Reads as blanks-end-reads
 use mathlib.Core.Path.{sym}
+use mathlib.Core.Logic.{inl, inr}
 use native.Mathlib.Omega.{arith}
-use Rattle.xml.specs.House.{single, double}
-use Rattle.scan.proofs.Attributes.{equals-cut, equals-other, quote-cut, quote-other, quoted}
+use Rattle.scan.proofs.Attributes.{a-mark, equals-cut, equals-other, quote-cut, quote-other, quoted}
 
 blanks-end-requires : tie.Need-blanks-end-requires
 blanks-end-requires c κs = search needs
@@ -38,28 +42,16 @@ add-value c = search needs
 
 value-requires : tie.Need-value-requires
 value-requires c κs =
-    (omega arith, record { quote = single; is = sym (c .if4 .taken) })
+    (omega arith, a-mark _ (c .match .keys1))
 
 returns-4 : tie.Need-returns-4
 returns-4 c =
-    quoted _ _ _ (c .before .before .before .before .before .before .before .before .blanks-end .ensures) (c .before .before .before .before .before .before .before .before .before .before .pre) (c .before .before .before .before .before .before .before .if1 .left) (c .before .before .before .before .before .if2 .left) _ (c .before .before .before .before .blanks-end2 .ensures) (c .before .before .before .if3 .left) single (c .value .result)
-    (c .before .if4 .taken) (c .value .ensures)
-
-add-value-2 : tie.Need-add-value-2
-add-value-2 c = search needs
-
-value-requires-2 : tie.Need-value-requires-2
-value-requires-2 c κs =
-    (omega arith, record { quote = double; is = sym (c .if5 .taken) })
+    let m = a-mark _ (c .before .match .keys1) in
+    quoted _ _ _ (c .before .before .before .before .before .before .before .before .blanks-end .ensures) (c .before .before .before .before .before .before .before .before .before .before .pre) (c .before .before .before .before .before .before .before .if1 .left) (c .before .before .before .before .before .if2 .left) _ (c .before .before .before .before .blanks-end2 .ensures) (c .before .before .before .if3 .left) (m .quote) (c .value .result) (sym (m .is)) (c .value .ensures)
 
 returns-5 : tie.Need-returns-5
 returns-5 c =
-    quoted _ _ _ (c .before .before .before .before .before .before .before .before .before .blanks-end .ensures) (c .before .before .before .before .before .before .before .before .before .before .before .pre) (c .before .before .before .before .before .before .before .before .if1 .left) (c .before .before .before .before .before .before .if2 .left) _ (c .before .before .before .before .before .blanks-end2 .ensures) (c .before .before .before .before .if3 .left) double (c .value2 .result)
-    (c .before .if5 .taken) (c .value2 .ensures)
-
-returns-6 : tie.Need-returns-6
-returns-6 c =
-    quote-other _ _ _ (c .before .before .before .before .before .before .before .before .blanks-end .ensures) (c .before .before .before .before .before .before .before .before .before .before .pre) (c .before .before .before .before .before .before .before .if1 .left) (c .before .before .before .before .before .if2 .left) _ (c .before .before .before .before .blanks-end2 .ensures) (c .before .before .before .if3 .left) (c .before .if4 .left) (c .if5 .left)
+    quote-other _ _ _ (c .before .before .before .before .before .before .before .blanks-end .ensures) (c .before .before .before .before .before .before .before .before .before .pre) (c .before .before .before .before .before .before .if1 .left) (c .before .before .before .before .if2 .left) _ (c .before .before .before .blanks-end2 .ensures) (c .before .before .if3 .left) (λ e. c .match .rest .1 (inr e)) (λ e. c .match .rest .1 (inl e))
 
 pub equals-spec : {M : Type 1} → statement M
 equals-spec =
@@ -76,7 +68,4 @@ equals-spec =
     add-value
     value-requires
     returns-4
-    add-value-2
-    value-requires-2
-    returns-5
-    returns-6)
+    returns-5)
