@@ -15,7 +15,6 @@ use Rattle.text.specs.Pasting.{pasted}
 use Rattle.characters.specs.Pieces.{less, greater, solidus}
 use Rattle.list.specs.Listing.{Listing, rowAt, size, Child, child, isGroup}
 use Rattle.list.specs.Table.{cell, listOf}
-use Rattle.list.specs.Lookup.{childAlong}
 use Rattle.list.specs.Sound.{Sound}
 use Rattle.list.proofs.Along.{child-along}
 use Rattle.list.proofs.Rows.{size-is, parent-is}
@@ -46,7 +45,7 @@ use Rattle.image.specs.Image.{header}
 use Rattle.demands.specs.Instance.{Kinds}
 use Rattle.unit.specs.declared.fill.Spot.{Spot}
 use Rattle.unit.specs.Measured.{verdict}
-use Rattle.unit.specs.Pass.{Puts, Shuts, spotAt, Passes, violates, holds}
+use Rattle.unit.specs.Pass.{Puts, Shuts, spotAt, Comes, Passes, violates, holds}
 use Rattle.unit.proofs.PassLeaf.{opens-group, opens-leaf, shuts-group}
 use Rattle.unit.proofs.PassEnd.{isFine}
 use Rattle.unit.proofs.PassGoing.{isRefused, apart, row-byte, Going, begun, begin-opened, goes-first, at-most, steps, step-enters, step-leaves, step-ends, goes-in, goes-out, bad-value, ends-in}
@@ -253,8 +252,7 @@ module _ (k : Kinds) (t pool s : List ℕ) (sd : Sound t pool) (x : HouseXml s) 
             }
 
         -- an opening tag, and its row
-        module _ (b : headIs solidus (drop (o + 1) s) ≡ false) (tag : Token) (f : tag ≡ openAt o (drop o s))
-            (r : ℕ) (q : r ≡ childAlong t pool (here .row) (here .last) (slice (o + 1) (tag .stop) s)) where
+        module _ (b : headIs solidus (drop (o + 1) s) ≡ false) (tag : Token) (f : tag ≡ openAt o (drop o s)) where
           enter : step .met ≡ Opened
           enter = by-open t pool s (w .st) full step gone o at-less b
 
@@ -276,117 +274,132 @@ module _ (k : Kinds) (t pool s : List ℕ) (sd : Sound t pool) (x : HouseXml s) 
               rw (lt-ltb (mark .less) (length s) (there t pool s (w .st) full step gone))
               (child-along t pool sd (slice (mark .less + 1) (mark .stop) s) (full .level .row) (full .level .last) (placed .high) (placed .last))
 
-          in-row : in′ .level .row ≡ r
-          in-row =
+          abbrev named : ℕ
+          named = child l (here .row) (slice (o + 1) (tag .stop) s)
+
+          in-named : in′ .level .row ≡ named
+          in-named =
               ap (λ (h : Here). h .level .row) in-is ∙ row-in
               ∙ ap (λ (n : ℕ). child l (full .level .row) (slice (n + 1) (mark .stop) s)) (sym at-less)
               ∙ ap (λ (z : Token). child l (full .level .row) (slice (o + 1) (z .stop) s)) (sym tag-is)
               ∙ ap (λ (n : ℕ). child l n (slice (o + 1) (tag .stop) s)) (w .row)
-              ∙ sym (child-along t pool sd (slice (o + 1) (tag .stop) s) (here .row) (here .last) (subst (λ (n : ℕ). n ≤ size l) (w .row) (placed .high)) (w .last)) ∙ sym q
 
-          its : Child l (here .row) r
-          its = subst (λ (n : ℕ). Child l n r) (w .row) (subst (λ (n : ℕ). Child l (full .level .row) n) in-row (below d (w .st) full at g enter))
+          -- the name is a child's
+          pub comes : Comes t pool (here .row) (here .last) (slice (o + 1) (tag .stop) s)
+          comes = record {
+            sound = sd;
+            within = subst (λ (n : ℕ). n ≤ size l) (w .row) (placed .high);
+            from = w .last;
+            its = subst (λ (n : ℕ). Child l n named) (w .row) (subst (λ (n : ℕ). Child l (full .level .row) n) in-named (below d (w .st) full at g enter));
+          }
 
-          pub row-low : r ≤ 255
-          row-low = omega (arith, its .last, sd .well .bytes)
+          module _ (r : ℕ) (q : r ≡ named) where
+            in-row : in′ .level .row ≡ r
+            in-row = in-named ∙ sym q
 
-          is-group : isGroupIn (cell t r 2) ≡ isGroup (rowAt l r .kind)
-          is-group = group-in t pool sd r (its .first) (its .last)
+            its : Child l (here .row) r
+            its = subst (Child l (here .row)) (sym q) (comes .its)
 
-          on : full .at < in′ .at
-          on = enters d (w .st) full at g enter .on
+            pub row-low : r ≤ 255
+            row-low = omega (arith, its .last, sd .well .bytes)
 
-          -- of a group
-          module _ (j : isGroupIn (cell t r 2) ≡ true) where
-            pub in-less : length s - tag .end < length s - here .at
-            in-less = omega (arith, on, enters d (w .st) full at g enter .stands .within, in-at, w .behind)
+            is-group : isGroupIn (cell t r 2) ≡ isGroup (rowAt l r .kind)
+            is-group = group-in t pool sd r (its .first) (its .last)
 
-            pub spot-in : (n : ℕ) → n ≡ r → (d′ : List ℕ) → d′ ≡ pasted d at (n ∷ []) → Writing d′ (spotAt r 0 (tag .end)) (at + 1)
-            spot-in n i d′ p = record {
-              st = stack;
-              full = in′;
-              going = goes-in k t pool s sd x d₁ a₁ d (w .st) full at g stack step (enters d (w .st) full at g enter) (at + 1) d′
-                  (opens-group t (in′ .level .row) (cell t (in′ .level .row) 2) refl (isGroupIn (cell t (in′ .level .row) 2)) refl k d at (ap (λ (m : ℕ). isGroupIn (cell t m 2)) in-row ∙ j) n (i ∙ sym in-row) d′ p);
-              row = in-row;
-              behind = in-at;
-              group = sym is-group ∙ j;
-              last = inl refl;
-            }
+            on : full .at < in′ .at
+            on = enters d (w .st) full at g enter .on
 
-          -- of a leaf: its closing tag is the next
-          module _ (j : isGroupIn (cell t r 2) ≡ false) (z : ℕ) (i : z ≡ tag .end + span (but less) (drop (tag .end) s)) where
-            inside : Going k t pool s sd x d₁ a₁ d stack in′ at
-            inside = goes-in k t pool s sd x d₁ a₁ d (w .st) full at g stack step (enters d (w .st) full at g enter) at d
-                (opens-leaf t (in′ .level .row) (cell t (in′ .level .row) 2) refl (isGroupIn (cell t (in′ .level .row) 2)) refl k d at (ap (λ (m : ℕ). isGroupIn (cell t m 2)) in-row ∙ j))
+            -- of a group
+            module _ (j : isGroupIn (cell t r 2) ≡ true) where
+              pub in-less : length s - tag .end < length s - here .at
+              in-less = omega (arith, on, enters d (w .st) full at g enter .stands .within, in-at, w .behind)
 
-            abbrev next : Turn
-            next = stepIn t pool s stack in′
+              pub spot-in : (n : ℕ) → n ≡ r → (d′ : List ℕ) → d′ ≡ pasted d at (n ∷ []) → Writing d′ (spotAt r 0 (tag .end)) (at + 1)
+              spot-in n i d′ p = record {
+                st = stack;
+                full = in′;
+                going = goes-in k t pool s sd x d₁ a₁ d (w .st) full at g stack step (enters d (w .st) full at g enter) (at + 1) d′
+                    (opens-group t (in′ .level .row) (cell t (in′ .level .row) 2) refl (isGroupIn (cell t (in′ .level .row) 2)) refl k d at (ap (λ (m : ℕ). isGroupIn (cell t m 2)) in-row ∙ j) n (i ∙ sym in-row) d′ p);
+                row = in-row;
+                behind = in-at;
+                group = sym is-group ∙ j;
+                last = inl refl;
+              }
 
-            abbrev after : Token
-            after = tokenIn s (in′ .at)
+            -- of a leaf: its closing tag is the next
+            module _ (j : isGroupIn (cell t r 2) ≡ false) (z : ℕ) (i : z ≡ tag .end + span (but less) (drop (tag .end) s)) where
+              inside : Going k t pool s sd x d₁ a₁ d stack in′ at
+              inside = goes-in k t pool s sd x d₁ a₁ d (w .st) full at g stack step (enters d (w .st) full at g enter) at d
+                  (opens-leaf t (in′ .level .row) (cell t (in′ .level .row) 2) refl (isGroupIn (cell t (in′ .level .row) 2)) refl k d at (ap (λ (m : ℕ). isGroupIn (cell t m 2)) in-row ∙ j))
 
-            gone-next : Went t pool s stack in′ next
-            gone-next = went d stack in′ at inside
+              abbrev next : Turn
+              next = stepIn t pool s stack in′
 
-            z-is : z ≡ after .less
-            z-is = i ∙ ap (λ (n : ℕ). n + span (but less) (drop n s)) (sym in-at) ∙ less-is s (in′ .at)
+              abbrev after : Token
+              after = tokenIn s (in′ .at)
 
-            pub close-in : z < length s
-            close-in = subst (λ (n : ℕ). n < length s) (sym z-is) (there t pool s stack in′ next gone-next)
+              gone-next : Went t pool s stack in′ next
+              gone-next = went d stack in′ at inside
 
-            -- no element stands in a leaf
-            shut-next : next .met ≡ Closed
-            shut-next = go (headIs solidus (drop (z + 1) s)) refl
-              where
-                go : (c : Bool) → headIs solidus (drop (z + 1) s) ≡ c → next .met ≡ Closed
-                go true c = by-close t pool s stack in′ next gone-next z z-is c
-                go false c =
-                    let m = by-open t pool s stack in′ next gone-next z z-is c in
-                    let v = below d stack in′ at inside m in
-                    absurd (true≢false (sym (sd .well .parents (in′ .level .row) (next .here .level .row) v (enters d (w .st) full at g enter .stands .placed .low)) ∙ ap (λ (n : ℕ). isGroup (rowAt l n .kind)) in-row ∙ sym is-group ∙ j))
+              z-is : z ≡ after .less
+              z-is = i ∙ ap (λ (n : ℕ). n + span (but less) (drop n s)) (sym in-at) ∙ less-is s (in′ .at)
 
-            deep-next : in′ .depth ≢ 0
-            deep-next h = absurd (omega (arith, h, ap (λ (y : Here). y .depth) in-is))
+              pub close-in : z < length s
+              close-in = subst (λ (n : ℕ). n < length s) (sym z-is) (there t pool s stack in′ next gone-next)
 
-            closed-next : (next .less ≡ after .less) × (next .here .at ≡ after .end) × (after .kind ≡ Close)
-            closed-next = closed-here t pool s stack in′ next gone-next shut-next deep-next
+              -- no element stands in a leaf
+              shut-next : next .met ≡ Closed
+              shut-next = go (headIs solidus (drop (z + 1) s)) refl
+                where
+                  go : (c : Bool) → headIs solidus (drop (z + 1) s) ≡ c → next .met ≡ Closed
+                  go true c = by-close t pool s stack in′ next gone-next z z-is c
+                  go false c =
+                      let m = by-open t pool s stack in′ next gone-next z z-is c in
+                      let v = below d stack in′ at inside m in
+                      absurd (true≢false (sym (sd .well .parents (in′ .level .row) (next .here .level .row) v (enters d (w .st) full at g enter .stands .placed .low)) ∙ ap (λ (n : ℕ). isGroup (rowAt l n .kind)) in-row ∙ sym is-group ∙ j))
 
-            end-next : next .here .at ≡ behind greater (z + 1) (drop (z + 1) s)
-            end-next = closed-next .1 ∙ close-end s (in′ .at) z z-is (closed-next .2)
+              deep-next : in′ .depth ≢ 0
+              deep-next h = absurd (omega (arith, h, ap (λ (y : Here). y .depth) in-is))
 
-            pub leaf-less : length s - behind greater (z + 1) (drop (z + 1) s) < length s - here .at
-            leaf-less =
-                let v = leaves d stack in′ at inside shut-next deep-next in
-                omega (arith, on, v .on, v .stands .within, end-next, w .behind)
+              closed-next : (next .less ≡ after .less) × (next .here .at ≡ after .end) × (after .kind ≡ Close)
+              closed-next = closed-here t pool s stack in′ next gone-next shut-next deep-next
 
-            row-next : next .here .level .row ≡ here .row
-            row-next =
-                let c = around d stack in′ at inside shut-next deep-next .0 in
-                sym (c .parent) ∙ ap (λ (n : ℕ). rowAt l n .parent) in-row ∙ its .parent
+              end-next : next .here .at ≡ behind greater (z + 1) (drop (z + 1) s)
+              end-next = closed-next .1 ∙ close-end s (in′ .at) z z-is (closed-next .2)
 
-            pub spot-past : (n : ℕ) (d′ : List ℕ) → Shuts k t pool r (slice (tag .first .value) (tag .first .quote) s) (slice (tag .end) z s) d at n d′
-                → Writing d′ (spotAt (here .row) r (behind greater (z + 1) (drop (z + 1) s))) n
-            spot-past n d′ p = record {
-              st = stackIn t pool s stack in′;
-              full = next .here;
-              going = leaves-to d stack in′ at inside shut-next deep-next n d′ as-full;
-              row = row-next;
-              behind = end-next;
-              group = w .group;
-              last = inr its;
-            }
-              where
-                first-is′ : (in′ .value ≡ tag .first .value) × (in′ .quote ≡ tag .first .quote)
-                first-is′ = (ap (λ (h : Here). h .value) in-is ∙ ap (λ (y : Token). y .first .value) (sym tag-is), ap (λ (h : Here). h .quote) in-is ∙ ap (λ (y : Token). y .first .quote) (sym tag-is))
+              pub leaf-less : length s - behind greater (z + 1) (drop (z + 1) s) < length s - here .at
+              leaf-less =
+                  let v = leaves d stack in′ at inside shut-next deep-next in
+                  omega (arith, on, v .on, v .stands .within, end-next, w .behind)
 
-                text-is : slice (in′ .at) (next .less) s ≡ slice (tag .end) z s
-                text-is = ap (λ (m : ℕ). slice m (next .less) s) in-at ∙ ap (λ (m : ℕ). slice (tag .end) m s) (closed-next .0 ∙ sym z-is)
+              row-next : next .here .level .row ≡ here .row
+              row-next =
+                  let c = around d stack in′ at inside shut-next deep-next .0 in
+                  sym (c .parent) ∙ ap (λ (n : ℕ). rowAt l n .parent) in-row ∙ its .parent
 
-                coin-is : slice (in′ .value) (in′ .quote) s ≡ slice (tag .first .value) (tag .first .quote) s
-                coin-is = ap (λ (m : ℕ). slice m (in′ .quote) s) (first-is′ .0) ∙ ap (λ (m : ℕ). slice (tag .first .value) m s) (first-is′ .1)
+              pub spot-past : (n : ℕ) (d′ : List ℕ) → Shuts k t pool r (slice (tag .first .value) (tag .first .quote) s) (slice (tag .end) z s) d at n d′
+                  → Writing d′ (spotAt (here .row) r (behind greater (z + 1) (drop (z + 1) s))) n
+              spot-past n d′ p = record {
+                st = stackIn t pool s stack in′;
+                full = next .here;
+                going = leaves-to d stack in′ at inside shut-next deep-next n d′ as-full;
+                row = row-next;
+                behind = end-next;
+                group = w .group;
+                last = inr its;
+              }
+                where
+                  first-is′ : (in′ .value ≡ tag .first .value) × (in′ .quote ≡ tag .first .quote)
+                  first-is′ = (ap (λ (h : Here). h .value) in-is ∙ ap (λ (y : Token). y .first .value) (sym tag-is), ap (λ (h : Here). h .quote) in-is ∙ ap (λ (y : Token). y .first .quote) (sym tag-is))
 
-                as-full : Shuts k t pool (in′ .level .row) (slice (in′ .value) (in′ .quote) s) (slice (in′ .at) (next .less) s) d at n d′
-                as-full =
-                    subst (λ (m : ℕ). Shuts k t pool m (slice (in′ .value) (in′ .quote) s) (slice (in′ .at) (next .less) s) d at n d′) (sym in-row)
-                    (subst (λ (u : List ℕ). Shuts k t pool r u (slice (in′ .at) (next .less) s) d at n d′) (sym coin-is)
-                    (subst (λ (u : List ℕ). Shuts k t pool r (slice (tag .first .value) (tag .first .quote) s) u d at n d′) (sym text-is) p))
+                  text-is : slice (in′ .at) (next .less) s ≡ slice (tag .end) z s
+                  text-is = ap (λ (m : ℕ). slice m (next .less) s) in-at ∙ ap (λ (m : ℕ). slice (tag .end) m s) (closed-next .0 ∙ sym z-is)
+
+                  coin-is : slice (in′ .value) (in′ .quote) s ≡ slice (tag .first .value) (tag .first .quote) s
+                  coin-is = ap (λ (m : ℕ). slice m (in′ .quote) s) (first-is′ .0) ∙ ap (λ (m : ℕ). slice (tag .first .value) m s) (first-is′ .1)
+
+                  as-full : Shuts k t pool (in′ .level .row) (slice (in′ .value) (in′ .quote) s) (slice (in′ .at) (next .less) s) d at n d′
+                  as-full =
+                      subst (λ (m : ℕ). Shuts k t pool m (slice (in′ .value) (in′ .quote) s) (slice (in′ .at) (next .less) s) d at n d′) (sym in-row)
+                      (subst (λ (u : List ℕ). Shuts k t pool r u (slice (in′ .at) (next .less) s) d at n d′) (sym coin-is)
+                      (subst (λ (u : List ℕ). Shuts k t pool r (slice (tag .first .value) (tag .first .quote) s) u d at n d′) (sym text-is) p))

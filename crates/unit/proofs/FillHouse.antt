@@ -12,7 +12,7 @@ use Rattle.text.specs.Lists.{span}
 use Rattle.text.specs.Pasting.{pasted}
 use Rattle.characters.specs.Pieces.{less, greater, solidus}
 use Rattle.list.specs.Table.{cell, listOf}
-use Rattle.list.specs.Lookup.{childAlong}
+use Rattle.list.specs.Listing.{child}
 use Rattle.list.specs.Sound.{Sound}
 use Rattle.xml.specs.House.{HouseXml}
 use Rattle.tags.specs.declared.token.Token.{Token}
@@ -28,10 +28,10 @@ use Rattle.demands.specs.Instance.{houseKinds}
 use Rattle.demands.proofs.House.{spelling}
 use Rattle.unit.specs.declared.fill.Spot.{Spot}
 use Rattle.unit.specs.Measured.{verdict, Faultless}
-use Rattle.unit.specs.Pass.{Puts, Shuts, Ready, spotAt, FilledIn}
+use Rattle.unit.specs.Pass.{Puts, Shuts, Ready, spotAt, Comes, FilledIn}
 use Rattle.unit.proofs.PassCoin.{coins}
 use Rattle.unit.proofs.PassEnd.{filled-of}
-use Rattle.unit.proofs.FillGoing.{Writing, first-spot, tag-in, place-low, same-room, spot-ends, out-less, spot-out, row-low, in-less, spot-in, close-in, leaf-less, spot-past}
+use Rattle.unit.proofs.FillGoing.{Writing, first-spot, tag-in, place-low, same-room, spot-ends, out-less, spot-out, comes, row-low, in-less, spot-in, close-in, leaf-less, spot-past}
 
 module _ (t pool s : List ℕ) where
   -- where the pass stands, whatever says that the tables are sound and the text is house XML
@@ -81,55 +81,61 @@ module _ (t pool s : List ℕ) where
                 (spot-out houseKinds t pool s sd x d₁ a₁ coins (pre .1 x) d here at (w sd x) o e (sym is ∙ y) r)
 
         -- an opening tag
-        module _ (y : c ≡ false) (tag : Tag) (f : tag ≡ tagOf (openAt o (drop o s))) (r : ℕ) (q : r ≡ childAlong t pool (here .row) (here .last) (slice (o + 1) (tag .stop) s)) where
+        module _ (y : c ≡ false) (tag : Tag) (f : tag ≡ tagOf (openAt o (drop o s))) where
           abbrev token : Token
           token = openAt o (drop o s)
-
-          row-is : r ≡ childAlong t pool (here .row) (here .last) (slice (o + 1) (token .stop) s)
-          row-is = q ∙ ap (λ (u : Tag). childAlong t pool (here .row) (here .last) (slice (o + 1) (u .stop) s)) f
 
           end-is : tag .end ≡ token .end
           end-is = ap (λ (u : Tag). u .end) f
 
-          pub fill-row : r ≤ 255
-          fill-row = row-low houseKinds t pool s sd x d₁ a₁ coins (pre .1 x) d here at (w sd x) o e (sym is ∙ y) token refl r row-is
+          pub fill-comes : Comes t pool (here .row) (here .last) (slice (o + 1) (tag .stop) s)
+          fill-comes =
+              subst (λ (u : Tag). Comes t pool (here .row) (here .last) (slice (o + 1) (u .stop) s)) (sym f)
+              (comes houseKinds t pool s sd x d₁ a₁ coins (pre .1 x) d here at (w sd x) o e (sym is ∙ y) token refl)
 
-          module _ (v : ℕ) (k : v ≡ cell t r 2) (g : Bool) (i : g ≡ isGroupIn v) where
-            kind-is : isGroupIn (cell t r 2) ≡ g
-            kind-is = ap isGroupIn (sym k) ∙ sym i
+          module _ (r : ℕ) (q : r ≡ child (listOf t pool) (here .row) (slice (o + 1) (tag .stop) s)) where
+            row-is : r ≡ child (listOf t pool) (here .row) (slice (o + 1) (token .stop) s)
+            row-is = q ∙ ap (λ (u : Tag). child (listOf t pool) (here .row) (slice (o + 1) (u .stop) s)) f
 
-            -- of a group
-            module _ (j : g ≡ true) (here′ : Spot) (h : here′ ≡ spotAt r 0 (tag .end)) where
-              pub fill-in-less : length s - here′ .at < length s - here .at
-              fill-in-less =
-                  let n = in-less houseKinds t pool s sd x d₁ a₁ coins (pre .1 x) d here at (w sd x) o e (sym is ∙ y) token refl r row-is (kind-is ∙ j) in
-                  omega (arith, n, end-is, ap (λ (u : Spot). u .at) h)
+            pub fill-row : r ≤ 255
+            fill-row = row-low houseKinds t pool s sd x d₁ a₁ coins (pre .1 x) d here at (w sd x) o e (sym is ∙ y) token refl r row-is
 
-              pub fill-in : (n : ℕ) → n ≡ r → (d′ : List ℕ) → d′ ≡ pasted d at (n ∷ []) → WritingOn d₁ a₁ d′ here′ (at + 1)
-              fill-in n m d′ p sd x =
-                  subst (λ (u : Spot). Writing houseKinds t pool s sd x d₁ a₁ d′ u (at + 1)) (sym (h ∙ ap (λ (n : ℕ). spotAt r 0 n) end-is))
-                  (spot-in houseKinds t pool s sd x d₁ a₁ coins (pre .1 x) d here at (w sd x) o e (sym is ∙ y) token refl r row-is (kind-is ∙ j) n m d′ p)
+            module _ (v : ℕ) (k : v ≡ cell t r 2) (g : Bool) (i : g ≡ isGroupIn v) where
+              kind-is : isGroupIn (cell t r 2) ≡ g
+              kind-is = ap isGroupIn (sym k) ∙ sym i
 
-            -- of a leaf
-            module _ (j : g ≡ false) where
-              pub fill-ready : (r ≤ 255) × (at ≤ 1000000000000) × (isGroupIn (cell t r 2) ≡ false)
-              fill-ready = (fill-row, fill-low, kind-is ∙ j)
+              -- of a group
+              module _ (j : g ≡ true) (here′ : Spot) (h : here′ ≡ spotAt r 0 (tag .end)) where
+                pub fill-in-less : length s - here′ .at < length s - here .at
+                fill-in-less =
+                    let n = in-less houseKinds t pool s sd x d₁ a₁ coins (pre .1 x) d here at (w sd x) o e (sym is ∙ y) token refl r row-is (kind-is ∙ j) in
+                    omega (arith, n, end-is, ap (λ (u : Spot). u .at) h)
 
-              module _ (z : ℕ) (l : z ≡ tag .end + span (but less) (drop (tag .end) s)) where
-                text-is : z ≡ token .end + span (but less) (drop (token .end) s)
-                text-is = l ∙ ap (λ (u : Tag). u .end + span (but less) (drop (u .end) s)) f
+                pub fill-in : (n : ℕ) → n ≡ r → (d′ : List ℕ) → d′ ≡ pasted d at (n ∷ []) → WritingOn d₁ a₁ d′ here′ (at + 1)
+                fill-in n m d′ p sd x =
+                    subst (λ (u : Spot). Writing houseKinds t pool s sd x d₁ a₁ d′ u (at + 1)) (sym (h ∙ ap (λ (n : ℕ). spotAt r 0 n) end-is))
+                    (spot-in houseKinds t pool s sd x d₁ a₁ coins (pre .1 x) d here at (w sd x) o e (sym is ∙ y) token refl r row-is (kind-is ∙ j) n m d′ p)
 
-                pub fill-close : z < length s
-                fill-close = close-in houseKinds t pool s sd x d₁ a₁ coins (pre .1 x) d here at (w sd x) o e (sym is ∙ y) token refl r row-is (kind-is ∙ j) z text-is
+              -- of a leaf
+              module _ (j : g ≡ false) where
+                pub fill-ready : (r ≤ 255) × (at ≤ 1000000000000) × (isGroupIn (cell t r 2) ≡ false)
+                fill-ready = (fill-row, fill-low, kind-is ∙ j)
 
-                module _ (n : ℕ) (m : n ≡ behind greater (z + 1) (drop (z + 1) s)) (here′ : Spot) (h : here′ ≡ spotAt (here .row) r n) where
-                  pub fill-past-less : length s - here′ .at < length s - here .at
-                  fill-past-less =
-                      let u = leaf-less houseKinds t pool s sd x d₁ a₁ coins (pre .1 x) d here at (w sd x) o e (sym is ∙ y) token refl r row-is (kind-is ∙ j) z text-is in
-                      omega (arith, u, m, ap (λ (u : Spot). u .at) h)
+                module _ (z : ℕ) (l : z ≡ tag .end + span (but less) (drop (tag .end) s)) where
+                  text-is : z ≡ token .end + span (but less) (drop (token .end) s)
+                  text-is = l ∙ ap (λ (u : Tag). u .end + span (but less) (drop (u .end) s)) f
 
-                  pub fill-past : (a′ : ℕ) (d′ : List ℕ) → Shuts houseKinds t pool r (slice (tag .value) (tag .quote) s) (slice (tag .end) z s) d at a′ d′ → WritingOn d₁ a₁ d′ here′ a′
-                  fill-past a′ d′ p sd x =
-                      subst (λ (u : Spot). Writing houseKinds t pool s sd x d₁ a₁ d′ u a′) (sym (h ∙ ap (λ (i : ℕ). spotAt (here .row) r i) m))
-                      (spot-past houseKinds t pool s sd x d₁ a₁ coins (pre .1 x) d here at (w sd x) o e (sym is ∙ y) token refl r row-is (kind-is ∙ j) z text-is a′ d′
-                      (subst (λ (u : Tag). Shuts houseKinds t pool r (slice (u .value) (u .quote) s) (slice (u .end) z s) d at a′ d′) f p))
+                  pub fill-close : z < length s
+                  fill-close = close-in houseKinds t pool s sd x d₁ a₁ coins (pre .1 x) d here at (w sd x) o e (sym is ∙ y) token refl r row-is (kind-is ∙ j) z text-is
+
+                  module _ (n : ℕ) (m : n ≡ behind greater (z + 1) (drop (z + 1) s)) (here′ : Spot) (h : here′ ≡ spotAt (here .row) r n) where
+                    pub fill-past-less : length s - here′ .at < length s - here .at
+                    fill-past-less =
+                        let u = leaf-less houseKinds t pool s sd x d₁ a₁ coins (pre .1 x) d here at (w sd x) o e (sym is ∙ y) token refl r row-is (kind-is ∙ j) z text-is in
+                        omega (arith, u, m, ap (λ (u : Spot). u .at) h)
+
+                    pub fill-past : (a′ : ℕ) (d′ : List ℕ) → Shuts houseKinds t pool r (slice (tag .value) (tag .quote) s) (slice (tag .end) z s) d at a′ d′ → WritingOn d₁ a₁ d′ here′ a′
+                    fill-past a′ d′ p sd x =
+                        subst (λ (u : Spot). Writing houseKinds t pool s sd x d₁ a₁ d′ u a′) (sym (h ∙ ap (λ (i : ℕ). spotAt (here .row) r i) m))
+                        (spot-past houseKinds t pool s sd x d₁ a₁ coins (pre .1 x) d here at (w sd x) o e (sym is ∙ y) token refl r row-is (kind-is ∙ j) z text-is a′ d′
+                        (subst (λ (u : Tag). Shuts houseKinds t pool r (slice (u .value) (u .quote) s) (slice (u .end) z s) d at a′ d′) f p))

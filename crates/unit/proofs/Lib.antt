@@ -25,3 +25,5 @@ pub mod PassHouse
 pub mod FillGoing
 -- the same with document 01's types
 pub mod FillHouse
+-- the search for a child that there is
+pub mod FillRow

@@ -1,17 +1,19 @@
 -- One pass over a message: the first violation, or the image's length and its bytes in a lent buffer. Assumes nothing.
 use mathlib.Core.Path.{_≡_}
-use mathlib.Core.Bool.{true, false}
+use mathlib.Core.Bool.{true, false, cond}
+use mathlib.Core.Logic.{_⊎_}
 use mathlib.Core.List.{List, [], _∷_}
 use mathlib.Core.Option.{Option, none, some}
 use Prim.Native.Nat.{ℕ, suc, _+_, _≤_, _<_}
+use lib.Dec.{eqb}
 use lib.ListN.{length}
 use Rattle.answer.specs.Table.{limit}
 use Rattle.text.specs.Pasting.{pasted}
 use Rattle.characters.specs.Pieces.{Spells}
-use Rattle.list.specs.Listing.{Leaf, amt, Kind, leaf, Listing, isGroup}
+use Rattle.list.specs.Listing.{Leaf, amt, Kind, leaf, Listing, size, Child, child, isGroup}
 use Rattle.list.specs.WellFormed.{LeafOk}
 use Rattle.list.specs.Content.{Content}
-use Rattle.list.specs.Table.{cell, placeIn, kindOf, wordsIn}
+use Rattle.list.specs.Table.{cell, placeIn, kindOf, wordsIn, listOf}
 use Rattle.list.specs.Sound.{Sound}
 use Rattle.xml.specs.House.{HouseXml}
 use Rattle.xml.specs.Message.{Parts, messageOf}
@@ -91,6 +93,17 @@ module _ (k : Kinds) where
 -- where the pass stands that writes
 abbrev pub spotAt : ℕ → ℕ → ℕ → Spot
 spotAt r q o = record { row = r; last = q; at = o }
+
+-- a child of a row, and behind the last one (0) the first again
+abbrev pub roundIn : List ℕ → ℕ → ℕ → ℕ
+roundIn t row r = cond (eqb r 0) (cell t row 9) r
+
+-- the group of this row has a child called n; its last child, 0 at first, is one of its own
+pub record Comes (t pool : List ℕ) (row last : ℕ) (n : List ℕ) : Type 0 where
+  pub sound : Sound t pool
+  pub within : row ≤ size (listOf t pool)
+  pub from : (last ≡ 0) ⊎ Child (listOf t pool) row last
+  pub its : Child (listOf t pool) row (child (listOf t pool) row n)
 
 -- what a pass asks: a well-formed list, and a file that codes 1 and 3 do not refuse
 pub record Ready (t pool s : List ℕ) : Type 0 where

@@ -1,11 +1,14 @@
 // The image of a message that is known to have no violation. Nothing is tested again: a name says its row, and the table which row is around.
 
 use list::lookup::cell;
-use list::lookup::child;
+use list::table::CHILD;
 use list::table::ENUM;
 use list::table::KIND;
 use list::table::MOST;
+use list::table::NAME;
+use list::table::NAME_END;
 use list::table::PARENT;
+use list::table::SIBLING;
 use list::word::word_place;
 use tags::skim::Tag;
 use tags::skim::close_end;
@@ -13,6 +16,7 @@ use tags::skim::is_close;
 use tags::skim::tag_at;
 use tags::skim::text_end;
 use text::number::copy;
+use text::part::same_part;
 use text::span::blanks_end;
 use walk::begin::begin;
 use walk::tag::is_group;
@@ -24,11 +28,13 @@ ghost use mathlib.Core.List.{[], _∷_, _++_};
 ghost use Prim.Native.Nat.{_≤_};
 ghost use lib.Seq.{slice};
 ghost use Rattle.image.specs.Image.{header};
-ghost use Rattle.list.specs.Table.{cell, wordsIn, listOf};
+ghost use Rattle.text.specs.Lists.{same};
+ghost use Rattle.list.specs.Listing.{child};
+ghost use Rattle.list.specs.Table.{cell, nameIn, wordsIn, listOf};
 ghost use Rattle.walk.specs.Tables.{isGroupIn};
 ghost use Rattle.demands.specs.Instance.{houseKinds};
 ghost use Rattle.unit.specs.Measured.{Faultless};
-ghost use Rattle.unit.specs.Pass.{Puts, Worded, Valued, spotAt, Shuts, Ready, FilledIn};
+ghost use Rattle.unit.specs.Pass.{Puts, Worded, Valued, spotAt, roundIn, Comes, Shuts, Ready, FilledIn};
 
 // `KTO`, version 1 in 16 bits, and the root's row byte.
 const HEAD: [u8; 6] = [75, 84, 79, 0, 1, 1];
@@ -104,6 +110,35 @@ fn stand(row: usize, last: usize, at: usize) -> Spot
     Spot { row, last, at }
 }
 
+// Whether s from a to b is row r's name.
+fn is_row(rows: &[u16], pool: &[u8], r: usize, s: &[u8], a: usize, b: usize) -> bool
+    ensures { λ x. ⌜ x ≡ same (nameIn (now (rows .entry)) (now (pool .entry)) r) (slice a b (now (s .entry))) ⌝ }
+{
+    same_part(pool, cell(rows, r, NAME), cell(rows, r, NAME_END), s, a, b)
+}
+
+// A child of the group, and behind the last one (0) the first again.
+fn around(rows: &[u16], row: usize, r: usize) -> usize
+    ensures { λ x. ⌜ x ≡ roundIn (now (rows .entry)) row r ⌝ }
+{
+    if r == 0 {
+        return cell(rows, row, CHILD);
+    }
+    r
+}
+
+// The child of a group that is called s from a to b. There is one, so that the search, which begins at the last child, ends at it.
+fn row_of(rows: &[u16], pool: &[u8], row: usize, last: usize, s: &[u8], a: usize, b: usize) -> usize
+    requires { ⌜ Comes (now rows) (now pool) row last (slice a b (now s)) ⌝ }
+    ensures { λ r. ⌜ r ≡ child (listOf (now (rows .entry)) (now (pool .entry))) row (slice a b (now (s .entry))) ⌝ }
+{
+    let mut r = around(rows, row, last);
+    while !is_row(rows, pool, r, s, a, b) {
+        r = around(rows, row, cell(rows, r, SIBLING));
+    }
+    r
+}
+
 // The item of a leaf of this row, whose text goes from its tag's end up to less. The place behind it, 0 where the text spells no value.
 fn put_leaf(
     rows: &[u16],
@@ -150,7 +185,7 @@ pub(crate) fn fill(rows: &[u16; 928], pool: &[u8; 311], s: &[u8], out: &mut [u8]
             here = stand(cell(rows, row, PARENT), row, close_end(s, name));
         } else {
             let tag = tag_at(s, less);
-            let r = child(rows, pool, row, here.last, s, name, tag.stop);
+            let r = row_of(rows, pool, row, here.last, s, name, tag.stop);
             if is_group(cell(rows, r, KIND)) {
                 place(out, at, r as u8);
                 at += 1;

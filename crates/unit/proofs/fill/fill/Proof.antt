@@ -3,7 +3,7 @@ use Rattle.unit.proofs.fill.fill.Tie as tie
 use Rattle.unit.proofs.fill.fill.Reads as reads
 use Rattle.unit.proofs.fill.fill.Lts as lts
 use Rattle.list.proofs.lookup.cell.Reads as cell-reads
-use Rattle.list.proofs.lookup.child.Reads as child-reads
+use Rattle.unit.proofs.fill.row_of.Reads as row-of-reads
 use Rattle.tags.proofs.skim.tag_at.Reads as tag-at-reads
 use Rattle.text.proofs.span.blanks_end.Reads as blanks-end-reads
 use Rattle.unit.proofs.fill.put_leaf.Reads as put-leaf-reads
@@ -21,7 +21,7 @@ use mathlib.Core.Path.{refl, _∙_}
 use lib.ListN.{length}
 use Prim.Native.Nat.{_-_}
 use Rattle.written.proofs.Putting.{kept}
-use Rattle.unit.proofs.FillHouse.{WritingOn, fill-first, name-in, fill-low, fill-room, fill-ends, fill-out-less, fill-out, fill-row, fill-in-less, fill-in, fill-ready, fill-close, fill-past-less, fill-past}
+use Rattle.unit.proofs.FillHouse.{WritingOn, fill-first, name-in, fill-low, fill-room, fill-ends, fill-out-less, fill-out, fill-comes, fill-row, fill-in-less, fill-in, fill-ready, fill-close, fill-past-less, fill-past}
 
 -- answers
 
@@ -112,9 +112,9 @@ tag-at-requires c κs =
     search needs
 
 -- src/fill.rt:87:17
-child-requires : tie.Need-child-requires Inv-loop μ-loop
-child-requires c κs =
-    search needs
+row-of-requires : tie.Need-row-of-requires Inv-loop μ-loop
+row-of-requires c κs =
+    fill-comes _ _ _ (c .before .before .before .before .before .before .before .before .before .before .before .before .before .before .before .before .before .pre) _ _ _ _ _ (c .before .before .before .before .before .before .loop .inv) _ (c .before .before .before .before .before .blanks-end .ensures) _ (c .before .before .before .before .is-close .ensures) (c .before .before .before .if1 .left) _ (c .before .before .tag-at .ensures)
 
 -- src/fill.rt:88:25
 cell-requires-2 : tie.Need-cell-requires-2 Inv-loop μ-loop
@@ -129,7 +129,7 @@ is-group-requires c κs =
 -- src/fill.rt:89:32
 cast-place : tie.Need-cast-place Inv-loop μ-loop
 cast-place c =
-    omega (arith, fill-row _ _ _ (c .before .before .before .before .before .before .before .before .before .before .before .before .before .before .before .before .before .before .before .before .before .before .before .pre) _ _ _ _ _ (c .before .before .before .before .before .before .before .before .before .before .before .before .loop .inv) _ (c .before .before .before .before .before .before .before .before .before .before .before .blanks-end .ensures) _ (c .before .before .before .before .before .before .before .before .before .before .is-close .ensures) (c .before .before .before .before .before .before .before .before .before .if1 .left) _ (c .before .before .before .before .before .before .before .before .tag-at .ensures) _ (c .before .before .before .before .before .child .ensures))
+    omega (arith, fill-row _ _ _ (c .before .before .before .before .before .before .before .before .before .before .before .before .before .before .before .before .before .before .before .before .before .before .before .pre) _ _ _ _ _ (c .before .before .before .before .before .before .before .before .before .before .before .before .loop .inv) _ (c .before .before .before .before .before .before .before .before .before .before .before .blanks-end .ensures) _ (c .before .before .before .before .before .before .before .before .before .before .is-close .ensures) (c .before .before .before .before .before .before .before .before .before .if1 .left) _ (c .before .before .before .before .before .before .before .before .tag-at .ensures) _ (c .before .before .before .before .before .row-of .ensures))
 
 -- src/fill.rt:89:17
 place-requires-2 : tie.Need-place-requires-2 Inv-loop μ-loop
@@ -149,12 +149,12 @@ stand-requires-3 c κs =
 -- src/fill.rt:75:5
 loop-less-2 : tie.Need-loop-less-2 Inv-loop μ-loop
 loop-less-2 c =
-    fill-in-less _ _ _ (c .before .before .before .before .before .before .before .before .before .before .before .before .before .before .before .before .before .before .before .before .before .before .before .before .before .before .before .pre) _ _ _ _ _ (c .before .before .before .before .before .before .before .before .before .before .before .before .before .before .before .before .loop .inv) _ (c .before .before .before .before .before .before .before .before .before .before .before .before .before .before .before .blanks-end .ensures) _ (c .before .before .before .before .before .before .before .before .before .before .before .before .before .before .is-close .ensures) (c .before .before .before .before .before .before .before .before .before .before .before .before .before .if1 .left) _ (c .before .before .before .before .before .before .before .before .before .before .before .before .tag-at .ensures) _ (c .before .before .before .before .before .before .before .before .before .child .ensures) _ (c .before .before .before .before .before .before .before .cell2 .ensures) _ (c .before .before .before .before .before .before .is-group .ensures) (c .before .before .before .before .before .if3 .taken) _ (c .stand3 .ensures)
+    fill-in-less _ _ _ (c .before .before .before .before .before .before .before .before .before .before .before .before .before .before .before .before .before .before .before .before .before .before .before .before .before .before .before .pre) _ _ _ _ _ (c .before .before .before .before .before .before .before .before .before .before .before .before .before .before .before .before .loop .inv) _ (c .before .before .before .before .before .before .before .before .before .before .before .before .before .before .before .blanks-end .ensures) _ (c .before .before .before .before .before .before .before .before .before .before .before .before .before .before .is-close .ensures) (c .before .before .before .before .before .before .before .before .before .before .before .before .before .if1 .left) _ (c .before .before .before .before .before .before .before .before .before .before .before .before .tag-at .ensures) _ (c .before .before .before .before .before .before .before .before .before .row-of .ensures) _ (c .before .before .before .before .before .before .before .cell2 .ensures) _ (c .before .before .before .before .before .before .is-group .ensures) (c .before .before .before .before .before .if3 .taken) _ (c .stand3 .ensures)
 
 -- src/fill.rt:75:5
 loop-again-2 : tie.Need-loop-again-2 Inv-loop μ-loop
 loop-again-2 c =
-    fill-in _ _ _ (c .before .before .before .before .before .before .before .before .before .before .before .before .before .before .before .before .before .before .before .before .before .before .before .before .before .before .before .pre) _ _ _ _ _ (c .before .before .before .before .before .before .before .before .before .before .before .before .before .before .before .before .loop .inv) _ (c .before .before .before .before .before .before .before .before .before .before .before .before .before .before .before .blanks-end .ensures) _ (c .before .before .before .before .before .before .before .before .before .before .before .before .before .before .is-close .ensures) (c .before .before .before .before .before .before .before .before .before .before .before .before .before .if1 .left) _ (c .before .before .before .before .before .before .before .before .before .before .before .before .tag-at .ensures) _ (c .before .before .before .before .before .before .before .before .before .child .ensures) _ (c .before .before .before .before .before .before .before .cell2 .ensures) _ (c .before .before .before .before .before .before .is-group .ensures) (c .before .before .before .before .before .if3 .taken) _ (c .stand3 .ensures) _ refl _ (c .before .before .before .place2 .ensures)
+    fill-in _ _ _ (c .before .before .before .before .before .before .before .before .before .before .before .before .before .before .before .before .before .before .before .before .before .before .before .before .before .before .before .pre) _ _ _ _ _ (c .before .before .before .before .before .before .before .before .before .before .before .before .before .before .before .before .loop .inv) _ (c .before .before .before .before .before .before .before .before .before .before .before .before .before .before .before .blanks-end .ensures) _ (c .before .before .before .before .before .before .before .before .before .before .before .before .before .before .is-close .ensures) (c .before .before .before .before .before .before .before .before .before .before .before .before .before .if1 .left) _ (c .before .before .before .before .before .before .before .before .before .before .before .before .tag-at .ensures) _ (c .before .before .before .before .before .before .before .before .before .row-of .ensures) _ (c .before .before .before .before .before .before .before .cell2 .ensures) _ (c .before .before .before .before .before .before .is-group .ensures) (c .before .before .before .before .before .if3 .taken) _ (c .stand3 .ensures) _ refl _ (c .before .before .before .place2 .ensures)
 
 -- src/fill.rt:93:21
 text-end-requires : tie.Need-text-end-requires Inv-loop μ-loop
@@ -164,12 +164,12 @@ text-end-requires c κs =
 -- src/fill.rt:94:17
 put-leaf-requires : tie.Need-put-leaf-requires Inv-loop μ-loop
 put-leaf-requires c κs =
-    fill-ready _ _ _ (c .before .before .before .before .before .before .before .before .before .before .before .before .before .before .before .before .before .before .before .before .before .before .before .before .before .before .pre) _ _ _ _ _ (c .before .before .before .before .before .before .before .before .before .before .before .before .before .before .before .loop .inv) _ (c .before .before .before .before .before .before .before .before .before .before .before .before .before .before .blanks-end .ensures) _ (c .before .before .before .before .before .before .before .before .before .before .before .before .before .is-close .ensures) (c .before .before .before .before .before .before .before .before .before .before .before .before .if1 .left) _ (c .before .before .before .before .before .before .before .before .before .before .before .tag-at .ensures) _ (c .before .before .before .before .before .before .before .before .child .ensures) _ (c .before .before .before .before .before .before .cell2 .ensures) _ (c .before .before .before .before .before .is-group .ensures) (c .before .before .before .before .if3 .left)
+    fill-ready _ _ _ (c .before .before .before .before .before .before .before .before .before .before .before .before .before .before .before .before .before .before .before .before .before .before .before .before .before .before .pre) _ _ _ _ _ (c .before .before .before .before .before .before .before .before .before .before .before .before .before .before .before .loop .inv) _ (c .before .before .before .before .before .before .before .before .before .before .before .before .before .before .blanks-end .ensures) _ (c .before .before .before .before .before .before .before .before .before .before .before .before .before .is-close .ensures) (c .before .before .before .before .before .before .before .before .before .before .before .before .if1 .left) _ (c .before .before .before .before .before .before .before .before .before .before .before .tag-at .ensures) _ (c .before .before .before .before .before .before .before .before .row-of .ensures) _ (c .before .before .before .before .before .before .cell2 .ensures) _ (c .before .before .before .before .before .is-group .ensures) (c .before .before .before .before .if3 .left)
 
 -- src/fill.rt:95:51
 add-close-end : tie.Need-add-close-end Inv-loop μ-loop
 add-close-end c =
-    omega (arith, fill-close _ _ _ (c .before .before .before .before .before .before .before .before .before .before .before .before .before .before .before .before .before .before .before .before .before .before .before .before .before .before .before .before .before .pre) _ _ _ _ _ (c .before .before .before .before .before .before .before .before .before .before .before .before .before .before .before .before .before .before .loop .inv) _ (c .before .before .before .before .before .before .before .before .before .before .before .before .before .before .before .before .before .blanks-end .ensures) _ (c .before .before .before .before .before .before .before .before .before .before .before .before .before .before .before .before .is-close .ensures) (c .before .before .before .before .before .before .before .before .before .before .before .before .before .before .before .if1 .left) _ (c .before .before .before .before .before .before .before .before .before .before .before .before .before .before .tag-at .ensures) _ (c .before .before .before .before .before .before .before .before .before .before .before .child .ensures) _ (c .before .before .before .before .before .before .before .before .before .cell2 .ensures) _ (c .before .before .before .before .before .before .before .before .is-group .ensures) (c .before .before .before .before .before .before .before .if3 .left) _ (c .before .before .before .before .before .before .text-end .ensures), c .before .before .before .before .before .before .before .before .before .before .before .before .before .before .before .before .before .before .before .before .before .before .before .before .before .before .before .before .before .pre .0 .small)
+    omega (arith, fill-close _ _ _ (c .before .before .before .before .before .before .before .before .before .before .before .before .before .before .before .before .before .before .before .before .before .before .before .before .before .before .before .before .before .pre) _ _ _ _ _ (c .before .before .before .before .before .before .before .before .before .before .before .before .before .before .before .before .before .before .loop .inv) _ (c .before .before .before .before .before .before .before .before .before .before .before .before .before .before .before .before .before .blanks-end .ensures) _ (c .before .before .before .before .before .before .before .before .before .before .before .before .before .before .before .before .is-close .ensures) (c .before .before .before .before .before .before .before .before .before .before .before .before .before .before .before .if1 .left) _ (c .before .before .before .before .before .before .before .before .before .before .before .before .before .before .tag-at .ensures) _ (c .before .before .before .before .before .before .before .before .before .before .before .row-of .ensures) _ (c .before .before .before .before .before .before .before .before .before .cell2 .ensures) _ (c .before .before .before .before .before .before .before .before .is-group .ensures) (c .before .before .before .before .before .before .before .if3 .left) _ (c .before .before .before .before .before .before .text-end .ensures), c .before .before .before .before .before .before .before .before .before .before .before .before .before .before .before .before .before .before .before .before .before .before .before .before .before .before .before .before .before .pre .0 .small)
 
 -- src/fill.rt:95:38
 close-end-requires-2 : tie.Need-close-end-requires-2 Inv-loop μ-loop
@@ -184,12 +184,12 @@ stand-requires-4 c κs =
 -- src/fill.rt:75:5
 loop-less-3 : tie.Need-loop-less-3 Inv-loop μ-loop
 loop-less-3 c =
-    fill-past-less _ _ _ (c .before .before .before .before .before .before .before .before .before .before .before .before .before .before .before .before .before .before .before .before .before .before .before .before .before .before .before .before .before .before .before .pre) _ _ _ _ _ (c .before .before .before .before .before .before .before .before .before .before .before .before .before .before .before .before .before .before .before .before .loop .inv) _ (c .before .before .before .before .before .before .before .before .before .before .before .before .before .before .before .before .before .before .before .blanks-end .ensures) _ (c .before .before .before .before .before .before .before .before .before .before .before .before .before .before .before .before .before .before .is-close .ensures) (c .before .before .before .before .before .before .before .before .before .before .before .before .before .before .before .before .before .if1 .left) _ (c .before .before .before .before .before .before .before .before .before .before .before .before .before .before .before .before .tag-at .ensures) _ (c .before .before .before .before .before .before .before .before .before .before .before .before .before .child .ensures) _ (c .before .before .before .before .before .before .before .before .before .before .before .cell2 .ensures) _ (c .before .before .before .before .before .before .before .before .before .before .is-group .ensures) (c .before .before .before .before .before .before .before .before .before .if3 .left) _ (c .before .before .before .before .before .before .before .before .text-end .ensures) _ (c .before .close-end2 .ensures) _ (c .stand4 .ensures)
+    fill-past-less _ _ _ (c .before .before .before .before .before .before .before .before .before .before .before .before .before .before .before .before .before .before .before .before .before .before .before .before .before .before .before .before .before .before .before .pre) _ _ _ _ _ (c .before .before .before .before .before .before .before .before .before .before .before .before .before .before .before .before .before .before .before .before .loop .inv) _ (c .before .before .before .before .before .before .before .before .before .before .before .before .before .before .before .before .before .before .before .blanks-end .ensures) _ (c .before .before .before .before .before .before .before .before .before .before .before .before .before .before .before .before .before .before .is-close .ensures) (c .before .before .before .before .before .before .before .before .before .before .before .before .before .before .before .before .before .if1 .left) _ (c .before .before .before .before .before .before .before .before .before .before .before .before .before .before .before .before .tag-at .ensures) _ (c .before .before .before .before .before .before .before .before .before .before .before .before .before .row-of .ensures) _ (c .before .before .before .before .before .before .before .before .before .before .before .cell2 .ensures) _ (c .before .before .before .before .before .before .before .before .before .before .is-group .ensures) (c .before .before .before .before .before .before .before .before .before .if3 .left) _ (c .before .before .before .before .before .before .before .before .text-end .ensures) _ (c .before .close-end2 .ensures) _ (c .stand4 .ensures)
 
 -- src/fill.rt:75:5
 loop-again-3 : tie.Need-loop-again-3 Inv-loop μ-loop
 loop-again-3 c =
-    fill-past _ _ _ (c .before .before .before .before .before .before .before .before .before .before .before .before .before .before .before .before .before .before .before .before .before .before .before .before .before .before .before .before .before .before .before .pre) _ _ _ _ _ (c .before .before .before .before .before .before .before .before .before .before .before .before .before .before .before .before .before .before .before .before .loop .inv) _ (c .before .before .before .before .before .before .before .before .before .before .before .before .before .before .before .before .before .before .before .blanks-end .ensures) _ (c .before .before .before .before .before .before .before .before .before .before .before .before .before .before .before .before .before .before .is-close .ensures) (c .before .before .before .before .before .before .before .before .before .before .before .before .before .before .before .before .before .if1 .left) _ (c .before .before .before .before .before .before .before .before .before .before .before .before .before .before .before .before .tag-at .ensures) _ (c .before .before .before .before .before .before .before .before .before .before .before .before .before .child .ensures) _ (c .before .before .before .before .before .before .before .before .before .before .before .cell2 .ensures) _ (c .before .before .before .before .before .before .before .before .before .before .is-group .ensures) (c .before .before .before .before .before .before .before .before .before .if3 .left) _ (c .before .before .before .before .before .before .before .before .text-end .ensures) _ (c .before .close-end2 .ensures) _ (c .stand4 .ensures) _ _ (c .before .before .before .before .put-leaf .ensures)
+    fill-past _ _ _ (c .before .before .before .before .before .before .before .before .before .before .before .before .before .before .before .before .before .before .before .before .before .before .before .before .before .before .before .before .before .before .before .pre) _ _ _ _ _ (c .before .before .before .before .before .before .before .before .before .before .before .before .before .before .before .before .before .before .before .before .loop .inv) _ (c .before .before .before .before .before .before .before .before .before .before .before .before .before .before .before .before .before .before .before .blanks-end .ensures) _ (c .before .before .before .before .before .before .before .before .before .before .before .before .before .before .before .before .before .before .is-close .ensures) (c .before .before .before .before .before .before .before .before .before .before .before .before .before .before .before .before .before .if1 .left) _ (c .before .before .before .before .before .before .before .before .before .before .before .before .before .before .before .before .tag-at .ensures) _ (c .before .before .before .before .before .before .before .before .before .before .before .before .before .row-of .ensures) _ (c .before .before .before .before .before .before .before .before .before .before .before .cell2 .ensures) _ (c .before .before .before .before .before .before .before .before .before .before .is-group .ensures) (c .before .before .before .before .before .before .before .before .before .if3 .left) _ (c .before .before .before .before .before .before .before .before .text-end .ensures) _ (c .before .close-end2 .ensures) _ (c .stand4 .ensures) _ _ (c .before .before .before .before .put-leaf .ensures)
 
 pub fill-spec : {M : Type 1} → statement M
 fill-spec =
@@ -213,7 +213,7 @@ fill-spec =
     loop-less
     loop-again
     tag-at-requires
-    child-requires
+    row-of-requires
     cell-requires-2
     is-group-requires
     cast-place
