@@ -31,21 +31,18 @@ module _ (a : Answer) where
   unfolding numbers
   length-numbers = simp length-append (omega arith)
 
-  pub written : (d : List ℕ) (m n : ℕ) → m ≡ length c → n ≡ m + 1 + length r → n + 1 + length p ≤ length d →
-      pasted (pasted (pasted (pasted (pasted d 0 c) m (32 ∷ [])) (m + 1) r) n (32 ∷ [])) (n + 1) p ≡ pasted d 0 (numbers a)
+  pub written : (d : List ℕ) (m n : ℕ) → m ≡ length c → n ≡ m + (1 + length r) → n + (1 + length p) ≤ length d →
+      pasted (pasted (pasted d 0 c) m (32 ∷ r)) n (32 ∷ p) ≡ pasted d 0 (numbers a)
   unfolding numbers
   written d m n e f h =
-      let cr = c ++ (32 ∷ []) in
-      let crr = cr ++ r in
-      let crrs = crr ++ (32 ∷ []) in
-      let lc : m + 1 ≡ length cr = omega (arith, length-append c (32 ∷ [])) in
-      let lr : n ≡ length crr = omega (arith, length-append cr r) in
-      let ls : n + 1 ≡ length crrs = omega (arith, length-append crr (32 ∷ [])) in
-      ap (λ (l : List ℕ). pasted (pasted (pasted l (m + 1) r) n (32 ∷ [])) (n + 1) p) (list-behind d c m e (32 ∷ []) (omega arith))
-      ∙ ap (λ (l : List ℕ). pasted (pasted l n (32 ∷ [])) (n + 1) p) (list-behind d cr (m + 1) lc r (omega arith))
-      ∙ ap (λ (l : List ℕ). pasted l (n + 1) p) (list-behind d crr n lr (32 ∷ []) (omega arith))
-      ∙ list-behind d crrs (n + 1) ls p h
-      ∙ ap (pasted d 0) (simp append-assoc)
+      let l : n ≡ length (c ++ (32 ∷ r)) = omega (arith, length-append c (32 ∷ r)) in
+      ap (λ (k : List ℕ). pasted k n (32 ∷ p)) (list-behind d c m e (32 ∷ r) (omega arith))
+      ∙ list-behind d (c ++ (32 ∷ r)) n l (32 ∷ p) (omega arith)
+      ∙ ap (pasted d 0) (append-assoc c (32 ∷ r) (32 ∷ p))
+
+-- a blank, and the bytes behind it
+pub blank-then : (d v : List ℕ) (n : ℕ) → n + (1 + length v) ≤ length d → pasted (pasted d n (32 ∷ [])) (n + 1) v ≡ pasted d n (32 ∷ v)
+blank-then d v n h = pasted-then d n (32 ∷ []) v (omega arith)
 
 -- what was written from the start on, taken out again
 pub taken-out : (d vs : List ℕ) (n : ℕ) → n ≡ length vs → n ≤ length d → slice 0 n (pasted d 0 vs) ≡ vs

@@ -3,21 +3,29 @@ use crate::decimal::put;
 use answer::Answer;
 use text::number::copy;
 ghost use mathlib.Core.Path.{_≡_};
-ghost use Prim.Native.Nat.{_≤_};
+ghost use mathlib.Core.List.{_∷_};
+ghost use Prim.Native.Nat.{_+_, _≤_};
 ghost use lib.ListN.{length, take};
 ghost use Rattle.text.specs.Pasting.{pasted};
-ghost use Rattle.line.specs.Line.{numbers, refusal};
+ghost use Rattle.line.specs.Line.{decimal, numbers, refusal};
 
-// The three numbers, of at most twenty digits each, with a blank between each two, from the start of the buffer on; how many bytes they are.
+// A blank at a place, and a number of at most twenty digits behind it; how many bytes they are.
+fn spread_next(buf: &mut [u8], at: usize, n: u64) -> usize
+    requires { ⌜ at + 21 ≤ length (now buf) ⌝ }
+    ensures { λ r. ⌜ (r ≡ 1 + length (decimal n)) × ((r ≤ 21) × (now (buf .exit) ≡ pasted (now (buf .entry)) at (32 ∷ decimal n))) ⌝ }
+{
+    copy(b" ", 0, 1, buf, at);
+    1 + put(buf, at + 1, n)
+}
+
+// The three numbers, with a blank between each two, from the start of the buffer on; how many bytes they are.
 fn spread_numbers(buf: &mut [u8], a: Answer) -> usize
     requires { ⌜ 62 ≤ length (now buf) ⌝ }
     ensures { λ r. ⌜ (r ≡ length (numbers a)) × ((r ≤ 62) × (now (buf .exit) ≡ pasted (now (buf .entry)) 0 (numbers a))) ⌝ }
 {
     let code = put(buf, 0, a.code as u64);
-    copy(b" ", 0, 1, buf, code);
-    let row = code + 1 + put(buf, code + 1, a.row as u64);
-    copy(b" ", 0, 1, buf, row);
-    row + 1 + put(buf, row + 1, a.place as u64)
+    let row = code + spread_next(buf, code, a.row as u64);
+    row + spread_next(buf, row, a.place as u64)
 }
 
 // Writes `CODE ROW PLACE` at a place, or nothing where it does not fit, and answers how many bytes it is.

@@ -5,6 +5,7 @@ use mathlib.Core.Logic.{_≢_, ⊎-elim, inl, inr}
 use mathlib.Core.List.{List, [], _∷_}
 use Prim.Native.Nat.{ℕ, zero, suc, _+_, _≤_, _<_}
 use native.Mathlib.Omega.{arith}
+use native.Mathlib.Decide.{decLt}
 use types.Run.{OneOf}
 use lib.Dec.{leb, ltb, eqb}
 use lib.ListN.{length, getD}
@@ -12,7 +13,7 @@ use borrow.Author.Tests.{lt-ltb, le-ltb, le-leb, lt-leb, eq-eqb, ne-eqb}
 use Rattle.text.specs.Bytes.{inRange, isBlank}
 use Rattle.xml.proofs.Basics.{by-blank}
 use Rattle.xml.specs.Auto.{Part, one, two, three, e0, ed, ef, efbf, f0, f4, ampersand, ampersandA, rest, Read, bad, all, more, toWord, lead, go-on, At, St, dead, at, next}
-use Rattle.scan.specs.Goes.{mayEnd, fate, Goes, Literal, Spelled, Ranged, Continues, GoesOne, GoesTwo, GoesThree, hosted, Hosts, GoesPart, GoesPiece}
+use Rattle.scan.specs.Goes.{mayEnd, fate, Goes, Literal, Spelled, Ranged, Continues, leastBehind, greatestBehind, GoesOne, GoesTwo, GoesThree, hosted, Hosts, GoesPart, GoesPiece}
 use Rattle.scan.specs.declared.Went.{Went}
 use Rattle.scan.specs.declared.Went.the-variants.{On, Stopped}
 use Rattle.scan.proofs.Fate.{fate-end, fate-dead, fate-byte}
@@ -200,6 +201,46 @@ lead-less = refl
 pub lead-ampersand : lead 38 ≡ more ampersand
 unfolding lead
 lead-ampersand = refl
+
+-- ---- a piece of three bytes, or of four
+
+-- what may follow its first byte x; u: what is to come then
+pub record Follows (x : ℕ) (u : Read) : Type 0 where
+  pub part : Part
+  pub leads : lead x ≡ more part
+  pub goes : (y : ℕ) → go-on part y ≡ cond (inRange (leastBehind x) (greatestBehind x) y) u bad
+
+-- one first byte, whose answers compute
+here : (x y : ℕ) (u : Read) → y ≡ x → Follows y u → Follows x u
+here x y u e w = subst (λ (z : ℕ). Follows z u) e w
+
+-- a first byte behind which any byte from 128 to 191 may follow
+usual : (x : ℕ) (p : Part) (u : Read) → x ≢ 224 → x ≢ 240 → x ≢ 237 → x ≢ 244 → lead x ≡ more p → ((y : ℕ) → go-on p y ≡ cond (inRange 128 191 y) u bad) → Follows x u
+usual x p u a b d e l g = record { part = p; leads = l; goes = λ y. rw (ne-eqb x 224 a, ne-eqb x 240 b, ne-eqb x 237 d, ne-eqb x 244 e) (g y) }
+
+pub of-three : (x : ℕ) → 224 ≤ x → x < 240 → x ≢ 239 → Follows x (more one)
+of-three x h k n = go (decLt x 225) (decLt x 237) (decLt x 238)
+  where
+    go : Dec (x < 225) → Dec (x < 237) → Dec (x < 238) → Follows x (more one)
+    go (yes a) b d = here x 224 (more one) (omega arith) (record { part = e0; leads = lead-e0 224 (omega arith) (omega arith); goes = λ y. refl })
+    go (no a) (yes b) d = usual x two (more one) (omega arith) (omega arith) (omega arith) (omega arith) (lead-two x (omega arith) b) (λ y. refl)
+    go (no a) (no b) (yes d) = here x 237 (more one) (omega arith) (record { part = ed; leads = lead-ed 237 (omega arith) (omega arith); goes = λ y. refl })
+    go (no a) (no b) (no d) = here x 238 (more one) (omega arith) (record { part = two; leads = lead-ee 238 (omega arith) (omega arith); goes = λ y. refl })
+
+pub of-four : (x : ℕ) → 240 ≤ x → x < 245 → Follows x (more two)
+of-four x h k = go (decLt x 241) (decLt x 244)
+  where
+    go : Dec (x < 241) → Dec (x < 244) → Follows x (more two)
+    go (yes a) b = here x 240 (more two) (omega arith) (record { part = f0; leads = lead-f0 240 (omega arith) (omega arith); goes = λ y. refl })
+    go (no a) (yes b) = usual x three (more two) (omega arith) (omega arith) (omega arith) (omega arith) (lead-three x (omega arith) b) (λ y. refl)
+    go (no a) (no b) = here x 244 (more two) (omega arith) (record { part = f4; leads = lead-f4 244 (omega arith) (omega arith); goes = λ y. refl })
+
+module _ (s : List ℕ) (i : ℕ) (h : i < length s) (low high : ℕ) (a : low ≡ leastBehind (getD s i 0)) (b : high ≡ greatestBehind (getD s i 0)) (r : Went) where
+  pub piece-two : Follows (getD s i 0) (more one) → GoesTwo s (i + 1) low high r → GoesPiece s i r
+  piece-two w g = piece-part s i h (w .part) r (w .leads) (as-two s (i + 1) (w .part) low high r (λ l. rw (a, b) (w .goes (getD s (i + 1) 0))) g)
+
+  pub piece-three : Follows (getD s i 0) (more two) → GoesThree s (i + 1) low high r → GoesPiece s i r
+  piece-three w g = piece-part s i h (w .part) r (w .leads) (as-three s (i + 1) (w .part) low high r (λ l. rw (a, b) (w .goes (getD s (i + 1) 0))) g)
 
 -- ---- an entity by its first byte
 

@@ -79,6 +79,13 @@ GoesTwo s i low high r = (a b c : At) → Ranged s i low high a b → Continues 
 abbrev pub GoesThree : List ℕ → ℕ → ℕ → ℕ → Went → Type 0
 GoesThree s i low high r = (a b c d : At) → Ranged s i low high a b → Continues s b c → Continues s c d → Goes s i a d r
 
+-- the bytes that may follow the first of three or four: Unicode, table 3-7
+abbrev pub leastBehind : ℕ → ℕ
+leastBehind x = cond (eqb x 224) 160 (cond (eqb x 240) 144 128)
+
+abbrev pub greatestBehind : ℕ → ℕ
+greatestBehind x = cond (eqb x 237) 159 (cond (eqb x 244) 143 191)
+
 -- f p is the state within a piece, b the state behind it
 abbrev pub hosted : Read → (Part → At) → At → St
 hosted bad f b = dead

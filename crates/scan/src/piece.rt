@@ -2,9 +2,10 @@
 use crate::Went;
 use crate::word::word;
 use text::class::is_blank;
+ghost use mathlib.Core.Path.{_≡_};
 ghost use Prim.Native.Nat.{_≤_, _<_};
 ghost use lib.ListN.{length, getD};
-ghost use Rattle.scan.specs.Goes.{GoesOne, GoesTwo, GoesThree, GoesPart, GoesPiece};
+ghost use Rattle.scan.specs.Goes.{leastBehind, greatestBehind, GoesOne, GoesTwo, GoesThree, GoesPart, GoesPiece};
 ghost use Rattle.xml.specs.Auto.{ampersand, ampersandA, ef};
 
 // Over one byte from low to high.
@@ -58,6 +59,28 @@ fn behind_ef(s: &[u8], at: usize) -> Went
     two(s, at, 128, 190)
 }
 
+// The least byte that may follow a first byte of three or four.
+fn least(x: u8) -> u8
+    ensures { λ r. ⌜ r ≡ leastBehind x ⌝ }
+{
+    match x {
+        224 => 160,
+        240 => 144,
+        _ => 128,
+    }
+}
+
+// The greatest byte that may follow it.
+fn greatest(x: u8) -> u8
+    ensures { λ r. ⌜ r ≡ greatestBehind x ⌝ }
+{
+    match x {
+        237 => 159,
+        244 => 143,
+        _ => 191,
+    }
+}
+
 // A character that begins with a byte x of 128 or more.
 fn long(s: &[u8], at: usize) -> Went
     requires { ⌜ (at < length (now s)) × (127 < getD (now s) at 0) ⌝ }
@@ -71,29 +94,16 @@ fn long(s: &[u8], at: usize) -> Went
     if x < 224 {
         return one(s, i, 128, 191);
     }
-    if x < 225 {
-        return two(s, i, 160, 191);
-    }
-    if x < 237 {
-        return two(s, i, 128, 191);
-    }
-    if x < 238 {
-        return two(s, i, 128, 159);
-    }
-    if x < 239 {
-        return two(s, i, 128, 191);
-    }
-    if x < 240 {
+    if x == 239 {
         return behind_ef(s, i);
     }
-    if x < 241 {
-        return three(s, i, 144, 191);
-    }
-    if x < 244 {
-        return three(s, i, 128, 191);
+    let low = least(x);
+    let high = greatest(x);
+    if x < 240 {
+        return two(s, i, low, high);
     }
     if x < 245 {
-        return three(s, i, 128, 143);
+        return three(s, i, low, high);
     }
     Went::Stopped(at)
 }
