@@ -60,7 +60,7 @@ pub fn is_space(rows: &[u16], pool: &[u8], s: &[u8], a: usize, b: usize) -> bool
 }
 
 // Whether s from a to b is row r's name.
-fn is_name(rows: &[u16], pool: &[u8], r: usize, s: &[u8], a: usize, b: usize) -> bool
+pub fn is_name(rows: &[u16], pool: &[u8], r: usize, s: &[u8], a: usize, b: usize) -> bool
     ensures { λ x. ⌜ x ≡ same (nameIn (now (rows .entry)) (now (pool .entry)) r) (slice a b (now (s .entry))) ⌝ }
 {
     same_part(pool, cell(rows, r, NAME), cell(rows, r, NAME_END), s, a, b)

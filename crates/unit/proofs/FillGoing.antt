@@ -138,9 +138,6 @@ module _ (k : Kinds) (t pool s : List ℕ) (sd : Sound t pool) (x : HouseXml s) 
         unfolding advance
         below m = enters m .stands .nested .0
 
-        some-bytes : at ≢ 0
-        some-bytes e = absurd (omega (arith, e, g .least, g .put .behind))
-
         no-bad : (d′ : List ℕ) → Passes k l (messageOf (x .tree)) [] (verdict 12 row (full .level .place)) d′ → ⊥
         no-bad d′ (violates c q z f h) = true≢false (ap isFine (sym none ∙ f))
         no-bad d′ (holds f c h v p) = let z : _≡_ {A = ℕ} 12 0 = ap (λ (u : Verdict). u .code) v in omega arith

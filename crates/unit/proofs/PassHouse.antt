@@ -23,7 +23,7 @@ use Rattle.unit.specs.Measured.{verdict, Measured}
 use Rattle.unit.specs.Pass.{Puts, Opens, Shuts, Ready, Passes, Passed, FilledIn}
 use Rattle.demands.proofs.House.{spelling}
 use Rattle.unit.proofs.PassCoin.{coins}
-use Rattle.unit.proofs.PassEnd.{says-of, filled-of}
+use Rattle.unit.proofs.PassEnd.{says-of}
 use Rattle.unit.proofs.PassGoing.{Going, begun, begin-refused, begin-closed, begin-opened, goes-first, at-most, here-row, step-refused, step-enters, step-leaves, step-ends, enters-row, goes-in, goes-out, bad-value, ends-in}
 
 module _ (t pool s : List ℕ) where
@@ -54,27 +54,14 @@ module _ (t pool s : List ℕ) where
       abbrev gone : Going houseKinds t pool s (pre .sound) (pre .xml) d₁ a₁ d st here at
       gone = g (pre .sound) (pre .xml)
 
-      pub length-kept : length d ≡ length d₁
-      length-kept = gone .put .long
-
-      pub leaf-ready : (here .level .row ≤ 255) × (at ≤ 1000000000000)
-      leaf-ready = (here-row houseKinds t pool s (pre .sound) (pre .xml) d₁ a₁ d st here at gone, at-most houseKinds t pool s (pre .sound) (pre .xml) d₁ a₁ d st here at gone (pre .small))
-
       pub at-low : at ≤ 1000000000000
-      at-low = leaf-ready .1
+      at-low = at-most houseKinds t pool s (pre .sound) (pre .xml) d₁ a₁ d st here at gone (pre .small)
 
       module _ (turn : Turn) (e : turn ≡ stepIn t pool s st here) (st′ : List ℕ) (f : st′ ≡ stackIn t pool s st here) where
         pub loop-refused : (d₀ : List ℕ) → turn .met ≡ Refused → Says d₀ (turn .verdict) d
         loop-refused d₀ m x = step-refused houseKinds t pool s (pre .sound) x d₁ a₁ d st here at (g (pre .sound) x) coins turn st′ e f d₀ m
 
         module _ (m : turn .met ≡ Opened) where
-          pub group-ready : (turn .here .level .row ≤ 255) × (at ≤ 1000000000000)
-          group-ready = (
-            enters-row houseKinds t pool s (pre .sound) (pre .xml) d₁ a₁ d st here at gone st′ turn
-                (step-enters houseKinds t pool s (pre .sound) (pre .xml) d₁ a₁ d st here at gone coins turn st′ e f m),
-            at-low,
-          )
-
           pub group-less : length s - turn .here .at < length s - here .at
           group-less =
               let w = step-enters houseKinds t pool s (pre .sound) (pre .xml) d₁ a₁ d st here at gone coins turn st′ e f m in
@@ -111,11 +98,8 @@ module _ (t pool s : List ℕ) where
                   (bad-value houseKinds t pool s (pre .sound) x d₁ a₁ d st here at (g (pre .sound) x) st′ turn
                   (step-leaves houseKinds t pool s (pre .sound) x d₁ a₁ d st here at (g (pre .sound) x) coins turn st′ e f m z) r d′ o d₀ n)
 
--- ---- the two entries
+-- ---- the entry
 
 module _ (t pool s d : List ℕ) (v : Verdict) (d′ : List ℕ) (p : Passed houseKinds (listOf t pool) s d v d′) where
   pub measures : Measured houseKinds (listOf t pool) s v
   measures x = says-of houseKinds (listOf t pool) (messageOf (x .tree)) d v d′ (p x)
-
-  pub fills : Ready t pool s → FilledIn houseKinds (listOf t pool) s d d′
-  fills pre c m h = filled-of houseKinds (listOf t pool) spelling (pre .sound .well) s c m d v d′ (p (m .xml)) h

@@ -1,12 +1,11 @@
 // The image of a message that is known to have no violation. Nothing is tested again: a name says its row, and the table which row is around.
 
 use list::lookup::cell;
+use list::lookup::is_name;
 use list::table::CHILD;
 use list::table::ENUM;
 use list::table::KIND;
 use list::table::MOST;
-use list::table::NAME;
-use list::table::NAME_END;
 use list::table::PARENT;
 use list::table::SIBLING;
 use list::word::word_place;
@@ -16,7 +15,6 @@ use tags::skim::is_close;
 use tags::skim::tag_at;
 use tags::skim::text_end;
 use text::number::copy;
-use text::part::same_part;
 use text::span::blanks_end;
 use walk::begin::begin;
 use walk::tag::is_group;
@@ -28,9 +26,8 @@ ghost use mathlib.Core.List.{[], _∷_, _++_};
 ghost use Prim.Native.Nat.{_≤_};
 ghost use lib.Seq.{slice};
 ghost use Rattle.image.specs.Image.{header};
-ghost use Rattle.text.specs.Lists.{same};
 ghost use Rattle.list.specs.Listing.{child};
-ghost use Rattle.list.specs.Table.{cell, nameIn, wordsIn, listOf};
+ghost use Rattle.list.specs.Table.{cell, wordsIn, listOf};
 ghost use Rattle.walk.specs.Tables.{isGroupIn};
 ghost use Rattle.demands.specs.Instance.{houseKinds};
 ghost use Rattle.unit.specs.Measured.{Faultless};
@@ -110,13 +107,6 @@ fn stand(row: usize, last: usize, at: usize) -> Spot
     Spot { row, last, at }
 }
 
-// Whether s from a to b is row r's name.
-fn is_row(rows: &[u16], pool: &[u8], r: usize, s: &[u8], a: usize, b: usize) -> bool
-    ensures { λ x. ⌜ x ≡ same (nameIn (now (rows .entry)) (now (pool .entry)) r) (slice a b (now (s .entry))) ⌝ }
-{
-    same_part(pool, cell(rows, r, NAME), cell(rows, r, NAME_END), s, a, b)
-}
-
 // A child of the group, and behind the last one (0) the first again.
 fn around(rows: &[u16], row: usize, r: usize) -> usize
     ensures { λ x. ⌜ x ≡ roundIn (now (rows .entry)) row r ⌝ }
@@ -133,7 +123,7 @@ fn row_of(rows: &[u16], pool: &[u8], row: usize, last: usize, s: &[u8], a: usize
     ensures { λ r. ⌜ r ≡ child (listOf (now (rows .entry)) (now (pool .entry))) row (slice a b (now (s .entry))) ⌝ }
 {
     let mut r = around(rows, row, last);
-    while !is_row(rows, pool, r, s, a, b) {
+    while !is_name(rows, pool, r, s, a, b) {
         r = around(rows, row, cell(rows, r, SIBLING));
     }
     r

@@ -1,11 +1,7 @@
+-- `document` meets its contract. Assumes nothing.
 use borrow.Author.Needs.{needs}
 use Rattle.scan.proofs.document.Statement.{statement}
 use Rattle.scan.proofs.document.Tie as tie
-use Rattle.scan.proofs.document.Reads as reads
-use Rattle.scan.proofs.document.Lts as lts
-use Rattle.scan.proofs.elements.elements.Reads as elements-reads
-use Rattle.scan.proofs.prolog.prolog.Reads as prolog-reads
-use Rattle.text.proofs.span.blanks_end.Reads as blanks-end-reads
 use Rattle.scan.proofs.Answers.{prolog-stops, prolog-within, elements-stop, more-stops, all-whole}
 
 prolog-requires : tie.Need-prolog-requires

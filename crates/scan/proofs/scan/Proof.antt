@@ -1,9 +1,7 @@
+-- `scan` meets its contract. Assumes nothing.
 use borrow.Author.Needs.{needs}
 use Rattle.scan.proofs.scan.Statement.{statement}
 use Rattle.scan.proofs.scan.Tie as tie
-use Rattle.scan.proofs.scan.Reads as reads
-use Rattle.scan.proofs.scan.Lts as lts
-use Rattle.scan.proofs.document.Reads as document-reads
 use mathlib.Core.Path.{refl}
 use Rattle.text.specs.Bytes.{isBlank, isNamePart}
 use Rattle.scan.specs.Classes.{isPlain, classOf}

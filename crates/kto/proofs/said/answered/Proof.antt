@@ -8,11 +8,6 @@ use Rattle.kto.specs.Answered.{over, within}
 use Rattle.kto.proofs.Saying.{read-again}
 use Rattle.kto.proofs.said.answered.Statement.{statement}
 use Rattle.kto.proofs.said.answered.Tie as tie
-use Rattle.kto.proofs.said.answered.Reads as reads
-use Rattle.kto.proofs.said.answered.Lts as lts
-use Rattle.kto.proofs.said.longer.Reads as longer-reads
-use Rattle.unit.proofs.check.check.Reads as check-reads
-use Rattle.unit.proofs.read.read.Reads as read-reads
 
 longer-requires : tie.Need-longer-requires
 longer-requires c κs = search needs

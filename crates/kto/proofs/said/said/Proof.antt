@@ -4,10 +4,6 @@ use borrow.Author.Needs.{needs}
 use Rattle.kto.proofs.Saying.{line-counts, says-refused, says-written, image-counts}
 use Rattle.kto.proofs.said.said.Statement.{statement}
 use Rattle.kto.proofs.said.said.Tie as tie
-use Rattle.kto.proofs.said.said.Reads as reads
-use Rattle.kto.proofs.said.said.Lts as lts
-use Rattle.kto.proofs.said.answered.Reads as answered-reads
-use Rattle.line.proofs.answer_line.put_refusal.Reads as put-refusal-reads
 
 answered-requires : tie.Need-answered-requires
 answered-requires c κs = search needs

@@ -1,10 +1,7 @@
+-- `answer_line::spread_next` meets its contract. Assumes nothing.
 use borrow.Author.Needs.{needs}
 use Rattle.line.proofs.answer_line.spread_next.Statement.{statement}
 use Rattle.line.proofs.answer_line.spread_next.Tie as tie
-use Rattle.line.proofs.answer_line.spread_next.Reads as reads
-use Rattle.line.proofs.answer_line.spread_next.Lts as lts
-use Rattle.line.proofs.decimal.put.Reads as put-reads
-use Rattle.text.proofs.number.copy.Reads as copy-reads
 use native.Mathlib.Omega.{arith}
 use Rattle.line.specs.Line.{decimal}
 use Rattle.line.proofs.Lines.{blank-then}

@@ -1,10 +1,7 @@
+-- `answer_line::spread_numbers` meets its contract. Assumes nothing.
 use borrow.Author.Needs.{needs}
 use Rattle.line.proofs.answer_line.spread_numbers.Statement.{statement}
 use Rattle.line.proofs.answer_line.spread_numbers.Tie as tie
-use Rattle.line.proofs.answer_line.spread_numbers.Reads as reads
-use Rattle.line.proofs.answer_line.spread_numbers.Lts as lts
-use Rattle.line.proofs.answer_line.spread_next.Reads as spread-next-reads
-use Rattle.line.proofs.decimal.put.Reads as put-reads
 use Prim.Native.Nat.{_+_}
 use native.Mathlib.Omega.{arith}
 use Rattle.line.proofs.Lines.{length-numbers, written}

@@ -1,50 +1,36 @@
+-- `answer_line::spread_refusal` meets its contract. Assumes nothing.
 use borrow.Author.Needs.{needs}
 use Rattle.line.proofs.answer_line.spread_refusal.Statement.{statement}
 use Rattle.line.proofs.answer_line.spread_refusal.Tie as tie
-use Rattle.line.proofs.answer_line.spread_refusal.Reads as reads
-use Rattle.line.proofs.answer_line.spread_refusal.Lts as lts
-use Rattle.line.proofs.answer_line.put_numbers.Reads as put-numbers-reads
-use Rattle.text.proofs.number.copy.Reads as copy-reads
 use mathlib.Core.Path.{_≡_}
 use Prim.Native.Nat.{_+_}
 use native.Mathlib.Omega.{arith}
 use Rattle.line.proofs.Lines.{length-refusal, refused}
 
--- answers
-
--- src/answer_line.rt:38:10
 slice-aggregate-copy : tie.Need-slice-aggregate-copy
 slice-aggregate-copy c = search needs
 
--- src/answer_line.rt:38:5
 copy-requires : tie.Need-copy-requires
 copy-requires c κs = search needs
 
--- src/answer_line.rt:39:19
 put-numbers-requires : tie.Need-put-numbers-requires
 put-numbers-requires c κs = search needs
 
--- src/answer_line.rt:39:15
 add-end : tie.Need-add-end
 add-end c = search needs
 
--- src/answer_line.rt:40:10
 slice-aggregate-copy-2 : tie.Need-slice-aggregate-copy-2
 slice-aggregate-copy-2 c = search needs
 
--- src/answer_line.rt:40:5
 copy-requires-2 : tie.Need-copy-requires-2
 copy-requires-2 c κs = search needs
 
--- src/answer_line.rt:41:5
 add-result : tie.Need-add-result
 add-result c = search needs
 
--- src/answer_line.rt:34:1
 same-length : tie.Need-same-length
 same-length c = search needs
 
--- src/answer_line.rt:34:1
 returns : tie.Need-returns
 returns c =
     let o = c .before .before .before .before .before .before .before .before .before .before .before .before .before .before .before in

@@ -24,7 +24,6 @@ spread-at t = and 1 spread-kinds.ps (is 1 spread-kinds.ps μ-spread t) spread.Pr
 abbrev spread-below : ℕ → In 1 spread-kinds.ps
 spread-below t = and 1 spread-kinds.ps (falls 1 spread-kinds.ps _<_ μ-spread t) spread.Pre
 
--- src/decimal.rt:34:19
 spread-digit-requires : (t : ℕ) → spread-lts.Need-digit-requires (
   digit-reads.Asked,
   digit-reads.Learnt,
@@ -33,7 +32,6 @@ spread-digit-requires : (t : ℕ) → spread-lts.Need-digit-requires (
 ) (spread-at t) spread.Post
 spread-digit-requires t c κs = c .if1 .taken
 
--- src/decimal.rt:34:9
 spread-slice-write-buf : (t : ℕ) → spread-lts.Need-slice-write-buf (
   digit-reads.Asked,
   digit-reads.Learnt,
@@ -43,7 +41,6 @@ spread-slice-write-buf : (t : ℕ) → spread-lts.Need-slice-write-buf (
 spread-slice-write-buf t c =
     omega (arith, c .before .before .before .pre .1, ap length (decimal-one (c .before .before .before .args .n) (c .before .if1 .taken)))
 
--- src/decimal.rt:35:16
 spread-add-result : (t : ℕ) → spread-lts.Need-add-result (
   digit-reads.Asked,
   digit-reads.Learnt,
@@ -53,7 +50,6 @@ spread-add-result : (t : ℕ) → spread-lts.Need-add-result (
 spread-add-result t c =
     omega (arith, c .before .before .before .pre .1, ap length (decimal-one (c .before .before .before .args .n) (c .before .if1 .taken)))
 
--- src/decimal.rt:35:9
 spread-same-length : (t : ℕ) → spread-lts.Need-same-length (
   digit-reads.Asked,
   digit-reads.Learnt,
@@ -62,7 +58,6 @@ spread-same-length : (t : ℕ) → spread-lts.Need-same-length (
 ) (spread-at t) spread.Post
 spread-same-length t c = simp length-set
 
--- src/decimal.rt:35:9
 spread-returns : (t : ℕ) → spread-lts.Need-returns (
   digit-reads.Asked,
   digit-reads.Learnt,
@@ -75,7 +70,6 @@ spread-returns t c =
     let d = ap length (decimal-one n (c .before .if1 .taken)) in
     (omega arith, rw (c .digit .ensures) (spread-one (o .args .buf .now) (o .args .at) n (c .before .if1 .taken) (o .pre .1)))
 
--- src/decimal.rt:37:9
 spread-spread-requires : (t : ℕ) → spread-lts.Need-spread-requires (
   digit-reads.Asked,
   digit-reads.Learnt,
@@ -87,7 +81,6 @@ spread-spread-requires t c κs =
     let l = length-more (o .args .n) (c .before .if1 .left) in
     (omega (arith, o .pre .0), omega (arith, o .pre .1))
 
--- src/decimal.rt:38:17
 spread-digit-requires-2 : (t : ℕ) → spread-lts.Need-digit-requires-2 (
   digit-reads.Asked,
   digit-reads.Learnt,
@@ -96,7 +89,6 @@ spread-digit-requires-2 : (t : ℕ) → spread-lts.Need-digit-requires-2 (
 ) (spread-at t) spread.Post
 spread-digit-requires-2 t c κs = omega arith
 
--- src/decimal.rt:38:5
 spread-slice-write-buf-2 : (t : ℕ) → spread-lts.Need-slice-write-buf-2 (
   digit-reads.Asked,
   digit-reads.Learnt,
@@ -108,7 +100,6 @@ spread-slice-write-buf-2 t c =
     let r = c .before .before .before .spread in
     omega (arith, o .pre .1, r .ensures .0, r .kept .0, length-more (o .args .n) (c .before .before .before .before .before .if1 .left))
 
--- src/decimal.rt:39:5
 spread-add-result-2 : (t : ℕ) → spread-lts.Need-add-result-2 (
   digit-reads.Asked,
   digit-reads.Learnt,
@@ -120,7 +111,6 @@ spread-add-result-2 t c =
     let r = c .before .before .before .spread in
     omega (arith, o .pre .1, r .ensures .0, r .kept .0, length-more (o .args .n) (c .before .before .before .before .before .if1 .left))
 
--- src/decimal.rt:29:1
 spread-same-length-2 : (t : ℕ) → spread-lts.Need-same-length-2 (
   digit-reads.Asked,
   digit-reads.Learnt,
@@ -129,7 +119,6 @@ spread-same-length-2 : (t : ℕ) → spread-lts.Need-same-length-2 (
 ) (spread-at t) spread.Post
 spread-same-length-2 t c = simp length-set (search needs)
 
--- src/decimal.rt:29:1
 spread-returns-2 : (t : ℕ) → spread-lts.Need-returns-2 (
   digit-reads.Asked,
   digit-reads.Learnt,

@@ -1,3 +1,4 @@
+-- `attribute::attribute` meets its contract. Assumes nothing.
 use borrow.Author.Needs.{needs}
 use Rattle.scan.proofs.attribute.attribute.Statement.{statement}
 use Rattle.scan.proofs.attribute.attribute.Tie as tie

@@ -1,10 +1,7 @@
+-- `attribute::equals` meets its contract. Assumes nothing.
 use borrow.Author.Needs.{needs}
 use Rattle.scan.proofs.attribute.equals.Statement.{statement}
 use Rattle.scan.proofs.attribute.equals.Tie as tie
-use Rattle.scan.proofs.attribute.equals.Reads as reads
-use Rattle.scan.proofs.attribute.equals.Lts as lts
-use Rattle.scan.proofs.attribute.value.Reads as value-reads
-use Rattle.text.proofs.span.blanks_end.Reads as blanks-end-reads
 use mathlib.Core.Path.{sym}
 use mathlib.Core.Logic.{inl, inr}
 use native.Mathlib.Omega.{arith}

@@ -1,3 +1,4 @@
+-- `attribute::seen` meets its contract. Assumes nothing.
 use Rattle.scan.proofs.attribute.seen.Statement.{statement}
 use Rattle.scan.proofs.attribute.seen.Tie as tie
 use native.Mathlib.Omega.{arith}

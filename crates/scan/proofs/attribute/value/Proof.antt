@@ -1,3 +1,4 @@
+-- `attribute::value` meets its contract. Assumes nothing.
 use Rattle.scan.proofs.attribute.value.Statement.{statement}
 use Rattle.scan.proofs.attribute.value.Tie as tie
 use Prim.Native.Nat.{_-_}

@@ -1,3 +1,4 @@
+-- `content::brackets` meets its contract. Assumes nothing.
 use borrow.Author.Needs.{needs}
 use Rattle.scan.proofs.content.brackets.Statement.{statement}
 use Rattle.scan.proofs.content.brackets.Tie as tie

@@ -1,3 +1,4 @@
+-- `content::brackets_end` meets its contract. Assumes nothing.
 use Rattle.scan.proofs.content.brackets_end.Statement.{statement}
 use Rattle.scan.proofs.content.brackets_end.Tie as tie
 use mathlib.Core.Path.{_≡_, refl}

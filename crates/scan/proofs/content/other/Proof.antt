@@ -1,3 +1,4 @@
+-- `content::other` meets its contract. Assumes nothing.
 use borrow.Author.Needs.{needs}
 use Rattle.scan.proofs.content.other.Statement.{statement}
 use Rattle.scan.proofs.content.other.Tie as tie

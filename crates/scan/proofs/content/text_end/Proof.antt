@@ -1,3 +1,4 @@
+-- `content::text_end` meets its contract. Assumes nothing.
 use Rattle.scan.proofs.content.text_end.Statement.{statement}
 use Rattle.scan.proofs.content.text_end.Tie as tie
 use Prim.Native.Nat.{_-_}

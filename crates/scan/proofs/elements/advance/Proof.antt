@@ -1,3 +1,4 @@
+-- `elements::advance` meets its contract. Assumes nothing.
 use borrow.Author.Needs.{needs}
 use Rattle.scan.proofs.elements.advance.Statement.{statement}
 use Rattle.scan.proofs.elements.advance.Tie as tie

@@ -1,3 +1,4 @@
+-- `elements::any_tag` meets its contract. Assumes nothing.
 use borrow.Author.Needs.{needs}
 use Rattle.scan.proofs.elements.any_tag.Statement.{statement}
 use Rattle.scan.proofs.elements.any_tag.Tie as tie

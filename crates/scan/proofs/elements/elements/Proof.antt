@@ -1,3 +1,4 @@
+-- `elements::elements` meets its contract. Assumes nothing.
 use Rattle.scan.proofs.elements.elements.Statement.{statement}
 use Rattle.scan.proofs.elements.elements.Tie as tie
 use mathlib.Core.Path.{refl}

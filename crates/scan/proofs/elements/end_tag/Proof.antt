@@ -1,3 +1,4 @@
+-- `elements::end_tag` meets its contract. Assumes nothing.
 use borrow.Author.Needs.{needs}
 use Rattle.scan.proofs.elements.end_tag.Statement.{statement}
 use Rattle.scan.proofs.elements.end_tag.Tie as tie

@@ -1,3 +1,4 @@
+-- `elements::start_tag` meets its contract. Assumes nothing.
 use borrow.Author.Needs.{needs}
 use Rattle.scan.proofs.elements.start_tag.Statement.{statement}
 use Rattle.scan.proofs.elements.start_tag.Tie as tie

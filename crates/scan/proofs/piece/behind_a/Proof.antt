@@ -1,9 +1,7 @@
+-- `piece::behind_a` meets its contract. Assumes nothing.
 use borrow.Author.Needs.{needs}
 use Rattle.scan.proofs.piece.behind_a.Statement.{statement}
 use Rattle.scan.proofs.piece.behind_a.Tie as tie
-use Rattle.scan.proofs.piece.behind_a.Reads as reads
-use Rattle.scan.proofs.piece.behind_a.Lts as lts
-use Rattle.scan.proofs.word.word.Reads as word-reads
 use mathlib.Core.Path.{refl, ap}
 use mathlib.Core.List.{[], _∷_}
 use borrow.Author.Tests.{ne-eqb}

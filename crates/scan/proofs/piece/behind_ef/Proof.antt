@@ -1,3 +1,4 @@
+-- `piece::behind_ef` meets its contract. Assumes nothing.
 use borrow.Author.Needs.{needs}
 use Rattle.scan.proofs.piece.behind_ef.Statement.{statement}
 use Rattle.scan.proofs.piece.behind_ef.Tie as tie

@@ -1,10 +1,7 @@
+-- `piece::entity` meets its contract. Assumes nothing.
 use borrow.Author.Needs.{needs}
 use Rattle.scan.proofs.piece.entity.Statement.{statement}
 use Rattle.scan.proofs.piece.entity.Tie as tie
-use Rattle.scan.proofs.piece.entity.Reads as reads
-use Rattle.scan.proofs.piece.entity.Lts as lts
-use Rattle.scan.proofs.piece.behind_a.Reads as behind-a-reads
-use Rattle.scan.proofs.word.word.Reads as word-reads
 use mathlib.Core.Path.{ap}
 use mathlib.Core.List.{[], _∷_}
 use Rattle.xml.specs.Auto.{ampersand, ampersandA, go-on}

@@ -1,3 +1,4 @@
+-- `piece::greatest` meets its contract. Assumes nothing.
 use borrow.Author.Tests.{ne-eqb}
 use Rattle.scan.proofs.piece.greatest.Statement.{statement}
 use Rattle.scan.proofs.piece.greatest.Tie as tie

@@ -1,3 +1,4 @@
+-- `piece::least` meets its contract. Assumes nothing.
 use borrow.Author.Tests.{ne-eqb}
 use Rattle.scan.proofs.piece.least.Statement.{statement}
 use Rattle.scan.proofs.piece.least.Tie as tie

@@ -1,3 +1,4 @@
+-- `piece::long` meets its contract. Assumes nothing.
 use borrow.Author.Needs.{needs}
 use Rattle.scan.proofs.piece.long.Statement.{statement}
 use Rattle.scan.proofs.piece.long.Tie as tie

@@ -1,3 +1,4 @@
+-- `piece::one` meets its contract. Assumes nothing.
 use borrow.Author.Needs.{needs}
 use Rattle.scan.proofs.piece.one.Statement.{statement}
 use Rattle.scan.proofs.piece.one.Tie as tie

@@ -1,3 +1,4 @@
+-- `piece::piece` meets its contract. Assumes nothing.
 use borrow.Author.Needs.{needs}
 use Rattle.scan.proofs.piece.piece.Statement.{statement}
 use Rattle.scan.proofs.piece.piece.Tie as tie

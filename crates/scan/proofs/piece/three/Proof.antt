@@ -1,3 +1,4 @@
+-- `piece::three` meets its contract. Assumes nothing.
 use borrow.Author.Needs.{needs}
 use Rattle.scan.proofs.piece.three.Statement.{statement}
 use Rattle.scan.proofs.piece.three.Tie as tie

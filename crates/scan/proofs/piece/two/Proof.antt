@@ -1,3 +1,4 @@
+-- `piece::two` meets its contract. Assumes nothing.
 use borrow.Author.Needs.{needs}
 use Rattle.scan.proofs.piece.two.Statement.{statement}
 use Rattle.scan.proofs.piece.two.Tie as tie

@@ -1,3 +1,4 @@
+-- `prolog::prolog` meets its contract. Assumes nothing.
 use borrow.Author.Needs.{needs}
 use Rattle.scan.proofs.prolog.prolog.Statement.{statement}
 use Rattle.scan.proofs.prolog.prolog.Tie as tie

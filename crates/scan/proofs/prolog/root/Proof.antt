@@ -1,3 +1,4 @@
+-- `prolog::root` meets its contract. Assumes nothing.
 use borrow.Author.Needs.{needs}
 use Rattle.scan.proofs.prolog.root.Statement.{statement}
 use Rattle.scan.proofs.prolog.root.Tie as tie

@@ -1,3 +1,4 @@
+-- `run::run_end` meets its contract. Assumes nothing.
 use Rattle.scan.proofs.run.run_end.Statement.{statement}
 use Rattle.scan.proofs.run.run_end.Tie as tie
 use mathlib.Core.Path.{_≡_, refl}

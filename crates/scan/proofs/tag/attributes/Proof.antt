@@ -1,3 +1,4 @@
+-- `tag::attributes` meets its contract. Assumes nothing.
 use Rattle.scan.proofs.tag.attributes.Statement.{statement}
 use Rattle.scan.proofs.tag.attributes.Tie as tie
 use mathlib.Core.Path.{refl, sym, _∙_}

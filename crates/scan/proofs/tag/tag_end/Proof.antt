@@ -1,3 +1,4 @@
+-- `tag::tag_end` meets its contract. Assumes nothing.
 use borrow.Author.Needs.{needs}
 use Rattle.scan.proofs.tag.tag_end.Statement.{statement}
 use Rattle.scan.proofs.tag.tag_end.Tie as tie

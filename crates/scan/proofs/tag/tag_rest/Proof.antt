@@ -1,3 +1,4 @@
+-- `tag::tag_rest` meets its contract. Assumes nothing.
 use borrow.Author.Needs.{needs}
 use Rattle.scan.proofs.tag.tag_rest.Statement.{statement}
 use Rattle.scan.proofs.tag.tag_rest.Tie as tie

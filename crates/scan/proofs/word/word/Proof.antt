@@ -1,3 +1,4 @@
+-- `word::word` meets its contract. Assumes nothing.
 use Rattle.scan.proofs.word.word.Statement.{statement}
 use Rattle.scan.proofs.word.word.Tie as tie
 use Prim.Native.Nat.{_-_}

@@ -1,25 +1,18 @@
+-- `fill::around` meets its contract. Assumes nothing.
 use borrow.Author.Needs.{needs}
 use Rattle.unit.proofs.fill.around.Statement.{statement}
 use Rattle.unit.proofs.fill.around.Tie as tie
-use Rattle.unit.proofs.fill.around.Reads as reads
-use Rattle.unit.proofs.fill.around.Lts as lts
-use Rattle.list.proofs.lookup.cell.Reads as cell-reads
 use mathlib.Core.Path.{sym, ap, _∙_}
 use mathlib.Core.Bool.{Bool, cond}
 use borrow.Author.Tests.{eq-eqb, ne-eqb}
 
--- answers
-
--- src/fill.rt:125:9
 cell-requires : tie.Need-cell-requires
 cell-requires c κs = search needs
 
--- src/fill.rt:125:9
 returns : tie.Need-returns
 returns c =
     rw (eq-eqb _ _ (c .before .if1 .taken)) (c .cell .ensures)
 
--- src/fill.rt:121:1
 returns-2 : tie.Need-returns-2
 returns-2 c =
     rw (ne-eqb _ _ (c .if1 .left))

@@ -1,11 +1,7 @@
+-- `fill::put_leaf` meets its contract. Assumes nothing.
 use borrow.Author.Needs.{needs}
 use Rattle.unit.proofs.fill.put_leaf.Statement.{statement}
 use Rattle.unit.proofs.fill.put_leaf.Tie as tie
-use Rattle.unit.proofs.fill.put_leaf.Reads as reads
-use Rattle.unit.proofs.fill.put_leaf.Lts as lts
-use Rattle.list.proofs.lookup.cell.Reads as cell-reads
-use Rattle.unit.proofs.fill.put_value.Reads as put-value-reads
-use Rattle.written.proofs.place.place.Reads as place-reads
 use mathlib.Core.Path.{refl, sym, ap, _∙_}
 use mathlib.Core.Bool.{false}
 use Rattle.walk.specs.Tables.{isGroupIn}
@@ -13,51 +9,38 @@ use Rattle.written.proofs.Theorems.{bytes-some}
 use Rattle.unit.proofs.PassLeaf.{shuts-none, shuts-some}
 use Rattle.unit.proofs.PassValue.{leaf-kind}
 
--- answers
-
--- src/fill.rt:55:20
 cast-place : tie.Need-cast-place
 cast-place c = search needs
 
--- src/fill.rt:55:5
 place-requires : tie.Need-place-requires
 place-requires c κs = search needs
 
--- src/fill.rt:56:9
 cell-requires : tie.Need-cell-requires
 cell-requires c κs = search needs
 
--- src/fill.rt:60:69
 add-put-value : tie.Need-add-put-value
 add-put-value c = search needs
 
--- src/fill.rt:60:9
 put-value-requires : tie.Need-put-value-requires
 put-value-requires c κs =
     (c .before .cell .ensures, leaf-kind _ false (sym (ap isGroupIn (c .before .cell .ensures) ∙ c .before .before .before .before .before .before .before .before .before .before .pre .2)) refl)
 
--- src/fill.rt:62:9
 same-length : tie.Need-same-length
 same-length c = search needs
 
--- src/fill.rt:62:9
 returns : tie.Need-returns
 returns c =
     shuts-none _ _ _ refl false (sym (c .before .before .before .before .before .before .before .before .before .before .before .before .before .before .pre .2)) _ _ _ _ _ _ (λ l v. bytes-some v) refl _ refl _ (c .before .before .before .before .before .before .before .before .place .ensures) _ _ (c .before .before .before .put-value .ensures) (c .if1 .taken)
 
--- src/fill.rt:64:5
 add-result : tie.Need-add-result
 add-result c = search needs
 
--- src/fill.rt:64:5
 add-result-2 : tie.Need-add-result-2
 add-result-2 c = search needs
 
--- src/fill.rt:42:1
 same-length-2 : tie.Need-same-length-2
 same-length-2 c = search needs
 
--- src/fill.rt:42:1
 returns-2 : tie.Need-returns-2
 returns-2 c =
     shuts-some _ _ _ refl false (sym (c .before .before .before .before .before .before .before .before .before .before .before .before .before .before .pre .2)) _ _ _ _ _ _ (λ l v. bytes-some v) refl _ refl _ (c .before .before .before .before .before .before .before .before .place .ensures) _ _ (c .before .before .before .put-value .ensures) (c .if1 .left)

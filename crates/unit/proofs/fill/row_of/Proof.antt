@@ -1,17 +1,11 @@
+-- `fill::row_of` meets its contract. Assumes nothing.
 use Rattle.unit.proofs.fill.row_of.Statement.{statement}
 use Rattle.unit.proofs.fill.row_of.Tie as tie
-use Rattle.unit.proofs.fill.row_of.Reads as reads
-use Rattle.unit.proofs.fill.row_of.Lts as lts
-use Rattle.list.proofs.lookup.cell.Reads as cell-reads
-use Rattle.unit.proofs.fill.around.Reads as around-reads
-use Rattle.unit.proofs.fill.is_row.Reads as is-row-reads
 use borrow.Author.Needs.{needs}
 use lib.Seq.{slice}
 use Rattle.list.specs.Listing.{Child, child}
 use Rattle.list.specs.Table.{listOf}
 use Rattle.unit.proofs.FillRow.{way, row-first, row-found, row-again, row-nearer}
-
--- answers
 
 abbrev Inv-loop : tie.InvT-loop
 Inv-loop rows pool row last s a b r₀ r = Child (listOf rows pool) row r
@@ -19,45 +13,37 @@ Inv-loop rows pool row last s a b r₀ r = Child (listOf rows pool) row r
 abbrev μ-loop : tie.MeasureT-loop
 μ-loop rows pool row last s a b r₀ r = way (child (listOf rows pool) row (slice a b s)) r
 
--- src/fill.rt:143:9
 around-requires : tie.Need-around-requires Inv-loop μ-loop
 around-requires c κs =
     search needs
 
--- src/fill.rt:144:5
 loop-holds : tie.Need-loop-holds Inv-loop μ-loop
 loop-holds c =
     row-first _ _ _ _ _ (c .before .before .before .before .pre) _ (c .around .ensures)
 
--- src/fill.rt:144:12
-is-row-requires : tie.Need-is-row-requires Inv-loop μ-loop
-is-row-requires c κs =
+is-name-requires : tie.Need-is-name-requires Inv-loop μ-loop
+is-name-requires c κs =
     search needs
 
--- src/fill.rt:145:31
 cell-requires : tie.Need-cell-requires Inv-loop μ-loop
 cell-requires c κs =
     search needs
 
--- src/fill.rt:145:9
 around-requires-2 : tie.Need-around-requires-2 Inv-loop μ-loop
 around-requires-2 c κs =
     search needs
 
--- src/fill.rt:144:5
 loop-less : tie.Need-loop-less Inv-loop μ-loop
 loop-less c =
-    row-nearer _ _ _ _ _ (c .before .before .before .before .before .before .before .before .before .pre) _ (c .before .before .before .before .loop .inv) _ (c .before .before .before .is-row .ensures) (c .before .before .if1 .taken) _ (c .before .cell .ensures) _ (c .around2 .ensures)
+    row-nearer _ _ _ _ _ (c .before .before .before .before .before .before .before .before .before .pre) _ (c .before .before .before .before .loop .inv) _ (c .before .before .before .is-name .ensures) (c .before .before .if1 .taken) _ (c .before .cell .ensures) _ (c .around2 .ensures)
 
--- src/fill.rt:144:5
 loop-again : tie.Need-loop-again Inv-loop μ-loop
 loop-again c =
-    row-again _ _ _ _ _ (c .before .before .before .before .before .before .before .before .before .pre) _ (c .before .before .before .before .loop .inv) _ (c .before .before .before .is-row .ensures) (c .before .before .if1 .taken) _ (c .before .cell .ensures) _ (c .around2 .ensures)
+    row-again _ _ _ _ _ (c .before .before .before .before .before .before .before .before .before .pre) _ (c .before .before .before .before .loop .inv) _ (c .before .before .before .is-name .ensures) (c .before .before .if1 .taken) _ (c .before .cell .ensures) _ (c .around2 .ensures)
 
--- src/fill.rt:131:1
 returns : tie.Need-returns Inv-loop μ-loop
 returns c =
-    row-found _ _ _ _ _ (c .before .before .before .before .before .before .before .pre) _ (c .before .before .loop .inv) _ (c .before .is-row .ensures) (c .if1 .left)
+    row-found _ _ _ _ _ (c .before .before .before .before .before .before .before .pre) _ (c .before .before .loop .inv) _ (c .before .is-name .ensures) (c .if1 .left)
 
 pub row-of-spec : {M : Type 1} → statement M
 row-of-spec =
@@ -67,7 +53,7 @@ row-of-spec =
     μ-loop
     around-requires
     loop-holds
-    is-row-requires
+    is-name-requires
     cell-requires
     around-requires-2
     loop-less

@@ -1,11 +1,7 @@
+-- `pass::leaf_end` meets its contract. Assumes nothing.
 use borrow.Author.Needs.{needs}
 use Rattle.unit.proofs.pass.leaf_end.Statement.{statement}
 use Rattle.unit.proofs.pass.leaf_end.Tie as tie
-use Rattle.unit.proofs.pass.leaf_end.Reads as reads
-use Rattle.unit.proofs.pass.leaf_end.Lts as lts
-use Rattle.list.proofs.lookup.cell.Reads as cell-reads
-use Rattle.unit.proofs.pass.value_size.Reads as value-size-reads
-use Rattle.walk.proofs.tag.is_group.Reads as is-group-reads
 use mathlib.Core.Path.{refl}
 use mathlib.Core.List.{[]}
 use native.Mathlib.Omega.{arith}
@@ -14,41 +10,31 @@ use Rattle.unit.proofs.PassPuts.{pasted-nowhere}
 use Rattle.unit.proofs.PassLeaf.{shuts-group, shuts-none, shuts-some}
 use Rattle.unit.proofs.PassValue.{leaf-kind}
 
--- answers
-
--- src/pass.rt:75:9
 cell-requires : tie.Need-cell-requires
 cell-requires c κs = search needs
 
--- src/pass.rt:76:8
 is-group-requires : tie.Need-is-group-requires
 is-group-requires c κs = search needs
 
--- src/pass.rt:77:9
 returns : tie.Need-returns
 returns c =
     shuts-group _ _ _ (c .before .before .cell .ensures) _ (c .before .is-group .ensures) _ _ _ _ _ _ (c .if1 .taken)
 
--- src/pass.rt:79:9
 value-size-requires : tie.Need-value-size-requires
 value-size-requires c κs =
     (c .before .before .cell .ensures, leaf-kind _ _ (c .before .is-group .ensures) (c .if1 .left))
 
--- src/pass.rt:81:9
 returns-2 : tie.Need-returns-2
 returns-2 c =
     shuts-none _ _ _ (c .before .before .before .before .cell .ensures) _ (c .before .before .before .is-group .ensures) _ _ _ _ _ _ (λ l v. bytes-some v) (c .before .before .if1 .left) _ refl _ (pasted-nowhere _ _) _ _ (c .before .value-size .ensures _ _) (c .if2 .taken)
 
--- src/pass.rt:83:5
 add-result : tie.Need-add-result
 add-result c = search needs
 
--- src/pass.rt:83:5
 add-result-2 : tie.Need-add-result-2
 add-result-2 c =
     omega (arith, c .before .value-size .ensures [] 0 .most, c .before .before .before .before .before .before .before .before .pre)
 
--- src/pass.rt:70:1
 returns-3 : tie.Need-returns-3
 returns-3 c =
     shuts-some _ _ _ (c .before .before .before .before .cell .ensures) _ (c .before .before .before .is-group .ensures) _ _ _ _ _ _ (λ l v. bytes-some v) (c .before .before .if1 .left) _ refl _ (pasted-nowhere _ _) _ _ (c .before .value-size .ensures _ _) (c .if2 .left)

@@ -1,38 +1,26 @@
+-- `pass::value_size` meets its contract. Assumes nothing.
 use borrow.Author.Needs.{needs}
 use Rattle.unit.proofs.pass.value_size.Statement.{statement}
 use Rattle.unit.proofs.pass.value_size.Tie as tie
-use Rattle.unit.proofs.pass.value_size.Reads as reads
-use Rattle.unit.proofs.pass.value_size.Lts as lts
-use Rattle.list.proofs.lookup.cell.Reads as cell-reads
-use Rattle.unit.proofs.pass.word_size.Reads as word-size-reads
-use Rattle.written.proofs.write.size.Reads as size-reads
 use mathlib.Core.Path.{refl}
 use Rattle.unit.proofs.PassValue.{valued-word, valued-counted}
 
--- answers
-
--- src/pass.rt:64:9
 word-size-requires : tie.Need-word-size-requires
 word-size-requires c κs = search needs
 
--- src/pass.rt:64:9
 returns : tie.Need-returns
 returns c =
     λ cur at. valued-word _ _ _ _ (c .before .before .before .before .before .pre .0) cur _ _ at _ _ (c .word-size .ensures at) (c .before .if1 .taken)
 
--- src/pass.rt:66:10
 cast-size : tie.Need-cast-size
 cast-size c = search needs
 
--- src/pass.rt:66:22
 cell-requires : tie.Need-cell-requires
 cell-requires c κs = search needs
 
--- src/pass.rt:66:5
 size-requires : tie.Need-size-requires
 size-requires c κs = search needs
 
--- src/pass.rt:51:1
 returns-2 : tie.Need-returns-2
 returns-2 c =
     λ cur at. valued-counted _ _ _ _ (c .before .before .before .before .before .before .pre .0) cur _ _ at (c .before .before .if1 .left) _ _ (c .before .cell .ensures) refl (c .size .ensures)

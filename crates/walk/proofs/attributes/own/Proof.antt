@@ -1,44 +1,31 @@
+-- `attributes::own` meets its contract. Assumes nothing.
 use borrow.Author.Needs.{needs}
 use Rattle.walk.proofs.attributes.own.Statement.{statement}
 use Rattle.walk.proofs.attributes.own.Tie as tie
-use Rattle.walk.proofs.attributes.own.Reads as reads
-use Rattle.walk.proofs.attributes.own.Lts as lts
-use Rattle.list.proofs.lookup.cell.Reads as cell-reads
-use Rattle.walk.proofs.attributes.is_ccy.Reads as is-ccy-reads
-use Rattle.walk.proofs.attributes.is_currency.Reads as is-currency-reads
 use borrow.Author.Tests.{not-true, not-false}
 use Rattle.walk.proofs.Strides.{own-none, own-many, own-name, own-value}
 
--- answers
-
--- src/attributes.rt:51:8
 cell-requires : tie.Need-cell-requires
 cell-requires c κs = search needs
 
--- src/attributes.rt:52:9
 returns : tie.Need-returns
 returns c =
     own-none _ _ _ _ _ _ (c .before .cell .ensures) (c .if1 .taken)
 
--- src/attributes.rt:55:9
 returns-2 : tie.Need-returns-2
 returns-2 c =
     own-many _ _ _ _ _ _ (c .before .before .cell .ensures) (c .before .if1 .left) (c .if2 .taken)
 
--- src/attributes.rt:57:9
 is-ccy-requires : tie.Need-is-ccy-requires
 is-ccy-requires c κs = search needs
 
--- src/attributes.rt:58:9
 returns-3 : tie.Need-returns-3
 returns-3 c =
     own-name _ _ _ _ _ _ (c .before .before .before .before .cell .ensures) (c .before .before .before .if1 .left) (c .before .before .if2 .left) _ (c .before .is-ccy .ensures) (not-true _ (c .if3 .taken))
 
--- src/attributes.rt:60:5
 is-currency-requires : tie.Need-is-currency-requires
 is-currency-requires c κs = search needs
 
--- src/attributes.rt:48:1
 returns-4 : tie.Need-returns-4
 returns-4 c =
     own-value _ _ _ _ _ _ (c .before .before .before .before .before .cell .ensures) (c .before .before .before .before .if1 .left) (c .before .before .before .if2 .left) _ (c .before .before .is-ccy .ensures) _ (not-false _ (c .before .if3 .left)) (c .is-currency .ensures)

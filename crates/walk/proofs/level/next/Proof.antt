@@ -1,23 +1,16 @@
+-- `level::next` meets its contract. Assumes nothing.
 use borrow.Author.Needs.{needs}
 use Rattle.walk.proofs.level.next.Statement.{statement}
 use Rattle.walk.proofs.level.next.Tie as tie
-use Rattle.walk.proofs.level.next.Reads as reads
-use Rattle.walk.proofs.level.next.Lts as lts
-use Rattle.list.proofs.lookup.due_after.Reads as due-after-reads
 use borrow.Author.Tests.{eq-eqb, ne-eqb}
 
--- answers
-
--- src/level.rt:49:9
 due-after-requires : tie.Need-due-after-requires
 due-after-requires c κs = search needs
 
--- src/level.rt:49:9
 returns : tie.Need-returns
 returns c =
     rw (c .due-after .ensures, eq-eqb _ _ (c .before .if1 .taken))
 
--- src/level.rt:45:1
 returns-2 : tie.Need-returns-2
 returns-2 c =
     rw (ne-eqb _ _ (c .if1 .left))

@@ -1,10 +1,7 @@
+-- `level::odd_after` meets its contract. Assumes nothing.
 use borrow.Author.Needs.{needs}
 use Rattle.walk.proofs.level.odd_after.Statement.{statement}
 use Rattle.walk.proofs.level.odd_after.Tie as tie
-use Rattle.walk.proofs.level.odd_after.Reads as reads
-use Rattle.walk.proofs.level.odd_after.Lts as lts
-use Rattle.list.proofs.lookup.cell.Reads as cell-reads
-use Rattle.walk.proofs.level.misses.Reads as misses-reads
 use borrow.Author.Tests.{eq-eqb, ne-eqb}
 use mathlib.Core.Path.{_≡_, sym, _∙_, ap}
 use mathlib.Core.Bool.{Bool, true, false, _&&_, _||_, not}
@@ -13,7 +10,6 @@ use lib.Dec.{eqb}
 use Rattle.list.specs.Table.{cell}
 use Rattle.walk.specs.Machine.{misses}
 
--- answers
 -- the flag by its tests
 again : (odd : Bool) (last r : ℕ) (m : Bool) → odd ≡ false → r ≡ last → false ≡ (odd || (not (eqb r last) && m))
 again odd last r m a b = rw (a, eq-eqb r last b)
@@ -30,37 +26,29 @@ by-pair odd last r a b a′ b′ m x e n f g h k y =
     let z : misses a last ≡ false = ap (λ w. misses w last) (sym f) ∙ sym g ∙ h in
     rw (e, ne-eqb r last n, z) (y ∙ ap (λ w. misses w r) k)
 
--- src/level.rt:60:9
 returns : tie.Need-returns
 returns c = search needs
 
--- src/level.rt:63:9
 returns-2 : tie.Need-returns-2
 returns-2 c =
     again _ _ _ _ (c .before .if1 .left) (c .if2 .taken)
 
--- src/level.rt:65:15
 cell-requires : tie.Need-cell-requires
 cell-requires c κs = search needs
 
--- src/level.rt:65:8
 misses-requires : tie.Need-misses-requires
 misses-requires c κs = search needs
 
--- src/level.rt:66:9
 returns-3 : tie.Need-returns-3
 returns-3 c =
     by-mate _ _ _ _ (cell (c .before .before .before .before .before .before .args .rows .now) (c .before .before .before .before .before .before .args .last) 13) _ _ (c .before .before .before .before .if1 .left) (c .before .before .before .if2 .left) (c .before .before .cell .ensures) (c .before .misses .ensures) (c .if3 .taken)
 
--- src/level.rt:68:12
 cell-requires-2 : tie.Need-cell-requires-2
 cell-requires-2 c κs = search needs
 
--- src/level.rt:68:5
 misses-requires-2 : tie.Need-misses-requires-2
 misses-requires-2 c κs = search needs
 
--- src/level.rt:56:1
 returns-4 : tie.Need-returns-4
 returns-4 c =
     by-pair _ _ _ _ _ _ _ _ _ (c .before .before .before .before .before .before .if1 .left) (c .before .before .before .before .before .if2 .left) (c .before .before .before .before .cell .ensures) (c .before .before .before .misses .ensures) (c .before .before .if3 .left) (c .before .cell2 .ensures) (c .misses2 .ensures)

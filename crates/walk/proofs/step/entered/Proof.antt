@@ -1,57 +1,39 @@
+-- `step::entered` meets its contract. Assumes nothing.
 use borrow.Author.Needs.{needs}
 use Rattle.walk.proofs.step.entered.Statement.{statement}
 use Rattle.walk.proofs.step.entered.Tie as tie
-use Rattle.walk.proofs.step.entered.Reads as reads
-use Rattle.walk.proofs.step.entered.Lts as lts
-use Rattle.walk.proofs.level.advance.Reads as advance-reads
-use Rattle.walk.proofs.level.fresh.Reads as fresh-reads
-use Rattle.walk.proofs.level.push.Reads as push-reads
-use Rattle.walk.proofs.step.refused.Reads as refused-reads
-use Rattle.walk.proofs.tag.opening.Reads as opening-reads
 use native.Mathlib.Omega.{arith}
 use Rattle.walk.proofs.Strides.{entered-refused, entered-deep, entered-on}
 
--- answers
-
--- src/step.rt:139:9
 opening-requires : tie.Need-opening-requires
 opening-requires c κs = search needs
 
--- src/step.rt:141:9
 refused-requires : tie.Need-refused-requires
 refused-requires c κs = search needs
 
--- src/step.rt:141:9
 returns : tie.Need-returns
 returns c =
     entered-refused _ _ _ _ _ _ _ _ _ (c .before .before .before .opening .ensures) _ (c .before .if1 .taken) (c .refused .ensures)
 
--- src/step.rt:145:9
 refused-requires-2 : tie.Need-refused-requires-2
 refused-requires-2 c κs = search needs
 
--- src/step.rt:145:9
 returns-2 : tie.Need-returns-2
 returns-2 c =
     entered-deep _ _ _ _ _ _ _ _ _ (c .before .before .before .before .opening .ensures) _ (c .before .before .if1 .left) (c .before .if2 .taken) (c .refused2 .ensures)
 
--- src/step.rt:147:9
 advance-requires : tie.Need-advance-requires
 advance-requires c κs = search needs
 
--- src/step.rt:148:5
 push-requires : tie.Need-push-requires
 push-requires c κs = search needs
 
--- src/step.rt:149:9
 fresh-requires : tie.Need-fresh-requires
 fresh-requires c κs = search needs
 
--- src/step.rt:152:16
 add-t17 : tie.Need-add-t17
 add-t17 c = search needs
 
--- src/step.rt:136:1
 returns-3 : tie.Need-returns-3
 returns-3 c =
     entered-on _ _ _ _ _ _ _ _ _ (c .before .before .before .before .before .before .before .opening .ensures) _ _ _ (c .before .before .before .before .before .if1 .left) (omega (arith, c .before .before .before .before .if2 .left)) (c .fresh .ensures) (c .before .before .before .advance .ensures) (c .before .push .ensures)

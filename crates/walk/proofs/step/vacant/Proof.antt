@@ -1,32 +1,22 @@
+-- `step::vacant` meets its contract. Assumes nothing.
 use borrow.Author.Needs.{needs}
 use Rattle.walk.proofs.step.vacant.Statement.{statement}
 use Rattle.walk.proofs.step.vacant.Tie as tie
-use Rattle.walk.proofs.step.vacant.Reads as reads
-use Rattle.walk.proofs.step.vacant.Lts as lts
-use Rattle.walk.proofs.step.refused.Reads as refused-reads
-use Rattle.walk.proofs.tag.opening.Reads as opening-reads
 use Rattle.walk.proofs.Strides.{vacant-refused, vacant-on}
 
--- answers
-
--- src/step.rt:173:9
 opening-requires : tie.Need-opening-requires
 opening-requires c κs = search needs
 
--- src/step.rt:175:9
 refused-requires : tie.Need-refused-requires
 refused-requires c κs = search needs
 
--- src/step.rt:175:9
 returns : tie.Need-returns
 returns c =
     vacant-refused _ _ _ _ _ _ (c .before .before .before .opening .ensures) _ (c .before .if1 .taken) (c .refused .ensures)
 
--- src/step.rt:177:5
 refused-requires-2 : tie.Need-refused-requires-2
 refused-requires-2 c κs = search needs
 
--- src/step.rt:170:1
 returns-2 : tie.Need-returns-2
 returns-2 c =
     vacant-on _ _ _ _ _ _ (c .before .before .before .opening .ensures) _ (c .before .if1 .left) (c .refused2 .ensures)

@@ -1,34 +1,25 @@
+-- `tag::group_end` meets its contract. Assumes nothing.
 use borrow.Author.Needs.{needs}
 use Rattle.walk.proofs.tag.group_end.Statement.{statement}
 use Rattle.walk.proofs.tag.group_end.Tie as tie
-use Rattle.walk.proofs.tag.group_end.Reads as reads
-use Rattle.walk.proofs.tag.group_end.Lts as lts
-use Rattle.walk.proofs.tag.broken.Reads as broken-reads
 use Rattle.walk.proofs.Says.{says-11, says-8, says-13, ends-well}
 use native.Mathlib.Omega.{arith}
 
--- answers
-
--- src/tag.rt:99:9
 returns : tie.Need-returns
 returns c =
     says-11 _ _ (c .if1 .taken)
 
--- src/tag.rt:106:9
 returns-2 : tie.Need-returns-2
 returns-2 c =
     says-8 _ _ (c .before .before .if1 .left) (c .if2 .taken)
 
--- src/tag.rt:112:8
 broken-requires : tie.Need-broken-requires
 broken-requires c κs = search needs
 
--- src/tag.rt:113:9
 returns-3 : tie.Need-returns-3
 returns-3 c =
     says-13 _ _ (c .before .before .before .before .if1 .left) (omega (arith, c .before .before .if2 .left)) _ (c .before .broken .ensures) (c .if3 .taken)
 
--- src/tag.rt:93:1
 returns-4 : tie.Need-returns-4
 returns-4 c =
     ends-well _ _ (c .before .before .before .before .if1 .left) (omega (arith, c .before .before .if2 .left)) _ (c .before .broken .ensures) (c .if3 .left)
