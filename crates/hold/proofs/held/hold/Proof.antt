@@ -38,6 +38,7 @@ use denote.Exit.{yes}
 use Rattle.hold.specs.declared.held.Held.{Held}
 use Rattle.hold.proofs.held.Held as T
 use Rattle.hold.proofs.held.Held.Laws as T′
+use Rattle.hold.proofs.held.hold.Key.{name as #hold·held·hold}
 use Rattle.hold.proofs.held.hold as hold
 use Rattle.hold.proofs.held.hold.Statement as stated
 use Rattle.hold.proofs.held.hold.Code as code

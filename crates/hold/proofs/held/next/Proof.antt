@@ -55,7 +55,9 @@ use Rattle.hold.proofs.held.Step as P
 use Rattle.hold.proofs.held.Step.Laws as P′
 use Rattle.hold.proofs.held.read_at as step
 use Rattle.hold.proofs.held.read_at.Symbol as step-def
+use Rattle.hold.proofs.held.read_at.Symbol.{name as #hold·held·read-at}
 use Rattle.hold.proofs.held.read_at.Met as step-thm
+use Rattle.hold.proofs.held.next.Key.{name as #hold·held·next}
 use Rattle.hold.proofs.held.next as next
 use Rattle.hold.proofs.held.next.Statement as stated
 use Rattle.hold.proofs.held.next.Code as code

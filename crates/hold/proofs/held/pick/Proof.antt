@@ -16,7 +16,9 @@ use Rattle.answer.proofs.Answer as S
 use Rattle.answer.proofs.Answer.Laws as S′
 use Rattle.hold.proofs.Apart.{Told, meets}
 use Rattle.hold.proofs.held.pick_at.Symbol as step-def
+use Rattle.hold.proofs.held.pick_at.Symbol.{name as #hold·held·pick-at}
 use Rattle.hold.proofs.held.pick_at.Met as step-thm
+use Rattle.hold.proofs.held.pick.Key.{name as #hold·held·pick}
 use Rattle.hold.proofs.held.pick as pick
 use Rattle.hold.proofs.held.pick.Statement as stated
 use Rattle.hold.proofs.held.pick.Code as code

@@ -17,7 +17,9 @@ use Rattle.image.specs.Kinds.{values}
 use Rattle.image.specs.Pick.{Hands}
 use Rattle.hold.proofs.Apart.{Told, meets}
 use Rattle.hold.proofs.held.picked_at.Symbol as step-def
+use Rattle.hold.proofs.held.picked_at.Symbol.{name as #hold·held·picked-at}
 use Rattle.hold.proofs.held.picked_at.Met as step-thm
+use Rattle.hold.proofs.held.picked.Key.{name as #hold·held·picked}
 use Rattle.hold.proofs.held.picked as picked
 use Rattle.hold.proofs.held.picked.Statement as stated
 use Rattle.hold.proofs.held.picked.Code as code
