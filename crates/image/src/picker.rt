@@ -1,12 +1,12 @@
 // The picker: the n-th leaf of a row in the image that a run begins with.
 use crate::order::is_leaf;
 use crate::reader::item_end;
-use crate::reader::part;
 use crate::reader::read;
 use crate::reader::wide;
 use answer::Answer;
 use list::lookup::cell;
 use list::table::KIND;
+use types::blanks::part_of;
 ghost use mathlib.Core.Path.{_≡_};
 ghost use Rattle.image.specs.Ends.{itemEnd};
 ghost use Rattle.image.specs.Run.{Comes, headOf, hunt, Finds, Answered, Handed};
@@ -84,7 +84,7 @@ pub fn picked<'a>(rows: &[u16], run: &'a [u8], row: usize, n: usize) -> &'a [u8]
     if value == 0 {
         return &run[0..0];
     }
-    part(
+    part_of(
         run,
         value + head(rows, row),
         item_end(rows, run, row, value),

@@ -8,10 +8,10 @@ use list::table::KIND;
 use list::table::MOST;
 use list::table::WORD_COUNT;
 use stored::value::value_end;
+use text::part::least;
 ghost use mathlib.Core.Path.{_≡_};
-ghost use Prim.Native.Nat.{_+_, _≤_, _<_, min};
+ghost use Prim.Native.Nat.{_+_, _≤_, _<_};
 ghost use lib.ListN.{length};
-ghost use lib.Seq.{slice};
 ghost use Rattle.image.specs.Ends.{itemEnd};
 ghost use Rattle.image.specs.Laid.{Laid};
 ghost use Rattle.image.specs.Run.{Kto, Named, First, Goes, Runs};
@@ -20,22 +20,6 @@ pub(crate) fn wide(x: u8) -> usize
     ensures { λ r. ⌜ r ≡ x ⌝ }
 {
     x as usize
-}
-
-// The part between two places, as much of it as there is.
-pub(crate) fn part(s: &[u8], from: usize, to: usize) -> &[u8]
-    ensures { λ r. ⌜ now r ≡ slice from to (now (s .entry)) ⌝ }
-{
-    if s.len() < to {
-        if s.len() < from {
-            return &s[0..0];
-        }
-        return &s[from..];
-    }
-    if to < from {
-        return &s[0..0];
-    }
-    &s[from..to]
 }
 
 // Where the item of row x ends whose row byte stands before `at`; 0 where no value of its type stands there.
@@ -79,15 +63,6 @@ fn first_version(run: &[u8]) -> bool
         return false;
     }
     run[4] == 1
-}
-
-fn least(a: usize, b: usize) -> usize
-    ensures { λ r. ⌜ r ≡ min a b ⌝ }
-{
-    if a < b {
-        return a;
-    }
-    b
 }
 
 // A table's beginning over another's.

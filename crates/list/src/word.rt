@@ -2,21 +2,15 @@
 use crate::lookup::cell;
 use crate::table::WORDS;
 use crate::table::WORDS_END;
+use text::part::least;
 use text::part::same_part;
 ghost use mathlib.Core.Path.{_≡_};
-ghost use Prim.Native.Nat.{_+_, _≤_, min};
+ghost use Prim.Native.Nat.{_+_, _≤_};
 ghost use lib.ListN.{length};
 ghost use lib.Seq.{slice};
 ghost use Rattle.text.specs.Lists.{span};
 ghost use Rattle.list.specs.Table.{placeIn, wordsIn};
 ghost use Rattle.list.specs.Lookup.{notSpace};
-
-// The lesser of two numbers.
-fn least(x: usize, y: usize) -> usize
-    ensures { λ r. ⌜ r ≡ min x y ⌝ }
-{
-    if x < y { x } else { y }
-}
 
 // Where the word that starts at `i` ends: at the next space, and at `end` where there is none.
 fn word_end(pool: &[u8], i: usize, end: usize) -> usize

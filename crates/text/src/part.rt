@@ -7,7 +7,7 @@ ghost use lib.Seq.{slice};
 ghost use Rattle.text.specs.Lists.{same};
 ghost use Rattle.text.specs.Words.{starts};
 
-pub(crate) fn least(a: usize, b: usize) -> usize
+pub fn least(a: usize, b: usize) -> usize
     ensures { λ r. ⌜ r ≡ min a b ⌝ }
 {
     if a < b {

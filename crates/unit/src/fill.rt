@@ -1,4 +1,4 @@
-// The image of a message that is known to have no violation. Nothing is tested again: a name says its row, and the table which row is around.
+// The image of a message that is known to have no violation. No tag is tested again: a name says its row, and the table which row is around. Values are judged once more, by the writer.
 
 use list::lookup::cell;
 use list::lookup::is_name;

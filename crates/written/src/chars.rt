@@ -3,24 +3,11 @@
 use crate::place::place;
 use characters::piece::next_char;
 use text::number::copy;
-use text::part::part_len;
 ghost use mathlib.Core.Path.{_≡_};
 ghost use Prim.Native.Nat.{_+_};
 ghost use lib.ListN.{drop};
-ghost use lib.Seq.{slice};
 ghost use Rattle.text.specs.Lists.{span};
 ghost use Rattle.written.specs.Runs.{isOwn, Roomy, CharsPut};
-
-// The part of s from a up to b, as far as s reaches.
-pub(crate) fn part(s: &[u8], a: usize, b: usize) -> &[u8]
-    ensures { λ r. ⌜ now r ≡ slice a b (now (s .entry)) ⌝ }
-{
-    let n = part_len(s, a, b);
-    if n == 0 {
-        return &s[0..0];
-    }
-    &s[a..a + n]
-}
 
 // Where the next entity begins, or the end.
 fn run_end(t: &[u8], at: usize) -> usize

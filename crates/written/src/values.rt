@@ -1,6 +1,5 @@
 // The bytes of each kind of value, whole or not at all, and how many there are.
 
-use crate::chars::part;
 use crate::chars::put_chars;
 use crate::place::has_room;
 use crate::place::place;
@@ -10,6 +9,7 @@ use text::number::put16;
 use text::number::put32;
 use text::number::put64;
 use text::part::part_len;
+use types::blanks::part_of;
 use types::judged::Moment;
 ghost use mathlib.Core.Path.{_≡_};
 ghost use mathlib.Core.List.{[], _∷_};
@@ -143,6 +143,6 @@ pub(crate) fn write_text(s: &[u8], a: usize, b: usize, n: usize, out: &mut [u8],
         return size;
     }
     put16(out, at, n as u16);
-    put_chars(part(s, a, b), out, at + 2);
+    put_chars(part_of(s, a, b), out, at + 2);
     size
 }

@@ -56,13 +56,13 @@ add-part c =
 item-end-requires : tie.Need-item-end-requires
 item-end-requires c κs = search needs
 
-part-requires : tie.Need-part-requires
-part-requires c κs = search needs
+part-of-requires : tie.Need-part-of-requires
+part-of-requires c κs = search needs
 
 returns-3 : tie.Need-returns-3
 returns-3 c =
     let g = c .before .before .before .before .before .before .before .before .before .before .args in
-    record { answer = picked (g .row) (c .before .before .before .before .find .result + headOf (g .rows .now) (g .row)); chooses = found (c .before .before .before .before .before .before .before .read .result) (c .before .before .before .before .before .before .before .read .ensures) (omega (arith, c .before .before .before .before .before .if1 .left)) (c .before .before .before .before .find .result) (omega (arith, c .before .before .before .if2 .left)) (c .before .before .before .before .find .ensures) refl (c .part .ensures ∙ ap₂ (λ (a b : ℕ). slice (c .before .before .before .before .find .result + a) b (g .run .now)) (c .before .before .head .ensures) (c .before .item-end .ensures)) }
+    record { answer = picked (g .row) (c .before .before .before .before .find .result + headOf (g .rows .now) (g .row)); chooses = found (c .before .before .before .before .before .before .before .read .result) (c .before .before .before .before .before .before .before .read .ensures) (omega (arith, c .before .before .before .before .before .if1 .left)) (c .before .before .before .before .find .result) (omega (arith, c .before .before .before .if2 .left)) (c .before .before .before .before .find .ensures) refl (c .part-of .ensures ∙ ap₂ (λ (a b : ℕ). slice (c .before .before .before .before .find .result + a) b (g .run .now)) (c .before .before .head .ensures) (c .before .item-end .ensures)) }
 
 pub picked-spec : {M : Type 1} → statement M
 picked-spec =
@@ -81,5 +81,5 @@ picked-spec =
     head-requires
     add-part
     item-end-requires
-    part-requires
+    part-of-requires
     returns-3)

@@ -26,23 +26,23 @@ cast-put16 c =
 put16-requires : tie.Need-put16-requires
 put16-requires c κs = search needs
 
-part-requires : tie.Need-part-requires
-part-requires c κs = search needs
+part-of-requires : tie.Need-part-of-requires
+part-of-requires c κs = search needs
 
 add-put-chars : tie.Need-add-put-chars
 add-put-chars c =
-    omega (arith, fits _ (c .before .before .before .before .before .before .before .has-room .ensures) (c .before .before .before .before .before .before .if2 .left), text-room _ _ _ _ (c .before .before .before .before .before .before .before .before .before .before .before .before .pre) _ (c .before .before .before .before .before .before .before .before .before .text-size .ensures) (c .before .before .before .before .before .before .before .before .if1 .left) _ (fits _ (c .before .before .before .before .before .before .before .has-room .ensures) (c .before .before .before .before .before .before .if2 .left)) (c .before .before .before .before .put16 .ensures) _ (c .before .part .ensures) .room)
+    omega (arith, fits _ (c .before .before .before .before .before .before .before .has-room .ensures) (c .before .before .before .before .before .before .if2 .left), text-room _ _ _ _ (c .before .before .before .before .before .before .before .before .before .before .before .before .pre) _ (c .before .before .before .before .before .before .before .before .before .text-size .ensures) (c .before .before .before .before .before .before .before .before .if1 .left) _ (fits _ (c .before .before .before .before .before .before .before .has-room .ensures) (c .before .before .before .before .before .before .if2 .left)) (c .before .before .before .before .put16 .ensures) _ (c .before .part-of .ensures) .room)
 
 put-chars-requires : tie.Need-put-chars-requires
 put-chars-requires c κs =
-    text-room _ _ _ _ (c .before .before .before .before .before .before .before .before .before .before .before .before .pre) _ (c .before .before .before .before .before .before .before .before .before .text-size .ensures) (c .before .before .before .before .before .before .before .before .if1 .left) _ (fits _ (c .before .before .before .before .before .before .before .has-room .ensures) (c .before .before .before .before .before .before .if2 .left)) (c .before .before .before .before .put16 .ensures) _ (c .before .part .ensures)
+    text-room _ _ _ _ (c .before .before .before .before .before .before .before .before .before .before .before .before .pre) _ (c .before .before .before .before .before .before .before .before .before .text-size .ensures) (c .before .before .before .before .before .before .before .before .if1 .left) _ (fits _ (c .before .before .before .before .before .before .before .has-room .ensures) (c .before .before .before .before .before .before .if2 .left)) (c .before .before .before .before .put16 .ensures) _ (c .before .part-of .ensures)
 
 same-length : tie.Need-same-length
 same-length c = search needs
 
 returns-3 : tie.Need-returns-3
 returns-3 c =
-    text-put _ _ _ _ (c .before .before .before .before .before .before .before .before .before .before .before .before .before .before .before .pre) _ (c .before .before .before .before .before .before .before .before .before .before .before .before .text-size .ensures) (c .before .before .before .before .before .before .before .before .before .before .before .if1 .left) _ (fits _ (c .before .before .before .before .before .before .before .before .before .before .has-room .ensures) (c .before .before .before .before .before .before .before .before .before .if2 .left)) (c .before .before .before .before .before .before .before .put16 .ensures) _ (c .before .before .before .before .part .ensures) _ (c .before .before .put-chars .ensures)
+    text-put _ _ _ _ (c .before .before .before .before .before .before .before .before .before .before .before .before .before .before .before .pre) _ (c .before .before .before .before .before .before .before .before .before .before .before .before .text-size .ensures) (c .before .before .before .before .before .before .before .before .before .before .before .if1 .left) _ (fits _ (c .before .before .before .before .before .before .before .before .before .before .has-room .ensures) (c .before .before .before .before .before .before .before .before .before .if2 .left)) (c .before .before .before .before .before .before .before .put16 .ensures) _ (c .before .before .before .before .part-of .ensures) _ (c .before .before .put-chars .ensures)
 
 pub write-text-spec : {M : Type 1} → statement M
 write-text-spec =
@@ -54,7 +54,7 @@ write-text-spec =
     returns-2
     cast-put16
     put16-requires
-    part-requires
+    part-of-requires
     add-put-chars
     put-chars-requires
     same-length
