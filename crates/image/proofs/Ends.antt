@@ -1,12 +1,9 @@
--- Where an item ends; parts of a run. Assumes nothing.
-use mathlib.Core.Path.{_≡_, sym, _∙_, ap}
+-- Where an item ends. Assumes nothing.
+use mathlib.Core.Path.{_≡_, sym}
 use mathlib.Core.Bool.{Bool, true, false, cond}
-use mathlib.Core.List.{List, []}
-use Prim.Native.Nat.{ℕ, _+_, _-_, _≤_, _<_}
+use mathlib.Core.List.{List}
+use Prim.Native.Nat.{ℕ, _≤_, _<_}
 use native.Mathlib.Omega.{arith}
-use lib.ListN.{length, take, drop, length-take, length-drop, drop-of-length-le}
-use lib.Seq.{slice, take-all}
-use Rattle.text.proofs.Parts.{part-take}
 use Rattle.list.specs.Table.{cell}
 use Rattle.stored.specs.Ends.{valueEnd}
 use Rattle.stored.proofs.Meaning.{end-is}
@@ -31,22 +28,3 @@ module _ (t s : List ℕ) (x i : ℕ) (b : Bool) (e : b ≡ isLeaf t x) where
   pub item-group : b ≡ false → i ≡ itemEnd t s x i
   unfolding itemEnd
   item-group y = rw (sym e, y)
-
--- a part between two places, as much of it as there is
-module _ (s : List ℕ) (from to : ℕ) where
-  pub part-cut : from ≤ to → take (to - from) (drop from s) ≡ slice from to s
-  part-cut h = let e : from + (to - from) ≡ to = omega arith in sym (part-take from (to - from) s) ∙ ap (λ (z : ℕ). slice from z s) e
-
-  pub part-rest : length s < to → from ≤ length s → take (length s - from) (drop from s) ≡ slice from to s
-  part-rest g h =
-      take-all (length s - from) (drop from s) (omega (arith, length-drop from s))
-      ∙ ap (drop from) (sym (take-all to s (omega arith)))
-
-  pub part-none : length (take to s) < from → [] ≡ slice from to s
-  part-none h = let g : length (take to s) ≤ from = omega arith in sym (drop-of-length-le (take to s) g)
-
-  pub part-past : length s < from → [] ≡ slice from to s
-  part-past h = part-none (omega (arith, length-take to s))
-
-  pub part-back : to < from → to ≤ length s → [] ≡ slice from to s
-  part-back h g = part-none (omega (arith, length-take to s))

@@ -6,7 +6,6 @@ use mathlib.Core.Logic.{_≢_}
 use Prim.Native.Nat.{ℕ, zero, suc, _+_, _-_, _/_, _%_, _≤_, _<_, zero-le}
 use native.Mathlib.Nat.{zero-add, suc-add}
 use native.Mathlib.Omega.{arith}
-use native.Mathlib.Decide.{decLe}
 use lib.ListN.{length, getD, take, drop, drop-of-length-le, length-drop, length-take, length-append}
 use lib.Seq.{slice, drop-drop, take-append-add, drop-append-add, take-all}
 use borrow.Author.Tests.{eq-eqb, ne-eqb}
@@ -18,33 +17,12 @@ use Rattle.characters.specs.Chars.{NextChar}
 use Rattle.characters.specs.declared.utf8.Char.{Char}
 use Rattle.characters.proofs.Chars as firsts
 use Rattle.characters.proofs.Decoding as decoding
-use Rattle.text.proofs.Parts.{part-take, part-length}
+use Rattle.text.proofs.Parts.{part-take}
 use Rattle.text.proofs.Pasting.{pasted-none, pasted-then}
 use Rattle.text.proofs.Spans.{span-le, span-stop, span-go, span-append}
 use Rattle.characters.proofs.Spelling.{Begins, Leads, next-begins, leads, none-spells, one-text}
 use Rattle.written.specs.Runs.{isOwn, Roomy, CharsPut}
 use Rattle.written.proofs.Putting.{kept}
-
--- ---- the part of a text as a slice of its own
-
-pub part-empty : (a b : ℕ) (s : List ℕ) (n : ℕ) → n ≡ length (slice a b s) → n ≡ 0 → [] ≡ slice a b s
-part-empty a b s n e f = go (slice a b s) (sym e ∙ f)
-  where
-    go : (l : List ℕ) → length l ≡ 0 → [] ≡ l
-    go [] h = refl
-    go (x ∷ l) h = absurd (omega arith)
-
-pub part-some : (a b : ℕ) (s : List ℕ) (n : ℕ) → n ≡ length (slice a b s) → n ≢ 0 → a + n ≤ length s
-part-some a b s n e f = omega (arith, part-length a b s)
-
-pub part-is : (a b : ℕ) (s : List ℕ) (n : ℕ) → n ≡ length (slice a b s) → n ≢ 0 → take (a + n - a) (drop a s) ≡ slice a b s
-part-is a b s n e f =
-    let q : a + n - a ≡ n = omega arith in
-    ap (λ (x : ℕ). take x (drop a s)) q ∙ sym (part-take a n s) ∙ ap (drop a) (go (decLe b (length s)))
-  where
-    go : Dec (b ≤ length s) → take (a + n) s ≡ take b s
-    go (yes h) = let q : a + n ≡ b = omega (arith, part-length a b s) in ap (λ (x : ℕ). take x s) q
-    go (no h) = take-all (a + n) s (omega (arith, part-length a b s)) ∙ sym (take-all b s (omega arith))
 
 -- ---- bytes that are no ampersand
 
