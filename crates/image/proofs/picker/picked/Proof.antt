@@ -48,8 +48,8 @@ returns-2 c =
 head-requires : tie.Need-head-requires
 head-requires c κs = search needs
 
-add-part : tie.Need-add-part
-add-part c =
+add-part-of : tie.Need-add-part-of
+add-part-of c =
     let g = c .before .before .before .before .before .before .before .before .args in
     omega (arith, c .head .ensures, head-small (g .rows .now) (g .row), find-within (g .rows .now) (itemEnd (g .rows .now) (g .run .now)) (g .run .now) (g .row) (g .n) (c .before .before .find .result) (c .before .before .find .ensures))
 
@@ -79,7 +79,7 @@ picked-spec =
     part-result-end-2
     returns-2
     head-requires
-    add-part
+    add-part-of
     item-end-requires
     part-of-requires
     returns-3)
