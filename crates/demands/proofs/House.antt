@@ -28,7 +28,7 @@ use Rattle.image.proofs.Lawful.{lawful}
 use Rattle.image.proofs.Images.{told}
 use Rattle.demands.specs.Instance.{houseTypes, houseKinds}
 use Rattle.demands.specs.File.{File, imageOf}
-use Rattle.demands.specs.Checks.{Checks}
+use Rattle.demands.specs.Checks.{Checks, Finds}
 use Rattle.demands.proofs.One.{content-one, answers-one}
 use Rattle.demands.proofs.Accepted as general
 use Rattle.demands.proofs.Images as images
@@ -83,6 +83,13 @@ one-content = content-one houseKinds spelling house house-well
 -- only one answer fits, and one buffer
 pub checks-one : (s d : List ℕ) (a b : Answer) (x z : List ℕ) → Checks s d a x → Checks s d b z → (a ≡ b) × (x ≡ z)
 checks-one = answers-one houseKinds spelling house house-well
+
+-- only one answer fits a file alone
+pub finds-one : (s : List ℕ) (a b : Answer) → Finds s a → Finds s b → a ≡ b
+finds-one s a b p q =
+    let x = p .roomy s (omega arith) in
+    let z = q .roomy s (omega arith) in
+    checks-one s s a b (x .0) (z .0) (x .1) (z .1) .0
 
 module _ (s d : List ℕ) (a : Answer) (d′ : List ℕ) (p : Checks s d a d′) where
   -- every refusal leaves every byte

@@ -34,3 +34,8 @@ module _ (k : Kinds) (l : Listing) where
 -- with document 01's types and its house list
 abbrev pub Checks : List ℕ → List ℕ → Answer → List ℕ → Type 0
 Checks s d a d′ = Answers houseKinds house s d a d′
+
+-- what check answers to every buffer that is as long as the file or longer. No image of the house list is longer than its file, so that 14 is none of these:
+-- the answer is one of 1 to 13, or 0 with the image's length
+pub record Finds (s : List ℕ) (a : Answer) : Type 0 where
+  pub roomy : (d : List ℕ) → length s ≤ length d → (d′ : List ℕ) × Checks s d a d′

@@ -44,11 +44,12 @@ use Rattle.walk.proofs.Known.{less-is, is-open, close-end, blanks-less, Went, k
 use Rattle.image.specs.Image.{header}
 use Rattle.demands.specs.Instance.{Kinds}
 use Rattle.unit.specs.declared.fill.Spot.{Spot}
-use Rattle.unit.specs.Measured.{verdict}
-use Rattle.unit.specs.Pass.{Puts, Shuts, spotAt, Comes, Passes, violates, holds}
-use Rattle.unit.proofs.PassLeaf.{opens-group, opens-leaf, shuts-group}
-use Rattle.unit.proofs.PassEnd.{isFine}
-use Rattle.unit.proofs.PassGoing.{isRefused, apart, row-byte, Going, begun, begin-opened, goes-first, at-most, steps, step-enters, step-leaves, step-ends, goes-in, goes-out, bad-value, ends-in}
+use Rattle.measure.specs.Measured.{verdict}
+use Rattle.measure.specs.Pass.{Puts, Shuts, Passes, violates, holds}
+use Rattle.unit.specs.Fill.{spotAt, Comes}
+use Rattle.measure.proofs.Leaf.{opens-group, opens-leaf, shuts-group}
+use Rattle.measure.proofs.End.{isFine}
+use Rattle.measure.proofs.Going.{isRefused, apart, row-byte, Going, begun, begin-opened, goes-first, at-most, steps, step-enters, step-leaves, step-ends, goes-in, goes-out, bad-value, ends-in}
 
 -- a stack to begin with: the walk asks of it only that it has room
 room : List ℕ

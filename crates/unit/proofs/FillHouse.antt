@@ -27,10 +27,11 @@ use Rattle.image.specs.Image.{header}
 use Rattle.demands.specs.Instance.{houseKinds}
 use Rattle.demands.proofs.House.{spelling}
 use Rattle.unit.specs.declared.fill.Spot.{Spot}
-use Rattle.unit.specs.Measured.{verdict, Faultless}
-use Rattle.unit.specs.Pass.{Puts, Shuts, Ready, spotAt, Comes, FilledIn}
-use Rattle.unit.proofs.PassCoin.{coins}
-use Rattle.unit.proofs.PassEnd.{filled-of}
+use Rattle.measure.specs.Measured.{verdict, Faultless}
+use Rattle.measure.specs.Pass.{Puts, Shuts, Ready}
+use Rattle.unit.specs.Fill.{spotAt, Comes, FilledIn}
+use Rattle.measure.proofs.Coin.{coins}
+use Rattle.measure.proofs.End.{filled-of}
 use Rattle.unit.proofs.FillGoing.{Writing, first-spot, tag-in, place-low, same-room, spot-ends, out-less, spot-out, comes, row-low, in-less, spot-in, close-in, leaf-less, spot-past}
 
 module _ (t pool s : List ℕ) where

@@ -7,20 +7,6 @@ pub mod Exporting
 pub mod Picking
 -- what the programs need of check's answers
 pub mod Programs
--- bytes put one behind the other
-pub mod PassPuts
--- where a pass stands, and what each step adds
-pub mod PassGoing
--- what is put at the beginning and at the end of an element
-pub mod PassLeaf
--- the bytes of a leaf's value
-pub mod PassValue
--- what a whole pass says
-pub mod PassEnd
--- a currency by its raw bytes
-pub mod PassCoin
--- a pass with document 01's types
-pub mod PassHouse
 -- where the pass that writes stands, and what each turn adds
 pub mod FillGoing
 -- the same with document 01's types

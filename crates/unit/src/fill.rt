@@ -30,8 +30,9 @@ ghost use Rattle.list.specs.Listing.{child};
 ghost use Rattle.list.specs.Table.{cell, wordsIn, listOf};
 ghost use Rattle.walk.specs.Tables.{isGroupIn};
 ghost use Rattle.demands.specs.Instance.{houseKinds};
-ghost use Rattle.unit.specs.Measured.{Faultless};
-ghost use Rattle.unit.specs.Pass.{Puts, Worded, Valued, spotAt, roundIn, Comes, Shuts, Ready, FilledIn};
+ghost use Rattle.measure.specs.Measured.{Faultless};
+ghost use Rattle.measure.specs.Pass.{Puts, Worded, Valued, Shuts, Ready};
+ghost use Rattle.unit.specs.Fill.{spotAt, roundIn, Comes, FilledIn};
 
 // `KTO`, version 1 in 16 bits, and the root's row byte.
 const HEAD: [u8; 6] = [75, 84, 79, 0, 1, 1];

@@ -1,70 +1,55 @@
--- `check::check` meets its contract: codes 1, 2 and 3 in turn, then the message. Assumes nothing.
+-- `check::check` meets its contract, from what measuring told and what the pass that writes left. Assumes nothing.
 use borrow.Author.Needs.{needs}
 use Rattle.unit.proofs.check.check.Statement.{statement}
 use Rattle.unit.proofs.check.check.Tie as tie
 use native.Mathlib.Omega.{arith}
-use Rattle.house.specs.House.{house}
-use Rattle.demands.specs.Instance.{houseKinds}
-use Rattle.demands.proofs.Saying.{all-utf8, says-long, says-bytes}
-use Rattle.unit.proofs.Checking.{says-markup, is-whole}
+use Rattle.unit.proofs.Checking.{refused, no-room, may-fill, filled}
 
-too-long-requires : tie.Need-too-long-requires
-too-long-requires c κs = search needs
+measure-requires : tie.Need-measure-requires
+measure-requires c κs = search needs
 
 returns : tie.Need-returns
 returns c =
-    says-long houseKinds house _ _ _ (omega (arith, c .before .if1 .taken)) (c .too-long .ensures)
+    refused _ _ (c .before .before .measure .ensures) (omega (arith, c .if1 .taken)) _
 
-utf8-end-requires : tie.Need-utf8-end-requires
-utf8-end-requires c κs = search needs
-
-not-utf8-requires : tie.Need-not-utf8-requires
-not-utf8-requires c κs = search needs
+no-room-requires : tie.Need-no-room-requires
+no-room-requires c κs = search needs
 
 returns-2 : tie.Need-returns-2
 returns-2 c =
-    says-bytes houseKinds house _ _ _ (omega (arith, c .before .before .before .if1 .left)) _ (c .before .before .utf8-end .ensures) (omega (arith, c .before .if2 .taken)) (c .not-utf8 .ensures)
+    no-room _ _ (c .before .before .before .before .before .measure .ensures) (omega (arith, c .before .before .before .if1 .left)) _ _ (omega (arith, c .before .if2 .taken)) (c .no-room .ensures)
 
-scan-requires : tie.Need-scan-requires
-scan-requires c κs = search needs
+rows-requires : tie.Need-rows-requires
+rows-requires c κs = search needs
 
-enum-known-n : tie.Need-enum-known-n
-enum-known-n c = search needs
+pool-requires : tie.Need-pool-requires
+pool-requires c κs = search needs
 
-not-house-xml-requires : tie.Need-not-house-xml-requires
-not-house-xml-requires c κs = search needs
+fill-requires : tie.Need-fill-requires
+fill-requires c κs =
+    may-fill _ _ (c .before .before .before .before .before .before .before .before .before .measure .ensures) (omega (arith, c .before .before .before .before .before .before .before .if1 .left)) _ _ (c .before .before .before .before .rows .ensures) (c .before .before .before .pool .ensures)
 
-enum-told : tie.Need-enum-told
-enum-told c = search needs
-
-message-requires : tie.Need-message-requires
-message-requires c κs =
-    is-whole _ (omega (arith, c .before .before .before .before .before .before .if1 .left)) (all-utf8 _ _ (c .before .before .before .before .before .utf8-end .ensures) (omega (arith, c .before .before .before .before .if2 .left))) (c .before .before .before .scan .result) (c .before .before .before .scan .ensures) (c .before .enum-told .given .1)
-
-returns-3 : tie.Need-returns-3
-returns-3 c =
-    says-markup houseKinds house _ _ _ (omega (arith, c .before .before .before .before .before .before .before .if1 .left)) (all-utf8 _ _ (c .before .before .before .before .before .before .utf8-end .ensures) (omega (arith, c .before .before .before .before .before .if2 .left))) (c .before .before .before .before .scan .result) (c .before .before .before .before .scan .ensures) _ (c .before .before .n .given .1) (c .not-house-xml .ensures)
+accepted-requires : tie.Need-accepted-requires
+accepted-requires c κs = search needs
 
 same-length : tie.Need-same-length
 same-length c = search needs
 
-returns-4 : tie.Need-returns-4
-returns-4 c = search needs
+returns-3 : tie.Need-returns-3
+returns-3 c =
+    filled _ _ (c .before .before .before .before .before .before .before .before .before .before .before .before .before .measure .ensures) (omega (arith, c .before .before .before .before .before .before .before .before .before .before .before .if1 .left)) _ _ (c .before .before .before .before .before .before .before .before .rows .ensures) (c .before .before .before .before .before .before .before .pool .ensures) _ _ _ (omega (arith, c .before .before .before .before .before .before .before .before .before .if2 .left)) (c .before .before .before .fill .ensures) (c .accepted .ensures)
 
 pub check-spec : {M : Type 1} → statement M
 check-spec =
     tie.close
     (tie.spec
-    too-long-requires
+    measure-requires
     returns
-    utf8-end-requires
-    not-utf8-requires
+    no-room-requires
     returns-2
-    scan-requires
-    enum-known-n
-    not-house-xml-requires
-    enum-told
-    message-requires
-    returns-3
+    rows-requires
+    pool-requires
+    fill-requires
+    accepted-requires
     same-length
-    returns-4)
+    returns-3)

@@ -6,8 +6,8 @@ use mathlib.Core.Path.{refl, sym, ap, _∙_}
 use mathlib.Core.Bool.{false}
 use Rattle.walk.specs.Tables.{isGroupIn}
 use Rattle.written.proofs.Theorems.{bytes-some}
-use Rattle.unit.proofs.PassLeaf.{shuts-none, shuts-some}
-use Rattle.unit.proofs.PassValue.{leaf-kind}
+use Rattle.measure.proofs.Leaf.{shuts-none, shuts-some}
+use Rattle.measure.proofs.Value.{leaf-kind}
 
 cast-place : tie.Need-cast-place
 cast-place c = search needs

@@ -2,7 +2,7 @@
 use borrow.Author.Needs.{needs}
 use Rattle.unit.proofs.fill.put_word.Statement.{statement}
 use Rattle.unit.proofs.fill.put_word.Tie as tie
-use Rattle.unit.proofs.PassValue.{worded-none, worded-far, worded-some}
+use Rattle.measure.proofs.Value.{worded-none, worded-far, worded-some}
 
 word-place-requires : tie.Need-word-place-requires
 word-place-requires c κs = search needs

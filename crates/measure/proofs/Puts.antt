@@ -8,7 +8,7 @@ use Rattle.text.specs.Pasting.{pasted}
 use Rattle.text.specs.Numbers.{bigEndian}
 use Rattle.image.specs.Image.{header}
 use Rattle.text.proofs.Pasting.{pasted-none, pasted-then, length-pasted}
-use Rattle.unit.specs.Pass.{Puts}
+use Rattle.measure.specs.Pass.{Puts}
 
 -- nothing
 pub puts-none : (d : List ℕ) (at : ℕ) → Puts d at [] at d

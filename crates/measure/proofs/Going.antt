@@ -45,10 +45,10 @@ use Rattle.walk.proofs.Turned.{Stands, Nested, Enters, Leaves, Ends, Turned, re
 use Rattle.image.specs.Image.{bytes, itemBytes, valueBytes, header, image}
 use Rattle.demands.specs.Instance.{Kinds, valuesOf}
 use Rattle.demands.specs.File.{imageOf}
-use Rattle.unit.specs.Measured.{verdict}
-use Rattle.unit.specs.Pass.{Puts, kindIn, Shut, Shuts, Opens, ItemPut, Passes, violates, holds}
-use Rattle.unit.proofs.PassCoin.{coin-is}
-use Rattle.unit.proofs.PassPuts.{puts-none, puts-pasted, puts-then, puts-as}
+use Rattle.measure.specs.Measured.{verdict}
+use Rattle.measure.specs.Pass.{Puts, kindIn, Shut, Shuts, Opens, ItemPut, Passes, violates, holds}
+use Rattle.measure.proofs.Coin.{coin-is}
+use Rattle.measure.proofs.Puts.{puts-none, puts-pasted, puts-then, puts-as}
 
 -- ---- what a step met
 

@@ -32,8 +32,8 @@ use Rattle.written.proofs.Putting.{text-long, natural-long, amount-long, day-lo
 use Rattle.written.proofs.Unique.{spelt-any, euro, euro-is}
 use Rattle.written.proofs.Theorems.{bytes-some, write-is, write-none, size-is, size-none}
 use Rattle.demands.specs.Instance.{houseKinds}
-use Rattle.unit.specs.Pass.{Puts, Worded, Shut, given, Valued}
-use Rattle.unit.proofs.PassPuts.{puts-none, puts-pasted, puts-as}
+use Rattle.measure.specs.Pass.{Puts, Worded, Shut, given, Valued}
+use Rattle.measure.proofs.Puts.{puts-none, puts-pasted, puts-as}
 
 -- ---- no value has many bytes
 

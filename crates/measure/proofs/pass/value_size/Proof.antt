@@ -1,9 +1,9 @@
 -- `pass::value_size` meets its contract. Assumes nothing.
 use borrow.Author.Needs.{needs}
-use Rattle.unit.proofs.pass.value_size.Statement.{statement}
-use Rattle.unit.proofs.pass.value_size.Tie as tie
+use Rattle.measure.proofs.pass.value_size.Statement.{statement}
+use Rattle.measure.proofs.pass.value_size.Tie as tie
 use mathlib.Core.Path.{refl}
-use Rattle.unit.proofs.PassValue.{valued-word, valued-counted}
+use Rattle.measure.proofs.Value.{valued-word, valued-counted}
 
 word-size-requires : tie.Need-word-size-requires
 word-size-requires c κs = search needs

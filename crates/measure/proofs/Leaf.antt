@@ -15,8 +15,8 @@ use Rattle.list.specs.Table.{cell, wordsIn}
 use Rattle.list.proofs.Codes.{group-is}
 use Rattle.walk.specs.Tables.{isGroupIn}
 use Rattle.demands.specs.Instance.{Kinds}
-use Rattle.unit.specs.Pass.{Puts, kindIn, given, Valued, ItemPut, Shuts, Opens}
-use Rattle.unit.proofs.PassPuts.{puts-none, puts-pasted, puts-then}
+use Rattle.measure.specs.Pass.{Puts, kindIn, given, Valued, ItemPut, Shuts, Opens}
+use Rattle.measure.proofs.Puts.{puts-none, puts-pasted, puts-then}
 
 -- the test of the code is that of the list
 module _ (t : List ℕ) (row q : ℕ) (e : q ≡ cell t row 2) (g : Bool) (f : g ≡ isGroupIn q) where

@@ -1,14 +1,14 @@
--- `pass::measure` meets its contract. Assumes nothing.
-use Rattle.unit.proofs.pass.measure.Statement.{statement}
-use Rattle.unit.proofs.pass.measure.Tie as tie
+-- `pass::found` meets its contract. Assumes nothing.
+use Rattle.measure.proofs.pass.found.Statement.{statement}
+use Rattle.measure.proofs.pass.found.Tie as tie
 use borrow.Author.Needs.{needs}
 use native.Mathlib.Omega.{arith}
 use mathlib.Core.Path.{refl}
 use mathlib.Core.List.{[]}
 use lib.ListN.{length}
 use Prim.Native.Nat.{_-_}
-use Rattle.unit.proofs.PassPuts.{head-nowhere, pasted-nowhere}
-use Rattle.unit.proofs.PassHouse.{GoingOn, begins-refused, begins-closed, begins, at-low, loop-refused, group-less, group-on, root-end, leaf-less, leaf-on, leaf-bad, measures}
+use Rattle.measure.proofs.Puts.{head-nowhere, pasted-nowhere}
+use Rattle.measure.proofs.House.{GoingOn, begins-refused, begins-closed, begins, at-low, loop-refused, group-less, group-on, root-end, leaf-less, leaf-on, leaf-bad, measures}
 
 abbrev Inv-loop : tie.InvT-loop
 Inv-loop rows pool s stack₀ here₀ at₀ stack here at = GoingOn rows pool s [] 6 [] stack here at
@@ -108,8 +108,8 @@ loop-again-2 : tie.Need-loop-again-2 Inv-loop μ-loop
 loop-again-2 c =
     leaf-on _ _ _ (c .before .before .before .before .before .before .before .before .before .before .before .before .before .before .before .before .before .before .before .before .before .before .pre) _ _ _ _ _ _ (c .before .before .before .before .before .before .before .before .before .before .before .before .before .before .loop .inv) _ (c .before .before .before .before .before .before .before .before .before .before .step .ensures .0) _ (c .before .before .before .before .before .before .before .before .before .before .step .ensures .1) (c .before .before .before .before .before .before .before .enum-told6 .given .1) (c .before .before .before .before .before .if1 .left) _ _ (c .before .before .leaf-end .ensures) (c .before .if2 .left)
 
-pub measure-spec : {M : Type 1} → statement M
-measure-spec =
+pub found-spec : {M : Type 1} → statement M
+found-spec =
     tie.close
     (tie.spec
     Inv-loop

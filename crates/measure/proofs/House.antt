@@ -19,12 +19,12 @@ use Rattle.walk.specs.Stride.{stepIn, stackIn}
 use Rattle.walk.specs.Begin.{beginIn}
 use Rattle.image.specs.Image.{header}
 use Rattle.demands.specs.Instance.{houseKinds}
-use Rattle.unit.specs.Measured.{verdict, Measured}
-use Rattle.unit.specs.Pass.{Puts, Opens, Shuts, Ready, Passes, Passed, FilledIn}
+use Rattle.measure.specs.Measured.{verdict, Measured}
+use Rattle.measure.specs.Pass.{Puts, Opens, Shuts, Ready, Passes, Passed}
 use Rattle.demands.proofs.House.{spelling}
-use Rattle.unit.proofs.PassCoin.{coins}
-use Rattle.unit.proofs.PassEnd.{says-of}
-use Rattle.unit.proofs.PassGoing.{Going, begun, begin-refused, begin-closed, begin-opened, goes-first, at-most, here-row, step-refused, step-enters, step-leaves, step-ends, enters-row, goes-in, goes-out, bad-value, ends-in}
+use Rattle.measure.proofs.Coin.{coins}
+use Rattle.measure.proofs.End.{says-of}
+use Rattle.measure.proofs.Going.{Going, begun, begin-refused, begin-closed, begin-opened, goes-first, at-most, here-row, step-refused, step-enters, step-leaves, step-ends, enters-row, goes-in, goes-out, bad-value, ends-in}
 
 module _ (t pool s : List ℕ) where
   -- where the pass stands, whatever says that the tables are sound and the text is house XML

@@ -1,9 +1,9 @@
 -- `pass::word_size` meets its contract. Assumes nothing.
 use borrow.Author.Needs.{needs}
-use Rattle.unit.proofs.pass.word_size.Statement.{statement}
-use Rattle.unit.proofs.pass.word_size.Tie as tie
-use Rattle.unit.proofs.PassPuts.{pasted-nowhere}
-use Rattle.unit.proofs.PassValue.{worded-none, worded-far, worded-some}
+use Rattle.measure.proofs.pass.word_size.Statement.{statement}
+use Rattle.measure.proofs.pass.word_size.Tie as tie
+use Rattle.measure.proofs.Puts.{pasted-nowhere}
+use Rattle.measure.proofs.Value.{worded-none, worded-far, worded-some}
 
 word-place-requires : tie.Need-word-place-requires
 word-place-requires c κs = search needs

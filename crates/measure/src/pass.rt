@@ -18,8 +18,8 @@ ghost use Prim.Native.Nat.{_≤_};
 ghost use lib.Seq.{slice};
 ghost use Rattle.list.specs.Table.{cell, wordsIn, listOf};
 ghost use Rattle.demands.specs.Instance.{houseKinds};
-ghost use Rattle.unit.specs.Measured.{verdict, Measured};
-ghost use Rattle.unit.specs.Pass.{WordSize, Sizes, Shuts, Opens, Ready};
+ghost use Rattle.measure.specs.Measured.{verdict, Measured};
+ghost use Rattle.measure.specs.Pass.{WordSize, Sizes, Shuts, Opens, Ready};
 
 // The place behind the item of a group of this row, which is its row byte; of a leaf the same place.
 fn group_end(rows: &[u16], row: usize, at: usize) -> usize
@@ -94,7 +94,7 @@ const HEAD: usize = 6;
 
 // From the root's tag to its end, one step after the other. No sum overflows: each step goes on in a text of at most 1,048,576 bytes, and
 // an item has at most 65,538. The tables are arrays here and not slices: where their lengths are known, each lookup has one bound less.
-pub(crate) fn measure(rows: &[u16; 928], pool: &[u8; 311], s: &[u8]) -> Verdict
+pub(crate) fn found(rows: &[u16; 928], pool: &[u8; 311], s: &[u8]) -> Verdict
     requires { ⌜ Ready (now rows) (now pool) (now s) ⌝ }
     ensures { λ v. ⌜ Measured houseKinds (listOf (now (rows .entry)) (now (pool .entry))) (now (s .entry)) v ⌝ }
 {

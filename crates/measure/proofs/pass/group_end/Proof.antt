@@ -1,10 +1,10 @@
 -- `pass::group_end` meets its contract. Assumes nothing.
 use borrow.Author.Needs.{needs}
-use Rattle.unit.proofs.pass.group_end.Statement.{statement}
-use Rattle.unit.proofs.pass.group_end.Tie as tie
+use Rattle.measure.proofs.pass.group_end.Statement.{statement}
+use Rattle.measure.proofs.pass.group_end.Tie as tie
 use mathlib.Core.Path.{refl}
-use Rattle.unit.proofs.PassPuts.{pasted-nowhere}
-use Rattle.unit.proofs.PassLeaf.{opens-group, opens-leaf}
+use Rattle.measure.proofs.Puts.{pasted-nowhere}
+use Rattle.measure.proofs.Leaf.{opens-group, opens-leaf}
 
 cell-requires : tie.Need-cell-requires
 cell-requires c κs = search needs

@@ -1,11 +1,11 @@
 -- `check::violation` meets its contract: the constructor of each code has its row and place. Assumes nothing.
 use borrow.Author.Needs.{needs}
-use Rattle.unit.proofs.check.violation.Statement.{statement}
-use Rattle.unit.proofs.check.violation.Tie as tie
+use Rattle.measure.proofs.violation.Statement.{statement}
+use Rattle.measure.proofs.violation.Tie as tie
 use mathlib.Core.Path.{_≡_, sym, _∙_, ap, ap₂}
 use Prim.Native.Nat.{ℕ}
 use Rattle.answer.specs.Table.{answer}
-use Rattle.unit.proofs.Checking.{last-code}
+use Rattle.measure.proofs.Saying.{last-code}
 
 wrong-root-requires : tie.Need-wrong-root-requires
 wrong-root-requires c κs = search needs

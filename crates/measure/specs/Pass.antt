@@ -23,8 +23,7 @@ use Rattle.walk.specs.First.{fine, found, firstViolation}
 use Rattle.walk.specs.Denotes.{Has}
 use Rattle.demands.specs.Instance.{Kinds}
 use Rattle.demands.specs.File.{imageOf}
-use Rattle.unit.specs.declared.fill.Spot.{Spot}
-use Rattle.unit.specs.Measured.{verdict, Message}
+use Rattle.measure.specs.Measured.{verdict, Message}
 
 -- bs stand in the buffer from `at` on where they fit in, and r is the place behind them; the buffer keeps its length
 pub record Puts (d : List ℕ) (at : ℕ) (bs : List ℕ) (r : ℕ) (d′ : List ℕ) : Type 0 where
@@ -90,21 +89,6 @@ module _ (k : Kinds) where
     pub group : (pool : List ℕ) → isGroup (kindIn t pool row) ≡ true → Puts d at (row ∷ []) r d′
     pub leaf : (pool : List ℕ) → isGroup (kindIn t pool row) ≡ false → Puts d at [] r d′
 
--- where the pass stands that writes
-abbrev pub spotAt : ℕ → ℕ → ℕ → Spot
-spotAt r q o = record { row = r; last = q; at = o }
-
--- a child of a row, and behind the last one (0) the first again
-abbrev pub roundIn : List ℕ → ℕ → ℕ → ℕ
-roundIn t row r = cond (eqb r 0) (cell t row 9) r
-
--- the group of this row has a child called n; its last child, 0 at first, is one of its own
-pub record Comes (t pool : List ℕ) (row last : ℕ) (n : List ℕ) : Type 0 where
-  pub sound : Sound t pool
-  pub within : row ≤ size (listOf t pool)
-  pub from : (last ≡ 0) ⊎ Child (listOf t pool) row last
-  pub its : Child (listOf t pool) row (child (listOf t pool) row n)
-
 -- what a pass asks: a well-formed list, and a file that codes 1 and 3 do not refuse
 pub record Ready (t pool s : List ℕ) : Type 0 where
   pub sound : Sound t pool
@@ -121,7 +105,3 @@ module _ (k : Kinds) (l : Listing) where
   -- the same of a text that is house XML
   abbrev pub Passed : List ℕ → List ℕ → Verdict → List ℕ → Type 0
   Passed s d v d′ = (x : HouseXml s) → Passes (messageOf (x .tree)) d v d′
-
-  -- the buffer d′ is d with the image at its start, where it fits in
-  abbrev pub FilledIn : List ℕ → List ℕ → List ℕ → Type 0
-  FilledIn s d d′ = (c : Content (k .types .A)) → Message k l s c → length (imageOf k l c) ≤ length d → d′ ≡ pasted d 0 (imageOf k l c)

@@ -15,9 +15,9 @@ use Rattle.walk.specs.First.{Found, fine, found}
 use Rattle.walk.proofs.Accept.{unique}
 use Rattle.demands.specs.Instance.{Kinds}
 use Rattle.demands.specs.File.{imageOf}
-use Rattle.unit.specs.Measured as measured
-use Rattle.unit.specs.Measured.{Says, Message}
-use Rattle.unit.specs.Pass.{Passes, violates, holds}
+use Rattle.measure.specs.Measured as measured
+use Rattle.measure.specs.Measured.{Says, Message}
+use Rattle.measure.specs.Pass.{Passes, violates, holds}
 
 abbrev pub isFine : Found → Bool
 isFine fine = true

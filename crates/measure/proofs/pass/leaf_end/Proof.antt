@@ -1,14 +1,14 @@
 -- `pass::leaf_end` meets its contract. Assumes nothing.
 use borrow.Author.Needs.{needs}
-use Rattle.unit.proofs.pass.leaf_end.Statement.{statement}
-use Rattle.unit.proofs.pass.leaf_end.Tie as tie
+use Rattle.measure.proofs.pass.leaf_end.Statement.{statement}
+use Rattle.measure.proofs.pass.leaf_end.Tie as tie
 use mathlib.Core.Path.{refl}
 use mathlib.Core.List.{[]}
 use native.Mathlib.Omega.{arith}
 use Rattle.written.proofs.Theorems.{bytes-some}
-use Rattle.unit.proofs.PassPuts.{pasted-nowhere}
-use Rattle.unit.proofs.PassLeaf.{shuts-group, shuts-none, shuts-some}
-use Rattle.unit.proofs.PassValue.{leaf-kind}
+use Rattle.measure.proofs.Puts.{pasted-nowhere}
+use Rattle.measure.proofs.Leaf.{shuts-group, shuts-none, shuts-some}
+use Rattle.measure.proofs.Value.{leaf-kind}
 
 cell-requires : tie.Need-cell-requires
 cell-requires c κs = search needs

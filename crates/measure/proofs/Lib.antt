@@ -1,0 +1,17 @@
+-- What the proofs of `measure` share.
+-- an answer, from what the calls told
+pub mod Saying
+-- bytes put one behind the other
+pub mod Puts
+-- where a pass stands, and what each step adds
+pub mod Going
+-- what is put at the beginning and at the end of an element
+pub mod Leaf
+-- the bytes of a leaf's value
+pub mod Value
+-- what a whole pass says
+pub mod End
+-- a currency by its raw bytes
+pub mod Coin
+-- a pass with document 01's types
+pub mod House

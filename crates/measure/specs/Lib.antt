@@ -1,0 +1,5 @@
+-- The definitions of `measure`; what it may answer is in `demands`.
+-- what the walk over the bytes says
+pub mod Measured
+-- one pass over a message, whether it counts or writes
+pub mod Pass
