@@ -5,8 +5,9 @@ use mathlib.Core.Logic.{_⊎_, inl, inr, _≢_}
 use mathlib.Core.List.{List, [], _∷_, _++_}
 use Prim.Native.Nat.{ℕ, _≤_, _<_}
 use native.Mathlib.Omega.{arith}
+use Rattle.text.specs.Bytes.{isUnmarked}
 use Rattle.text.specs.Lists.{All}
-use Rattle.characters.specs.Pieces.{XmlChar, low, Entity, amp, lt, gt, quot, apos, stands, Piece, char, entity, spell, spells, resolved, resolvedAll, GoodPiece, Spells, isUnmarked}
+use Rattle.characters.specs.Pieces.{XmlChar, low, Entity, amp, lt, gt, quot, apos, stands, Piece, char, entity, spell, spells, resolved, resolvedAll, GoodPiece, Spells}
 use Rattle.text.proofs.Classes.{Named, only, from, _or_, is-in}
 use Rattle.characters.proofs.Decoding.{encode1}
 use Rattle.characters.proofs.Spelling.{one-text}

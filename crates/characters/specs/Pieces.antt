@@ -1,11 +1,9 @@
 -- What text and attribute values are made of: XML 1.0 characters as they stand, and the five entities. Assumes nothing.
 use mathlib.Core.Path.{_≡_}
 use mathlib.Core.Logic.{_≢_}
-use mathlib.Core.Bool.{Bool, _||_}
 use mathlib.Core.List.{List, [], _∷_, _++_}
 use Prim.Native.Nat.{ℕ, _≤_}
-use lib.Dec.{eqb}
-use Rattle.text.specs.Bytes.{ascii, inRange}
+use Rattle.text.specs.Bytes.{ascii}
 use Rattle.text.specs.Lists.{Each}
 use Rattle.characters.specs.Utf8.{encode}
 
@@ -96,7 +94,3 @@ pub record Spells (s cs : List ℕ) : Type 0 where
   pub good : Each GoodPiece pieces
   pub is : s ≡ spells pieces
   pub chars : cs ≡ resolvedAll pieces
-
--- an ASCII character that is written in one way only: no blank, and none that an entity stands for
-unfoldable pub isUnmarked : ℕ → Bool
-isUnmarked x = eqb x 33 || inRange 35 37 x || inRange 40 59 x || eqb x 61 || inRange 63 126 x

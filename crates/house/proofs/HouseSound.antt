@@ -3,13 +3,12 @@ use mathlib.Core.Path.{_≡_, refl}
 use mathlib.Core.Bool.{true}
 use Prim.Native.Nat.{ℕ}
 use Rattle.text.specs.Lists.{same}
-use Rattle.text.specs.Bytes.{isCapital, isNameStart, isNamePart}
+use Rattle.text.specs.Bytes.{isCapital, isNameStart, isNamePart, isUnmarked}
 use Rattle.list.specs.Words.{firstFrom}
 use Rattle.list.specs.Listing.{Child, rowAt, nextDue}
 use Rattle.list.specs.WellFormed.{WellFormed}
 use Rattle.list.specs.Table.{cell, words, rowOf, rowsFrom, rulesFrom, listOf}
 use Rattle.list.specs.Sound.{nextChild, firstOf, secondOf, levelIn, Sound}
-use Rattle.characters.specs.Pieces.{isUnmarked}
 use Rattle.list.specs.Test.{every, begins, among, wordsOk, rowTests, ruleTests, derivedTests, well, derived, sound}
 use Rattle.list.specs.EachRow.{EachRow}
 use Rattle.list.proofs.EachRow.{each-row}

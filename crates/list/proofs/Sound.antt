@@ -9,7 +9,7 @@ use native.Mathlib.Decide.{ℕ-discrete}
 use lib.Dec.{eqb, ltb, leb}
 use lib.ListN.{length, getD}
 use borrow.Author.Tests.{eqb-true, eq-eqb, ne-eqb, ltb-true, leb-true, lt-leb, not-true, not-false}
-use Rattle.text.specs.Bytes.{inRange, isCapital, isNameStart, isNamePart}
+use Rattle.text.specs.Bytes.{inRange, isCapital, isNameStart, isNamePart, isUnmarked}
 use Rattle.text.specs.Lists.{Each, All, Begins, same}
 use Rattle.text.proofs.Classes.{and-is, or-is, or-not, in-range-is}
 use Rattle.list.specs.Words.{firstFrom}
@@ -17,7 +17,6 @@ use Rattle.list.specs.Listing.{Leaf, ref, iban, ccy, bool, num, amt, dat
 use Rattle.list.specs.WellFormed.{Fresh, Different, LeafOk, KindOk, BothOk, RuleOk, WellFormed}
 use Rattle.list.specs.Table.{listOf}
 use Rattle.list.specs.Sound.{nextChild, Derived, Sound}
-use Rattle.characters.specs.Pieces.{isUnmarked}
 use Rattle.list.specs.Test.{allOf, each, every, begins, among, wordsOk, leafOk, kindOk, isSequence, isAlternative, isOne, isOptional, countFits, isChild, rowTests, ruleTests, rulesOk, listTests, derivedTests, well, derived, sound}
 use Rattle.list.proofs.Tests.{clash, passed}
 use Rattle.list.proofs.Words.{same-of, firstFrom-none}

@@ -4,9 +4,8 @@ use mathlib.Core.List.{List, [], _∷_}
 use Prim.Native.Nat.{ℕ}
 use lib.Dec.{eqb, ltb, leb}
 use lib.ListN.{length}
-use Rattle.text.specs.Bytes.{inRange, isCapital, isNameStart, isNamePart}
+use Rattle.text.specs.Bytes.{inRange, isCapital, isNameStart, isNamePart, isUnmarked}
 use Rattle.text.specs.Lists.{same}
-use Rattle.characters.specs.Pieces.{isUnmarked}
 use Rattle.list.specs.Words.{firstFrom}
 use Rattle.list.specs.Listing.{Leaf, ref, iban, ccy, bool, num, amt, date, dtm, txt, enum, Kind, group, choice, leaf, Count, one, optional, some, any, alternative, Rule, both, Listing, size, rowAt, isGroup, nextDue, up}
 use Rattle.list.specs.Table.{cell, listOf}

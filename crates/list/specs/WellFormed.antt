@@ -5,9 +5,8 @@ use mathlib.Core.Logic.{_≢_}
 use mathlib.Core.List.{List, [], _∷_}
 use Prim.Native.Nat.{ℕ, _≤_, _<_}
 use lib.ListN.{length}
-use Rattle.text.specs.Bytes.{isCapital, isNameStart, isNamePart}
+use Rattle.text.specs.Bytes.{isCapital, isNameStart, isNamePart, isUnmarked}
 use Rattle.text.specs.Lists.{Each, All, Begins}
-use Rattle.characters.specs.Pieces.{isUnmarked}
 use Rattle.list.specs.Listing.{Leaf, ref, iban, ccy, bool, num, amt, date, dtm, txt, enum, Kind, group, choice, leaf, Count, one, optional, alternative, Rule, both, Listing, size, rowAt, Child, isGroup, isChoice, up}
 
 -- a text that is none of those

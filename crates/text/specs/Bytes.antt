@@ -36,3 +36,7 @@ isNameStart x = inRange 65 90 x || inRange 97 122 x || eqb x 95
 -- ".. then letters, digits, `.`, `-`, `_`"
 unfoldable pub isNamePart : ℕ → Bool
 isNamePart x = inRange 65 90 x || inRange 97 122 x || inRange 48 57 x || eqb x 46 || eqb x 45 || eqb x 95
+
+-- an ASCII character that is written in one way only: no blank, and none that an entity stands for
+unfoldable pub isUnmarked : ℕ → Bool
+isUnmarked x = eqb x 33 || inRange 35 37 x || inRange 40 59 x || eqb x 61 || inRange 63 126 x

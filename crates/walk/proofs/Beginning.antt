@@ -10,9 +10,9 @@ use lib.Dec.{eqb}
 use lib.ListN.{length, length-append}
 use lib.Seq.{slice}
 use borrow.Author.Tests.{eq-eqb, ne-eqb, lt-ltb}
-use Rattle.text.specs.Bytes.{ascii}
+use Rattle.text.specs.Bytes.{ascii, isUnmarked}
 use Rattle.text.specs.Lists.{All, same}
-use Rattle.characters.specs.Pieces.{Piece, Spells, isUnmarked}
+use Rattle.characters.specs.Pieces.{Piece, Spells}
 use Rattle.characters.proofs.Unmarked.{unmarked-same}
 use Rattle.list.specs.Listing.{Listing, isGroup}
 use Rattle.list.specs.WellFormed.{WellFormed}

@@ -8,9 +8,9 @@ use lib.Dec.{eqb}
 use lib.ListN.{length, getD}
 use lib.Seq.{slice}
 use borrow.Author.Tests.{eqb-true, eq-eqb, ne-eqb}
-use Rattle.text.specs.Bytes.{ascii, isCapital}
+use Rattle.text.specs.Bytes.{ascii, isCapital, isUnmarked}
 use Rattle.text.specs.Lists.{All, same}
-use Rattle.characters.specs.Pieces.{Spells, isUnmarked}
+use Rattle.characters.specs.Pieces.{Spells}
 use Rattle.text.proofs.Classes.{and-is, capital, is-in, yes}
 use Rattle.characters.proofs.Unmarked.{unmarked, unmarked-is, unmarked-same}
 use Rattle.list.specs.Listing.{ccy, rowAt}
