@@ -1,13 +1,14 @@
 -- The place of a word among words. Assumes nothing.
 use mathlib.Core.Path.{_≡_, refl, sym, _∙_, ap}
-use mathlib.Core.Bool.{true, false}
+use mathlib.Core.Bool.{Bool, true, false, cond}
 use mathlib.Core.List.{List, [], _∷_}
-use Prim.Native.Nat.{ℕ, zero, suc, _+_, _<_}
+use Prim.Native.Nat.{ℕ, zero, suc, _+_, _≤_, _<_}
 use native.Mathlib.Omega.{arith}
 use lib.ListN.{length, getD}
+use borrow.Author.Tests.{le-leb, lt-leb}
 use Rattle.text.specs.Lists.{Each, same}
 use Rattle.list.specs.WellFormed.{Different}
-use Rattle.list.specs.Table.{placeFrom, placeIn}
+use Rattle.list.specs.Table.{byteOf, placeFrom, placeIn}
 use Rattle.list.proofs.Tests.{byCases}
 use Rattle.list.proofs.Words.{same-eq, same-of}
 
@@ -64,3 +65,11 @@ module _ (w : List ℕ) where
 
   pub place-is : (ws : List (List ℕ)) → Different ws → (k : ℕ) → k < length ws → getD ws k [] ≡ w → placeIn ws w ≡ suc k
   place-is ws d k b g = only 1 ws d k b g ∙ omega arith
+
+-- ---- a place as one byte
+
+pub byte-near : (n m : ℕ) → n ≡ m → n ≤ 255 → n ≡ byteOf m
+byte-near n m e h = sym (ap byteOf (sym e) ∙ ap (λ (b : Bool). cond b n 0) (le-leb n 255 h))
+
+pub byte-far : (n m : ℕ) → n ≡ m → 255 < n → 0 ≡ byteOf m
+byte-far n m e h = sym (ap byteOf (sym e) ∙ ap (λ (b : Bool). cond b n 0) (lt-leb n 255 h))

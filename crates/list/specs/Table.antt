@@ -40,6 +40,10 @@ placeFrom i (v ∷ vs) w = cond (same v w) i (placeFrom (suc i) vs w)
 abbrev pub placeIn : List (List ℕ) → List ℕ → ℕ
 placeIn ws w = placeFrom 1 ws w
 
+-- a place as one byte; 0 where no byte has it
+abbrev pub byteOf : ℕ → ℕ
+byteOf n = cond (leb n 255) n 0
+
 -- counts and kinds in the order of their numbers
 abbrev pub counts : List Count
 counts = one ∷ optional ∷ some ∷ any ∷ []

@@ -9,7 +9,7 @@ ghost use Prim.Native.Nat.{_+_, _≤_};
 ghost use lib.ListN.{length};
 ghost use lib.Seq.{slice};
 ghost use Rattle.text.specs.Lists.{span};
-ghost use Rattle.list.specs.Table.{placeIn, wordsIn};
+ghost use Rattle.list.specs.Table.{byteOf, placeIn, wordsIn};
 ghost use Rattle.list.specs.Lookup.{notSpace};
 
 // Where the word that starts at `i` ends: at the next space, and at `end` where there is none.
@@ -45,4 +45,15 @@ pub fn word_place(rows: &[u16], pool: &[u8], r: usize, s: &[u8], a: usize, b: us
         i = j + 1;
         place += 1;
     }
+}
+
+// That place as the byte of an image; 0 also where no byte has it, which no well-formed list makes happen.
+pub fn word_byte(rows: &[u16], pool: &[u8], r: usize, s: &[u8], a: usize, b: usize) -> u8
+    ensures { λ x. ⌜ x ≡ byteOf (placeIn (wordsIn (now (rows .entry)) (now (pool .entry)) r) (slice a b (now (s .entry)))) ⌝ }
+{
+    let place = word_place(rows, pool, r, s, a, b);
+    if 255 < place {
+        return 0;
+    }
+    place as u8
 }

@@ -17,8 +17,8 @@ use Rattle.text.proofs.Pasting.{length-pasted}
 use Rattle.characters.proofs.Spelling.{one-text}
 use Rattle.list.specs.Listing.{Leaf, ref, enum, Kind, group, choice, leaf, isGroup}
 use Rattle.list.specs.WellFormed.{LeafOk}
-use Rattle.list.specs.Table.{cell, placeIn, kindOf, wordsIn}
-use Rattle.list.proofs.Places.{place-found, place-none}
+use Rattle.list.specs.Table.{cell, byteOf, placeIn, kindOf, wordsIn}
+use Rattle.list.proofs.Places.{place-found, place-none, byte-near}
 use Rattle.types.specs.Code.{Ccy, WordAt}
 use Rattle.types.specs.Kind.{code, Given}
 use Rattle.types.specs.Value.{Value, text, place, Form, reference, writing, account, currency, listed, either, count, money, dated, timed, Spelt, bytes}
@@ -232,27 +232,23 @@ module _ (t pool : List ℕ) (row q : ℕ) (e : q ≡ cell t row 2) (cur raw d :
 
 -- ---- a word
 
-module _ (wl : List (List ℕ)) (raw d : List ℕ) (at word : ℕ) (e : word ≡ placeIn wl raw) where
+module _ (wl : List (List ℕ)) (raw d : List ℕ) (at word : ℕ) (e : word ≡ byteOf (placeIn wl raw)) where
+  -- a place that a byte has is that byte
+  word-is : (p : ℕ) → placeIn wl raw ≡ p → p ≤ 255 → word ≡ p
+  word-is p h l = e ∙ sym (byte-near p (placeIn wl raw) (sym h) l)
+
   pub worded-none : word ≡ 0 → Worded wl raw d at 0 d
   worded-none z = record {
     most = omega arith;
     long = refl;
     none = λ h. record { behind = omega arith; long = refl; is = puts-none d at .is };
-    some = λ p h l. absurd (omega (arith, e, z, h));
-  }
-
-  pub worded-far : 255 < word → Worded wl raw d at 0 d
-  worded-far z = record {
-    most = omega arith;
-    long = refl;
-    none = λ h. absurd (omega (arith, e, z, h));
-    some = λ p h l. absurd (omega (arith, e, z, h, l));
+    some = λ p h l. absurd (omega (arith, z, word-is (suc p) h (omega (arith, l))));
   }
 
   pub worded-some : word ≢ 0 → (d′ : List ℕ) → d′ ≡ pasted d at (word ∷ []) → Worded wl raw d at 1 d′
   worded-some z d′ f = record {
     most = omega arith;
     long = ap length f ∙ length-pasted d at (word ∷ []);
-    none = λ h. absurd (z (e ∙ h));
-    some = λ p h l. puts-pasted d at (suc p ∷ []) 1 d′ refl (f ∙ ap (λ (n : ℕ). pasted d at (n ∷ [])) (e ∙ h));
+    none = λ h. absurd (z (word-is 0 h (omega arith)));
+    some = λ p h l. puts-pasted d at (suc p ∷ []) 1 d′ refl (f ∙ ap (λ (n : ℕ). pasted d at (n ∷ [])) (word-is (suc p) h (omega (arith, l))));
   }

@@ -4,7 +4,7 @@ use list::lookup::cell;
 use list::table::ENUM;
 use list::table::KIND;
 use list::table::MOST;
-use list::word::word_place;
+use list::word::word_byte;
 use walk::begin::begin;
 use walk::step::Here;
 use walk::step::Met;
@@ -36,12 +36,7 @@ fn group_end(rows: &[u16], row: usize, at: usize) -> usize
 fn word_size(rows: &[u16], pool: &[u8], s: &[u8], row: usize, a: usize, b: usize) -> usize
     ensures { λ n. ⌜ WordSize (wordsIn (now (rows .entry)) (now (pool .entry)) row) (slice a b (now (s .entry))) n ⌝ }
 {
-    let word = word_place(rows, pool, row, s, a, b);
-    if word == 0 {
-        return 0;
-    }
-    // No well-formed list has so many words.
-    if 255 < word {
+    if word_byte(rows, pool, row, s, a, b) == 0 {
         return 0;
     }
     1

@@ -8,7 +8,7 @@ use list::table::KIND;
 use list::table::MOST;
 use list::table::PARENT;
 use list::table::SIBLING;
-use list::word::word_place;
+use list::word::word_byte;
 use tags::skim::Tag;
 use tags::skim::close_end;
 use tags::skim::is_close;
@@ -58,15 +58,11 @@ fn put_word(
 ) -> usize
     ensures { λ n. ⌜ Worded (wordsIn (now (rows .entry)) (now (pool .entry)) row) (slice a b (now (s .entry))) (now (out .entry)) at n (now (out .exit)) ⌝ }
 {
-    let word = word_place(rows, pool, row, s, a, b);
+    let word = word_byte(rows, pool, row, s, a, b);
     if word == 0 {
         return 0;
     }
-    // No well-formed list has so many words.
-    if 255 < word {
-        return 0;
-    }
-    place(out, at, word as u8);
+    place(out, at, word);
     1
 }
 

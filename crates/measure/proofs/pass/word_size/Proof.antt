@@ -3,22 +3,18 @@ use borrow.Author.Needs.{needs}
 use Rattle.measure.proofs.pass.word_size.Statement.{statement}
 use Rattle.measure.proofs.pass.word_size.Tie as tie
 use Rattle.measure.proofs.Puts.{pasted-nowhere}
-use Rattle.measure.proofs.Value.{worded-none, worded-far, worded-some}
+use Rattle.measure.proofs.Value.{worded-none, worded-some}
 
-word-place-requires : tie.Need-word-place-requires
-word-place-requires c κs = search needs
+word-byte-requires : tie.Need-word-byte-requires
+word-byte-requires c κs = search needs
 
 returns : tie.Need-returns
 returns c =
-    λ at. worded-none _ _ _ at _ (c .before .word-place .ensures) (c .if1 .taken)
+    λ at. worded-none _ _ _ at _ (c .before .word-byte .ensures) (c .if1 .taken)
 
 returns-2 : tie.Need-returns-2
 returns-2 c =
-    λ at. worded-far _ _ _ at _ (c .before .before .word-place .ensures) (c .if2 .taken)
-
-returns-3 : tie.Need-returns-3
-returns-3 c =
-    λ at. worded-some _ _ _ at _ (c .before .before .word-place .ensures) (c .before .if1 .left) _ (pasted-nowhere _ _)
+    λ at. worded-some _ _ _ at _ (c .before .word-byte .ensures) (c .if1 .left) _ (pasted-nowhere _ _)
 
 pub word-size-spec : {M : Type 1} → statement M
-word-size-spec = tie.close (tie.spec word-place-requires returns returns-2 returns-3)
+word-size-spec = tie.close (tie.spec word-byte-requires returns returns-2)
