@@ -11,8 +11,8 @@ use Rattle.xml.specs.Auto.{At, done, start, root, St, dead, at, next}
 use Rattle.xml.proofs.Theorem.{longest-one}
 use Rattle.scan.specs.Goes.{fate, Goes}
 use Rattle.scan.specs.Right.{Right}
-use Rattle.scan.specs.declared.Went.{Went}
-use Rattle.scan.specs.declared.Went.the-variants.{On, Stopped}
+use Rattle.pieces.specs.declared.Went.{Went}
+use Rattle.pieces.specs.declared.Went.the-variants.{On, Stopped}
 use Rattle.scan.specs.declared.Scanned.{Scanned}
 use Rattle.scan.specs.declared.Scanned.the-variants.{Whole, Stops}
 use Rattle.scan.proofs.Fate.{fate-done, fate-dead, run-behind, run-over, whole, stopped}

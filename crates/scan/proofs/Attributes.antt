@@ -13,11 +13,14 @@ use Rattle.text.specs.Bytes.{isBlank}
 use Rattle.text.specs.Lists.{span}
 use Rattle.xml.specs.House.{Quote, single, double, mark}
 use Rattle.xml.specs.Auto.{Part, Read, bad, all, more, lead, go-on, At, tail, equals, quote, value, within, St, dead, at, valueNext, next}
-use Rattle.scan.specs.Goes.{fate, Goes, hosted, Hosts, GoesPiece, Marked, GoesValue, GoesEquals}
-use Rattle.scan.specs.declared.Went.{Went}
-use Rattle.scan.specs.declared.Went.the-variants.{On, Stopped}
+use Rattle.scan.specs.Goes.{fate, Goes, Marked, GoesValue, GoesEquals}
+use Rattle.pieces.specs.Over.{Over}
+use Rattle.pieces.specs.Kinds.{IsPiece}
+use Rattle.pieces.specs.declared.Went.{Went}
+use Rattle.pieces.specs.declared.Went.the-variants.{On, Stopped}
 use Rattle.scan.proofs.Fate.{fate-end, fate-dead, fate-byte, run-within, run-behind, run-over}
-use Rattle.scan.proofs.Goes.{goes-after, goes-byte, goes-then, goes-stop}
+use Rattle.scan.proofs.Passed.{hosted, Hosts, piece-goes}
+use Rattle.scan.proofs.Goes.{goes-after, goes-byte, goes-stop}
 
 -- either quote
 pub a-mark : (x : ℕ) → OneOf (34 ∷ 39 ∷ []) x → Marked x
@@ -93,11 +96,11 @@ module _ (s : List ℕ) (o m i : ℕ) (a : Marked m) (v : Valuing s o m i) where
           v .so q k ss d n ns e ∙ fate-byte s i (value q k ss d n ns) (tail k ss d n ns) h (value-ends q k ss d n ns (getD s i 0) (f ∙ sym e)),
         )
 
-    module _ (f : getD s i 0 ≢ m) (r : Went) (g : GoesPiece s i r) where
+    module _ (f : getD s i 0 ≢ m) (r : Went) (g : Over IsPiece (drop i s) i r) where
       goes : (q : Quote) (k : ℕ) (ss : List (List ℕ)) (d : ℕ) (n : List ℕ) (ns : List (List ℕ)) → mark q ≡ m
           → Goes s i (value q k ss d n ns) (value q k ss d n ns) r
       goes q k ss d n ns e =
-          g (value q k ss d n ns) (λ p. within p q k ss d n ns) (value q k ss d n ns) (value-hosts q k ss d n ns)
+          piece-goes s i r h g (value q k ss d n ns) (λ p. within p q k ss d n ns) (value q k ss d n ns) (value-hosts q k ss d n ns)
           (value-piece q k ss d n ns (getD s i 0) (λ t. f (t ∙ e)))
 
       pub value-stop : (n : ℕ) → r ≡ Stopped n → GoesValue s o m (Stopped n)

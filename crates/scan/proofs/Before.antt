@@ -14,10 +14,13 @@ use Rattle.text.specs.Lists.{span}
 use Rattle.text.specs.Words.{starts}
 use Rattle.text.proofs.Parts.{starts-is, starts-not}
 use Rattle.xml.specs.Auto.{At, start, first, before, root, declare, St, dead, at, declareNext, next}
-use Rattle.scan.specs.Goes.{fate, Goes, Literal, Spelled}
-use Rattle.scan.specs.declared.Went.{Went}
-use Rattle.scan.specs.declared.Went.the-variants.{On, Stopped}
+use Rattle.scan.specs.Goes.{fate, Goes}
+use Rattle.pieces.specs.Over.{Over}
+use Rattle.pieces.specs.Kinds.{IsWord}
+use Rattle.pieces.specs.declared.Went.{Went}
+use Rattle.pieces.specs.declared.Went.the-variants.{On, Stopped}
 use Rattle.scan.proofs.Fate.{fate-end, fate-dead, fate-byte, fate-alike, run-within, run-behind, run-over}
+use Rattle.scan.proofs.Passed.{Literal, Spelled, word-spelled}
 use Rattle.scan.proofs.Goes.{goes-after}
 
 -- ---- the automaton at a byte before the first element
@@ -72,9 +75,6 @@ module _ (s : List ℕ) (i b : ℕ) (is : b ≡ i + span isBlank (drop i s)) (h 
 
 -- ---- no declaration
 
-opener : List ℕ
-opener = 60 ∷ 63 ∷ []
-
 pair-is : (s : List ℕ) → 1 < length s → getD s 0 0 ≡ 60 → getD s 1 0 ≡ 63 → s ≡ 60 ∷ 63 ∷ drop 2 s
 pair-is [] h e f = absurd (omega arith)
 pair-is (x ∷ []) h e f = absurd (omega arith)
@@ -102,7 +102,7 @@ module _ (s : List ℕ) (e : starts (60 ∷ 63 ∷ []) s ≡ true) where
   is : s ≡ 60 ∷ 63 ∷ drop 2 s
   is = starts-is (60 ∷ 63 ∷ []) s e
 
-  pub opener-within : 2 ≤ length s
+  opener-within : 2 ≤ length s
   opener-within = omega (arith, ap length is)
 
   opened : fate s 0 start ≡ fate s 2 (declareNext (ascii "xml version=\"1.0\" encoding=\"UTF-8\"?>"))
@@ -111,16 +111,16 @@ module _ (s : List ℕ) (e : starts (60 ∷ 63 ∷ []) s ≡ true) where
       fate-byte s 0 start first (omega arith) (start-less (getD s 0 0) (ap (λ (l : List ℕ). getD l 0 0) is))
       ∙ fate-byte s 1 first (declareNext (ascii "xml version=\"1.0\" encoding=\"UTF-8\"?>")) (omega arith) (first-question (getD s 1 0) (ap (λ (l : List ℕ). getD l 1 0) is))
 
-  module _ (q : Went) (g : Spelled s 2 (ascii "xml version=\"1.0\" encoding=\"UTF-8\"?>") q) where
+  module _ (q : Went) (g : Over (IsWord (ascii "xml version=\"1.0\" encoding=\"UTF-8\"?>")) (drop 2 s) 2 q) where
+    spelled : (r : Went) → q ≡ r → Spelled s 2 (ascii "xml version=\"1.0\" encoding=\"UTF-8\"?>") r
+    spelled r w = subst (Spelled s 2 (ascii "xml version=\"1.0\" encoding=\"UTF-8\"?>")) w (word-spelled s 2 (ascii "xml version=\"1.0\" encoding=\"UTF-8\"?>") q opener-within g)
+
     pub declared-stop : (p : ℕ) → q ≡ Stopped p → Goes s 0 start root (Stopped p)
-    declared-stop p w = opened ∙ subst (Spelled s 2 (ascii "xml version=\"1.0\" encoding=\"UTF-8\"?>")) w g declareNext declare-literal
+    declared-stop p w = opened ∙ spelled (Stopped p) w declareNext declare-literal
 
     module _ (j : ℕ) (w : q ≡ On j) where
-      spelled : Spelled s 2 (ascii "xml version=\"1.0\" encoding=\"UTF-8\"?>") (On j)
-      spelled = subst (Spelled s 2 (ascii "xml version=\"1.0\" encoding=\"UTF-8\"?>")) w g
-
       pub declared-within : j ≤ length s
-      declared-within = spelled .1
+      declared-within = spelled (On j) w .1
 
       pub declared-on : (r : Went) → Goes s j before root r → Goes s 0 start root r
-      declared-on r k = goes-after s 0 start j before root r (omega arith) (opened ∙ spelled .2 declareNext declare-literal) k
+      declared-on r k = goes-after s 0 start j before root r (omega arith) (opened ∙ spelled (On j) w .2 declareNext declare-literal) k

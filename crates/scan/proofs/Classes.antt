@@ -7,25 +7,27 @@ use Prim.Native.Nat.{ℕ, zero, suc, _+_, _≤_, _<_}
 use native.Mathlib.Omega.{arith}
 use lib.Dec.{T, leb, ltb, eqb}
 use native.Mathlib.Decide.{decLt}
-use lib.ListN.{length, getD, List·getD-eq-default}
-use borrow.Author.Tests.{lt-ltb, le-ltb, ltb-true, eqb-true, not-true}
+use lib.ListN.{length, getD, drop, List·getD-eq-default}
+use borrow.Author.Tests.{ltb-true, eqb-true, not-true}
 use Rattle.text.specs.Bytes.{isBlank, isNamePart}
 use Rattle.xml.specs.Auto.{Read, bad, all, more, lead}
 use Rattle.xml.proofs.Jump.{Easy}
 use Rattle.text.proofs.Classes.{Class, only, from, _or_, Within, Named, is-in, and-is, not-so, every, passes, blank, name-part}
+use Rattle.text.specs.Lists.{span}
+use Rattle.pieces.specs.Kinds as looked
 use Rattle.scan.specs.Classes.{isPlain, classOf, above, Classed}
 
--- ---- a byte that was looked up
+-- ---- runs that were looked up
 
-module _ (t : List ℕ) (c : Classed t) (level w x : ℕ) (e : w ≡ x) where
-  looked : getD t w 0 ≡ classOf x
-  looked = ap (λ (k : ℕ). getD t k 0) e ∙ c .is x
+span-as : (p q : ℕ → Bool) → ((x : ℕ) → p x ≡ q x) → (t : List ℕ) → span p t ≡ span q t
+unfolding span
+span-as p q f [] = refl
+span-as p q f (x ∷ t) = rw (f x, span-as p q f t) refl
 
-  pub above-no : getD t w 0 ≤ level → above level x ≡ false
-  above-no h = le-ltb level (classOf x) (omega (arith, looked))
-
-  pub above-yes : level < getD t w 0 → above level x ≡ true
-  above-yes h = lt-ltb level (classOf x) (omega (arith, looked))
+pub run-is : (table : List ℕ) → Classed table → (level : ℕ) (s : List ℕ) (i r : ℕ)
+    → r ≡ i + span (looked.above table level) (drop i s) → r ≡ i + span (above level) (drop i s)
+run-is table c level s i r e =
+    e ∙ ap (λ (n : ℕ). i + n) (span-as (looked.above table level) (above level) (λ x. ap (ltb level) (c .is x)) (drop i s))
 
 -- ---- names
 

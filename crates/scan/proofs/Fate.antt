@@ -21,15 +21,15 @@ pair e f = ap₂ (λ (b : Bool) (k : ℕ). (b, k)) e f
 
 -- ---- one byte
 
-comes-none : (i : ℕ) (a : At) → mayEnd a ≡ false → comes [] i a ≡ (false, i)
+pub comes-none : (i : ℕ) (a : At) → mayEnd a ≡ false → comes [] i a ≡ (false, i)
 unfolding comes run liveLen
 comes-none i a e = pair e (add-zero i)
 
-comes-dead : (x : ℕ) (t : List ℕ) (i : ℕ) (a : At) → next a x ≡ dead → comes (x ∷ t) i a ≡ (false, i)
+pub comes-dead : (x : ℕ) (t : List ℕ) (i : ℕ) (a : At) → next a x ≡ dead → comes (x ∷ t) i a ≡ (false, i)
 unfolding comes run liveLen step
 comes-dead x t i a e = pair (ap (λ (z : St). ends (run z t)) e ∙ ap ends (dead-run t)) (rw e (add-zero i))
 
-comes-byte : (x : ℕ) (t : List ℕ) (i : ℕ) (a b : At) → next a x ≡ at b → comes (x ∷ t) i a ≡ comes t (i + 1) b
+pub comes-byte : (x : ℕ) (t : List ℕ) (i : ℕ) (a b : At) → next a x ≡ at b → comes (x ∷ t) i a ≡ comes t (i + 1) b
 unfolding comes run liveLen step
 comes-byte x t i a b e = pair (ap (λ (z : St). ends (run z t)) e) (rw e (omega arith))
 

@@ -7,8 +7,8 @@ use native.Mathlib.Omega.{arith}
 use lib.ListN.{length, getD}
 use Rattle.xml.specs.Auto.{At, at, next}
 use Rattle.scan.specs.Goes.{fate, Goes}
-use Rattle.scan.specs.declared.Went.{Went}
-use Rattle.scan.specs.declared.Went.the-variants.{On, Stopped}
+use Rattle.pieces.specs.declared.Went.{Went}
+use Rattle.pieces.specs.declared.Went.the-variants.{On, Stopped}
 use Rattle.scan.proofs.Fate.{fate-byte}
 
 module _ (s : List ℕ) (i : ℕ) (a : At) where
@@ -20,13 +20,6 @@ module _ (s : List ℕ) (i : ℕ) (a : At) where
   -- over a byte first
   pub goes-byte : (b c : At) (r : Went) → i < length s → next a (getD s i 0) ≡ at b → Goes s (i + 1) b c r → Goes s i a c r
   goes-byte b c r h e g = goes-after (i + 1) b c r (omega arith) (fate-byte s i a b h e) g
-
-  -- a construct first, which ended before e
-  pub goes-then : (b c : At) (q r : Went) (e : ℕ) → Goes s i a b q → q ≡ On e → Goes s e b c r → Goes s i a c r
-  goes-then b c q r e g f k =
-      let w : Goes s i a b (On e) = subst (λ (z : Went). Goes s i a b z) f g in
-      let l = w .0 in
-      goes-after e b c r (omega arith) (w .2) k
 
   -- a construct first, which stopped at n
   pub goes-stop : (b : At) (q : Went) (n : ℕ) → Goes s i a b q → q ≡ Stopped n → fate s i a ≡ (false, n)

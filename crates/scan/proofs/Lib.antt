@@ -3,12 +3,10 @@
 pub mod Fate
 -- constructs one after the other
 pub mod Goes
--- given bytes
-pub mod Words
+-- what the functions of `pieces` say of the automaton
+pub mod Passed
 -- the table of classes
 pub mod Classes
--- characters and entities
-pub mod Pieces
 -- text between tags
 pub mod Text
 -- attributes

@@ -14,16 +14,19 @@ use Rattle.text.specs.Lists.{span}
 use Rattle.text.proofs.Parts.{part-take}
 use Rattle.xml.specs.Auto.{At, done, root, name, tail, content, less, close, St, dead, at, after, push, next}
 use Rattle.scan.specs.Classes.{above, Classed}
-use Rattle.scan.specs.Goes.{fate, Goes, Literal, Spelled, GoesText}
+use Rattle.scan.specs.Goes.{fate, Goes, GoesText}
 use Rattle.scan.specs.Tags.{names, Held, Turns, GoesTag, begun, Opens, inside, marked, Nested, Steps, GoesStart, GoesClose}
-use Rattle.scan.specs.declared.Went.{Went}
-use Rattle.scan.specs.declared.Went.the-variants.{On as Over, Stopped}
+use Rattle.pieces.specs.Over.{Over as Passes}
+use Rattle.pieces.specs.Kinds.{IsWord}
+use Rattle.pieces.specs.declared.Went.{Went}
+use Rattle.pieces.specs.declared.Went.the-variants.{On as Over, Stopped}
 use Rattle.scan.specs.declared.tag.Tag.{Tag}
 use Rattle.scan.specs.declared.tag.Tag.the-variants.{Open, Empty, Stopped as Cut}
 use Rattle.scan.specs.declared.elements.Step.{Step}
 use Rattle.scan.specs.declared.elements.Step.the-variants.{On, Stopped as Halted}
 use Rattle.scan.proofs.Classes.{above-name}
 use Rattle.scan.proofs.Fate.{fate-end, fate-dead, fate-byte, fate-alike, fate-grow, run-within, run-behind, run-over}
+use Rattle.scan.proofs.Passed.{Literal, Spelled, word-spelled}
 use Rattle.scan.proofs.Names.{names-top, names-push, held-push, held-pop, slice-run}
 
 -- ---- the automaton at a byte of a tag
@@ -125,7 +128,10 @@ module _ (s : List ℕ) (i n : ℕ) (f t : List ℕ) where
 
 -- ---- an end tag behind its `</`
 
-module _ (s : List ℕ) (i : ℕ) (w : List ℕ) (q : Went) (g : Spelled s i w q) where
+module _ (s : List ℕ) (i : ℕ) (w : List ℕ) (h : i ≤ length s) (q : Went) (o : Passes (IsWord w) (drop i s) i q) where
+  g : Spelled s i w q
+  g = word-spelled s i w q h o
+
   pub close-stop : (p : ℕ) → q ≡ Stopped p → GoesClose s i w (Stopped p)
   close-stop p e = λ d ns. subst (Spelled s i w) e g (λ l. close l d ns) (close-literal d ns)
 

@@ -19,8 +19,8 @@ use Rattle.xml.proofs.Basics.{blank-no-start}
 use Rattle.scan.specs.Classes.{above}
 use Rattle.scan.specs.Goes.{fate, Goes, GoesEquals}
 use Rattle.scan.specs.Tags.{names, Held, Turns, GoesAttribute, GoesEnd, GoesTag}
-use Rattle.scan.specs.declared.Went.{Went}
-use Rattle.scan.specs.declared.Went.the-variants.{On, Stopped}
+use Rattle.pieces.specs.declared.Went.{Went}
+use Rattle.pieces.specs.declared.Went.the-variants.{On, Stopped}
 use Rattle.scan.specs.declared.tag.Tag.{Tag}
 use Rattle.scan.specs.declared.tag.Tag.the-variants.{Open, Empty, Stopped as Halted}
 use Rattle.scan.proofs.Classes.{above-name}

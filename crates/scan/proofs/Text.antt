@@ -1,25 +1,31 @@
 -- Text between tags. Assumes nothing.
 use mathlib.Core.Path.{_≡_, refl, sym, _∙_, ap, subst}
-use mathlib.Core.Bool.{Bool, true, false, cond, _&&_}
+use mathlib.Core.Bool.{Bool, true, false, cond, not, _&&_}
 use mathlib.Core.Logic.{_≢_}
 use mathlib.Core.List.{List, [], _∷_, _++_}
 use Prim.Native.Nat.{ℕ, zero, suc, _+_, _-_, _≤_, _<_}
+use native.Mathlib.Decide.{decLt}
 use native.Mathlib.Omega.{arith}
 use lib.Dec.{leb, eqb}
 use lib.ListN.{length, getD, drop, take, length-append, length-drop}
 use lib.Seq.{length-take-le}
-use borrow.Author.Tests.{eq-eqb, ne-eqb, le-leb, lt-leb, eqb-true}
+use borrow.Author.Tests.{eq-eqb, ne-eqb, le-leb, leb-true, eqb-true}
 use Rattle.text.specs.Lists.{span}
-use Rattle.text.proofs.Spans.{span-le}
+use Rattle.text.proofs.Classes.{and-is}
+use Rattle.text.proofs.Spans.{span-le, span-go}
 use Rattle.xml.specs.Auto.{Part, Read, bad, all, more, lead, go-on, At, content, part, less, St, dead, at, contentNext, next}
 use Rattle.xml.proofs.Jump.{Easy, easy-next}
 use Rattle.scan.specs.Classes.{above}
-use Rattle.scan.specs.Goes.{isBracket, fate, Goes, hosted, Hosts, GoesPiece, GoesOther, GoesText}
-use Rattle.scan.specs.declared.Went.{Went}
-use Rattle.scan.specs.declared.Went.the-variants.{On, Stopped}
+use Rattle.scan.specs.Goes.{fate, Goes, GoesOther, GoesText}
+use Rattle.pieces.specs.Over.{Over}
+use Rattle.pieces.specs.Kinds.{IsPiece, isBracket, goesOn, overRow}
+use Rattle.pieces.specs.declared.Went.{Went}
+use Rattle.pieces.specs.declared.Went.the-variants.{On, Stopped}
 use Rattle.scan.proofs.Classes.{above-easy}
 use Rattle.scan.proofs.Fate.{fate-end, fate-dead, fate-byte, fate-alike, fate-grow, run-within, run-behind, run-over}
-use Rattle.scan.proofs.Goes.{goes-after, goes-then, goes-stop}
+use Rattle.pieces.proofs.Rows.{row-is, row-next, row-end}
+use Rattle.scan.proofs.Passed.{hosted, Hosts, piece-goes}
+use Rattle.scan.proofs.Goes.{goes-after, goes-stop}
 
 and-no : (u : Bool) → (u && false) ≡ false
 and-no true = refl
@@ -80,11 +86,13 @@ module _ (s : List ℕ) (i e : ℕ) (is : e ≡ i + span isBracket (drop i s)) (
           let l : suc (length m) ≡ length (m ++ (x ∷ [])) = omega (arith, length-append m (x ∷ [])) in
           content-bracket d n ns (length m) x t ∙ ap (λ (k : ℕ). at (content k d n ns)) l
 
-  pub row-cut : length s ≤ e → GoesOther s i (Stopped e)
+  row-cut : length s ≤ e → GoesOther s i (Stopped e)
   row-cut k = λ d n ns. row d n ns ∙ fate-end s e (content (e - i) d n ns) k refl
 
-  pub row-greater : e < length s → 1 < e - i → getD s e 0 ≡ 62 → GoesOther s i (Stopped e)
-  row-greater k l m = λ d n ns. row d n ns ∙ fate-dead s e (content (e - i) d n ns) k (content-cut d n ns (e - i) (getD s e 0) l m)
+  row-greater : e < length s → (eqb (getD s e 0) 62 && leb 2 (e - i)) ≡ true → GoesOther s i (Stopped e)
+  row-greater k l =
+      let w = and-is (eqb (getD s e 0) 62) (leb 2 (e - i)) l in
+      λ d n ns. row d n ns ∙ fate-dead s e (content (e - i) d n ns) k (content-cut d n ns (e - i) (getD s e 0) (leb-true 2 (e - i) (w .1)) (eqb-true (getD s e 0) 62 (w .0)))
 
   row-on : i < e → e < length s → (eqb (getD s e 0) 62 && leb 2 (e - i)) ≡ false → GoesOther s i (On e)
   row-on j k l =
@@ -95,19 +103,28 @@ module _ (s : List ℕ) (i e : ℕ) (is : e ≡ i + span isBracket (drop i s)) (
             (λ t. content-same d n ns (e - i) (getD s e 0) (run-behind isBracket s i e is h t) l),
       )
 
-  pub row-other : i < e → e < length s → getD s e 0 ≢ 62 → GoesOther s i (On e)
-  row-other j k l = row-on j k (rw (ne-eqb (getD s e 0) 62 l) refl)
+  row-over : i < e → GoesOther s i (overRow (drop i s) i)
+  row-over j = subst (GoesOther s i) (sym (row-is s i e is)) (go (decLt e (length s)))
+    where
+      by : (k : e < length s) (b : Bool) → (eqb (getD s e 0) 62 && leb 2 (e - i)) ≡ b → GoesOther s i (cond (not b) (On e) (Stopped e))
+      by k true l = row-greater k l
+      by k false l = row-on j k l
 
-  pub row-short : i < e → e < length s → e - i ≤ 1 → GoesOther s i (On e)
-  row-short j k l = row-on j k (rw (lt-leb 2 (e - i) (omega arith)) (and-no (eqb (getD s e 0) 62)))
+      go : Dec (e < length s) → GoesOther s i (cond (goesOn (e - i) (drop e s)) (On e) (Stopped e))
+      go (yes k) = subst (λ (b : Bool). GoesOther s i (cond b (On e) (Stopped e))) (sym (row-next s i e is k)) (by k (eqb (getD s e 0) 62 && leb 2 (e - i)) refl)
+      go (no k) = subst (λ (b : Bool). GoesOther s i (cond b (On e) (Stopped e))) (sym (row-end s i e is (omega arith))) (row-cut (omega arith))
 
 module _ (s : List ℕ) (i : ℕ) (h : i < length s) where
   pub other-greater : getD s i 0 ≡ 62 → GoesOther s i (On (i + 1))
   other-greater e = λ d n ns. (omega arith, omega arith, fate-byte s i (content 0 d n ns) (content 0 d n ns) h (content-greater d n ns (getD s i 0) e))
 
-  pub other-piece : getD s i 0 ≢ 60 → getD s i 0 ≢ 62 → getD s i 0 ≢ 93 → (r : Went) → GoesPiece s i r → GoesOther s i r
+  pub other-row : getD s i 0 ≡ 93 → (r : Went) → r ≡ overRow (drop i s) i → GoesOther s i r
+  other-row e r f =
+      subst (GoesOther s i) (sym f) (row-over s i (i + span isBracket (drop i s)) refl (omega arith) (omega (arith, span-go isBracket s i h (eq-eqb (getD s i 0) 93 e))))
+
+  pub other-piece : getD s i 0 ≢ 60 → getD s i 0 ≢ 62 → getD s i 0 ≢ 93 → (r : Went) → Over IsPiece (drop i s) i r → GoesOther s i r
   other-piece e f g r k =
-      λ d n ns. k (content 0 d n ns) (λ p. part p d n ns) (content 0 d n ns) (content-hosts d n ns) (content-piece d n ns (getD s i 0) e f g)
+      λ d n ns. piece-goes s i r h k (content 0 d n ns) (λ p. part p d n ns) (content 0 d n ns) (content-hosts d n ns) (content-piece d n ns (getD s i 0) e f g)
 
 -- ---- the loop over text
 

@@ -9,8 +9,8 @@ use Rattle.text.specs.Bytes.{isNameStart}
 use Rattle.xml.specs.Auto.{At, name, tail, gap, content, less, close, St, dead, at, after, next}
 use Rattle.scan.specs.Classes.{Classed}
 use Rattle.scan.specs.Goes.{mayEnd, fate, Goes}
-use Rattle.scan.specs.declared.Went.{Went}
-use Rattle.scan.specs.declared.Went.the-variants.{On as Over, Stopped as Cut}
+use Rattle.pieces.specs.declared.Went.{Went}
+use Rattle.pieces.specs.declared.Went.the-variants.{On as Over, Stopped as Cut}
 use Rattle.scan.specs.declared.tag.Tag.{Tag}
 use Rattle.scan.specs.declared.tag.Tag.the-variants.{Open, Empty, Stopped}
 use Rattle.scan.specs.declared.elements.Step.{Step}

@@ -1,7 +1,7 @@
 // An attribute, whose name is none of those before it.
-use crate::Went;
-use crate::piece::piece;
-use crate::run::run_end;
+use pieces::Went;
+use pieces::piece::piece;
+use pieces::run::run_end;
 use text::part::same_part;
 use text::span::blanks_end;
 ghost use mathlib.Core.Path.{_≡_};

@@ -1,45 +1,13 @@
 // Text between tags: "XML 1.0 characters without `<` and `]]>`".
-use crate::Went;
-use crate::piece::piece;
-use crate::run::run_end;
-ghost use mathlib.Core.Path.{_≡_};
-ghost use Prim.Native.Nat.{_+_, _≤_, _<_};
-ghost use lib.ListN.{length, getD, drop};
+use pieces::Went;
+use pieces::bracket::brackets;
+use pieces::piece::piece;
+use pieces::run::run_end;
+ghost use Prim.Native.Nat.{_≤_, _<_};
+ghost use lib.ListN.{length, getD};
 ghost use mathlib.Core.Logic.{_≢_};
-ghost use Rattle.text.specs.Lists.{span};
 ghost use Rattle.scan.specs.Classes.{Classed};
-ghost use Rattle.scan.specs.Goes.{isBracket, GoesText, GoesOther};
-
-// Where a row of `]` ends.
-fn brackets_end(s: &[u8], at: usize) -> usize
-    ensures { λ r. ⌜ r ≡ at + span isBracket (drop at (now (s .entry))) ⌝ }
-{
-    let mut i = at;
-    while i < s.len() {
-        if s[i] != b']' {
-            return i;
-        }
-        i += 1;
-    }
-    i
-}
-
-// Over a row of `]`, which stops at a `>` that follows two or more.
-fn brackets(s: &[u8], at: usize) -> Went
-    requires { ⌜ (at < length (now s)) × (getD (now s) at 0 ≡ 93) ⌝ }
-    ensures { λ r. ⌜ GoesOther (now (s .entry)) at r ⌝ }
-{
-    let end = brackets_end(s, at);
-    if s.len() <= end {
-        return Went::Stopped(end);
-    }
-    if 1 < end - at {
-        if s[end] == b'>' {
-            return Went::Stopped(end);
-        }
-    }
-    Went::On(end)
-}
+ghost use Rattle.scan.specs.Goes.{GoesText, GoesOther};
 
 // Over text and the `<` that ends it.
 pub(crate) fn text_end(s: &[u8], at: usize, classes: &[u8; 256]) -> Went

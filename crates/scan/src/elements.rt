@@ -1,10 +1,10 @@
 // Elements within elements: the names of those that are open stand from from[k] to to[k], the outermost first.
-use crate::Went;
 use crate::content::text_end;
-use crate::run::run_end;
 use crate::tag::Tag;
 use crate::tag::tag_rest;
-use crate::word::word;
+use pieces::Went;
+use pieces::run::run_end;
+use pieces::word::word;
 use text::class::is_name_start;
 use text::span::blanks_end;
 ghost use Prim.Native.Nat.{_≤_, _<_};

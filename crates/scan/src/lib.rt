@@ -1,8 +1,9 @@
 // Where a text stops being house XML. One pass over the bytes, no heap; a function for each construct, which goes over it by
 // spans and answers the place behind it, or the place at which no house XML text goes on.
 use elements::elements;
+use pieces::Went;
 use prolog::prolog;
-use run::CLASSES;
+use table::CLASSES;
 use text::span::blanks_end;
 ghost use Rattle.scan.specs.Classes.{Classed};
 ghost use Rattle.scan.specs.Right.{Right};
@@ -10,19 +11,9 @@ ghost use Rattle.scan.specs.Right.{Right};
 mod attribute; // attribute.rt: an attribute, whose name is none of those before it
 mod content; // content.rt: text between tags
 mod elements; // elements.rt: elements within elements
-mod piece; // piece.rt: a character or an entity
 mod prolog; // prolog.rt: what stands before the first element
-mod run; // run.rt: runs of bytes of one class
+mod table; // table.rt: the class of each byte
 mod tag; // tag.rt: what stands between `<` and `>`
-mod word; // word.rt: given bytes
-
-// What a function that goes over a construct answers.
-enum Went {
-    // The construct ends before this place.
-    On(usize),
-    // No house XML text goes on at this place.
-    Stopped(usize),
-}
 
 pub enum Scanned {
     // The text is house XML.

@@ -1,6 +1,6 @@
 // What stands before the one element.
-use crate::Went;
-use crate::word::word;
+use pieces::Went;
+use pieces::word::word;
 use text::part::begins;
 use text::span::blanks_end;
 ghost use Prim.Native.Nat.{_≤_};

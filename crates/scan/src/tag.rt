@@ -1,6 +1,6 @@
 // What follows the name in a start tag.
-use crate::Went;
 use crate::attribute::attribute;
+use pieces::Went;
 use text::class::is_name_start;
 use text::span::blanks_end;
 ghost use mathlib.Core.Path.{_≡_};

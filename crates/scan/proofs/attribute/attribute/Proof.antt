@@ -3,8 +3,10 @@ use borrow.Author.Needs.{needs}
 use Rattle.scan.proofs.attribute.attribute.Statement.{statement}
 use Rattle.scan.proofs.attribute.attribute.Tie as tie
 use mathlib.Core.Path.{sym, _∙_}
+use Prim.Native.Nat.{_+_}
 use native.Mathlib.Omega.{arith}
 use Rattle.scan.specs.Classes.{above}
+use Rattle.scan.proofs.Classes.{run-is}
 use Rattle.scan.proofs.Fate.{run-within}
 use Rattle.scan.proofs.Tags.{attribute-full, attribute-seen, attribute-new}
 
@@ -23,7 +25,7 @@ seen-requires c κs = search needs
 
 returns-2 : tie.Need-returns-2
 returns-2 c =
-    attribute-seen _ _ _ _ _ (c .before .before .before .before .before .before .before .pre .0) (c .before .before .before .before .before .before .before .pre .1) (omega arith) _ (c .before .before .before .before .run-end .ensures) (sym (c .before .seen .ensures) ∙ c .if2 .taken)
+    attribute-seen _ _ _ _ _ (c .before .before .before .before .before .before .before .pre .0) (c .before .before .before .before .before .before .before .pre .1) (omega arith) _ (run-is _ (c .before .before .before .before .before .before .before .pre .3) 1 (c .before .before .before .before .before .before .before .args .s .now) (c .before .before .before .before .before .before .before .args .at + 1) _ (c .before .before .before .before .run-end .ensures)) (sym (c .before .seen .ensures) ∙ c .if2 .taken)
 
 mul-from : tie.Need-mul-from
 mul-from c = search needs
@@ -39,11 +41,11 @@ element-write-to c = search needs
 
 equals-requires : tie.Need-equals-requires
 equals-requires c κs =
-    run-within (above 1) _ _ _ (c .before .before .before .before .run-end .ensures) (omega arith)
+    run-within (above 1) _ _ _ (run-is _ (c .before .before .before .before .before .before .before .pre .3) 1 (c .before .before .before .before .before .before .before .args .s .now) (c .before .before .before .before .before .before .before .args .at + 1) _ (c .before .before .before .before .run-end .ensures)) (omega arith)
 
 returns-3 : tie.Need-returns-3
 returns-3 c =
-    attribute-new _ _ _ _ _ (c .before .before .before .before .before .before .before .before .pre .0) (c .before .before .before .before .before .before .before .before .pre .1) (omega arith) _ (c .before .before .before .before .before .run-end .ensures) (c .before .before .before .before .before .before .before .before .pre .2) (sym (c .before .before .seen .ensures) ∙ c .before .if2 .left) (c .equals .result) (c .equals .ensures)
+    attribute-new _ _ _ _ _ (c .before .before .before .before .before .before .before .before .pre .0) (c .before .before .before .before .before .before .before .before .pre .1) (omega arith) _ (run-is _ (c .before .before .before .before .before .before .before .before .pre .3) 1 (c .before .before .before .before .before .before .before .before .args .s .now) (c .before .before .before .before .before .before .before .before .args .at + 1) _ (c .before .before .before .before .before .run-end .ensures)) (c .before .before .before .before .before .before .before .before .pre .2) (sym (c .before .before .seen .ensures) ∙ c .before .if2 .left) (c .equals .result) (c .equals .ensures)
 
 pub attribute-spec : {M : Type 1} → statement M
 attribute-spec =

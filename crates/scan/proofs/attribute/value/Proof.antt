@@ -30,8 +30,7 @@ returns c =
     value-quote _ _ _ _ (c .before .before .before .before .before .pre .1) (c .before .before .before .loop .inv) (c .before .before .loop-test .taken) (c .if1 .taken)
 
 piece-requires : tie.Need-piece-requires Inv-loop μ-loop
-piece-requires c κs =
-    c .before .before .loop-test .taken
+piece-requires c κs = search needs
 
 enum-known-n : tie.Need-enum-known-n Inv-loop μ-loop
 enum-known-n c =

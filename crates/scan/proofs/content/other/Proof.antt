@@ -2,7 +2,7 @@
 use borrow.Author.Needs.{needs}
 use Rattle.scan.proofs.content.other.Statement.{statement}
 use Rattle.scan.proofs.content.other.Tie as tie
-use Rattle.scan.proofs.Text.{other-greater, other-piece}
+use Rattle.scan.proofs.Text.{other-greater, other-row, other-piece}
 
 shared-slice-read-x : tie.Need-shared-slice-read-x
 shared-slice-read-x c = search needs
@@ -19,7 +19,7 @@ brackets-requires c κs = search needs
 
 returns-2 : tie.Need-returns-2
 returns-2 c =
-    c .brackets .ensures
+    other-row _ _ (c .before .before .before .before .before .pre .0) (c .before .if2 .taken) (c .brackets .result) (c .brackets .ensures)
 
 piece-requires : tie.Need-piece-requires
 piece-requires c κs = search needs

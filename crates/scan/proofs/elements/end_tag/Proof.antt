@@ -21,14 +21,14 @@ add-t14 c = search needs
 
 returns : tie.Need-returns
 returns c =
-    close-now _ _ _ (c .before .before .before .before .before .before .word .result) (c .before .before .before .before .before .before .word .ensures) _ (c .before .before .before .before .e .given .1) (c .before .before .if1 .taken) (c .if2 .taken)
+    close-now (c .before .before .before .before .before .before .before .before .before .args .s .now) (c .before .before .before .before .before .before .before .before .before .args .at) (c .before .before .before .before .before .before .before .before .before .args .w .now) (c .before .before .before .before .before .before .before .before .before .pre) (c .before .before .before .before .before .before .word .result) (c .before .before .before .before .before .before .word .ensures) _ (c .before .before .before .before .e .given .1) (c .before .before .if1 .taken) (c .if2 .taken)
 
 blanks-end-requires : tie.Need-blanks-end-requires
 blanks-end-requires c κs = search needs
 
 returns-2 : tie.Need-returns-2
 returns-2 c =
-    close-cut _ _ _ (c .before .before .before .before .before .before .word .result) (c .before .before .before .before .before .before .word .ensures) _ (c .before .before .before .before .e .given .1) _ (c .before .blanks-end .ensures) (c .if3 .taken)
+    close-cut (c .before .before .before .before .before .before .before .before .before .args .s .now) (c .before .before .before .before .before .before .before .before .before .args .at) (c .before .before .before .before .before .before .before .before .before .args .w .now) (c .before .before .before .before .before .before .before .before .before .pre) (c .before .before .before .before .before .before .word .result) (c .before .before .before .before .before .before .word .ensures) _ (c .before .before .before .before .e .given .1) _ (c .before .blanks-end .ensures) (c .if3 .taken)
 
 shared-slice-read-if4 : tie.Need-shared-slice-read-if4
 shared-slice-read-if4 c = search needs
@@ -38,15 +38,15 @@ add-t17 c = search needs
 
 returns-3 : tie.Need-returns-3
 returns-3 c =
-    close-end _ _ _ (c .before .before .before .before .before .before .before .before .word .result) (c .before .before .before .before .before .before .before .before .word .ensures) _ (c .before .before .before .before .before .before .e .given .1) _ (c .before .before .before .blanks-end .ensures) (c .before .before .if3 .left) (c .if4 .taken)
+    close-end (c .before .before .before .before .before .before .before .before .before .before .before .args .s .now) (c .before .before .before .before .before .before .before .before .before .before .before .args .at) (c .before .before .before .before .before .before .before .before .before .before .before .args .w .now) (c .before .before .before .before .before .before .before .before .before .before .before .pre) (c .before .before .before .before .before .before .before .before .word .result) (c .before .before .before .before .before .before .before .before .word .ensures) _ (c .before .before .before .before .before .before .e .given .1) _ (c .before .before .before .blanks-end .ensures) (c .before .before .if3 .left) (c .if4 .taken)
 
 returns-4 : tie.Need-returns-4
 returns-4 c =
-    close-stop _ _ _ (c .before .before .before .word .result) (c .before .before .before .word .ensures) _ (c .before .p .given .1)
+    close-stop (c .before .before .before .before .before .before .args .s .now) (c .before .before .before .before .before .before .args .at) (c .before .before .before .before .before .before .args .w .now) (c .before .before .before .before .before .before .pre) (c .before .before .before .word .result) (c .before .before .before .word .ensures) _ (c .before .p .given .1)
 
 returns-5 : tie.Need-returns-5
 returns-5 c =
-    close-other _ _ _ (c .before .before .before .before .before .before .before .before .word .result) (c .before .before .before .before .before .before .before .before .word .ensures) _ (c .before .before .before .before .before .before .e .given .1) _ (c .before .before .before .blanks-end .ensures) (c .before .before .if3 .left) (c .if4 .left)
+    close-other (c .before .before .before .before .before .before .before .before .before .before .before .args .s .now) (c .before .before .before .before .before .before .before .before .before .before .before .args .at) (c .before .before .before .before .before .before .before .before .before .before .before .args .w .now) (c .before .before .before .before .before .before .before .before .before .before .before .pre) (c .before .before .before .before .before .before .before .before .word .result) (c .before .before .before .before .before .before .before .before .word .ensures) _ (c .before .before .before .before .before .before .e .given .1) _ (c .before .before .before .blanks-end .ensures) (c .before .before .if3 .left) (c .if4 .left)
 
 pub end-tag-spec : {M : Type 1} → statement M
 end-tag-spec =

@@ -3,8 +3,10 @@ use borrow.Author.Needs.{needs}
 use Rattle.scan.proofs.elements.start_tag.Statement.{statement}
 use Rattle.scan.proofs.elements.start_tag.Tie as tie
 use mathlib.Core.Path.{sym, _∙_}
+use Prim.Native.Nat.{_+_}
 use native.Mathlib.Omega.{arith}
 use borrow.Author.Tests.{not-true, not-false}
+use Rattle.scan.proofs.Classes.{run-is}
 use Rattle.scan.proofs.Nesting.{start-cut, start-other, start-deep, name-within, start-stop, start-empty, start-open}
 
 returns : tie.Need-returns
@@ -33,7 +35,7 @@ run-end-requires c κs = search needs
 
 tag-rest-requires : tie.Need-tag-rest-requires
 tag-rest-requires c κs =
-    (name-within _ _ _ _ _ (c .before .before .before .before .before .if1 .left) (sym (c .before .before .before .is-name-start .ensures) ∙ not-false _ (c .before .before .if2 .left)) (c .before .before .before .before .before .before .before .pre .held) (omega arith) _ (c .run-end .ensures), c .before .before .before .before .before .before .before .pre .classed)
+    (name-within _ _ _ _ _ (c .before .before .before .before .before .if1 .left) (sym (c .before .before .before .is-name-start .ensures) ∙ not-false _ (c .before .before .if2 .left)) (c .before .before .before .before .before .before .before .pre .held) (omega arith) _ (run-is _ (c .before .before .before .before .before .before .before .pre .classed) 1 (c .before .before .before .before .before .before .before .args .s .now) (c .before .before .before .before .before .before .before .args .at + 1) _ (c .run-end .ensures)), c .before .before .before .before .before .before .before .pre .classed)
 
 enum-known-p : tie.Need-enum-known-p
 enum-known-p c = search needs
@@ -61,17 +63,17 @@ add-t18 c = search needs
 
 returns-4 : tie.Need-returns-4
 returns-4 c =
-    start-stop _ _ _ _ _ (c .before .before .before .before .before .before .before .before .before .if1 .left) (sym (c .before .before .before .before .before .before .before .is-name-start .ensures) ∙ not-false _ (c .before .before .before .before .before .before .if2 .left)) (c .before .before .before .before .before .before .before .before .before .before .before .pre .held) (omega arith) _ (c .before .before .before .before .run-end .ensures)
+    start-stop _ _ _ _ _ (c .before .before .before .before .before .before .before .before .before .if1 .left) (sym (c .before .before .before .before .before .before .before .is-name-start .ensures) ∙ not-false _ (c .before .before .before .before .before .before .if2 .left)) (c .before .before .before .before .before .before .before .before .before .before .before .pre .held) (omega arith) _ (run-is _ (c .before .before .before .before .before .before .before .before .before .before .before .pre .classed) 1 (c .before .before .before .before .before .before .before .before .before .before .before .args .s .now) (c .before .before .before .before .before .before .before .before .before .before .before .args .at + 1) _ (c .before .before .before .before .run-end .ensures))
     (c .before .before .before .tag-rest .result) (c .before .before .before .tag-rest .ensures) _ (c .before .p .given .1)
 
 returns-5 : tie.Need-returns-5
 returns-5 c =
-    start-empty _ _ _ _ _ (c .before .before .before .before .before .before .before .before .before .if1 .left) (sym (c .before .before .before .before .before .before .before .is-name-start .ensures) ∙ not-false _ (c .before .before .before .before .before .before .if2 .left)) (c .before .before .before .before .before .before .before .before .before .before .before .pre .held) (omega arith) _ (c .before .before .before .before .run-end .ensures)
+    start-empty _ _ _ _ _ (c .before .before .before .before .before .before .before .before .before .if1 .left) (sym (c .before .before .before .before .before .before .before .is-name-start .ensures) ∙ not-false _ (c .before .before .before .before .before .before .if2 .left)) (c .before .before .before .before .before .before .before .before .before .before .before .pre .held) (omega arith) _ (run-is _ (c .before .before .before .before .before .before .before .before .before .before .before .pre .classed) 1 (c .before .before .before .before .before .before .before .before .before .before .before .args .s .now) (c .before .before .before .before .before .before .before .before .before .before .before .args .at + 1) _ (c .before .before .before .before .run-end .ensures))
     (c .before .before .before .tag-rest .result) (c .before .before .before .tag-rest .ensures) _ (c .before .i .given .1)
 
 returns-6 : tie.Need-returns-6
 returns-6 c =
-    start-open _ _ _ _ _ (c .before .before .before .before .before .before .before .before .before .if1 .left) (sym (c .before .before .before .before .before .before .before .is-name-start .ensures) ∙ not-false _ (c .before .before .before .before .before .before .if2 .left)) (c .before .before .before .before .before .before .before .before .before .before .before .pre .held) (omega arith) _ (c .before .before .before .before .run-end .ensures)
+    start-open _ _ _ _ _ (c .before .before .before .before .before .before .before .before .before .if1 .left) (sym (c .before .before .before .before .before .before .before .is-name-start .ensures) ∙ not-false _ (c .before .before .before .before .before .before .if2 .left)) (c .before .before .before .before .before .before .before .before .before .before .before .pre .held) (omega arith) _ (run-is _ (c .before .before .before .before .before .before .before .before .before .before .before .pre .classed) 1 (c .before .before .before .before .before .before .before .before .before .before .before .args .s .now) (c .before .before .before .before .before .before .before .before .before .before .before .args .at + 1) _ (c .before .before .before .before .run-end .ensures))
     (c .before .before .before .tag-rest .result) (c .before .before .before .tag-rest .ensures) _ (c .before .i2 .given .1)
 
 pub start-tag-spec : {M : Type 1} → statement M

@@ -4,7 +4,7 @@ use Rattle.scan.proofs.prolog.prolog.Statement.{statement}
 use Rattle.scan.proofs.prolog.prolog.Tie as tie
 use mathlib.Core.Path.{sym, _∙_}
 use borrow.Author.Tests.{not-true, not-false}
-use Rattle.scan.proofs.Before.{prolog-plain, opener-within, declared-stop, declared-within, declared-on}
+use Rattle.scan.proofs.Before.{prolog-plain, declared-stop, declared-within, declared-on}
 
 slice-aggregate-begins : tie.Need-slice-aggregate-begins
 slice-aggregate-begins c = search needs
@@ -23,8 +23,7 @@ slice-aggregate-word : tie.Need-slice-aggregate-word
 slice-aggregate-word c = search needs
 
 word-requires : tie.Need-word-requires
-word-requires c κs =
-    opener-within _ (sym (c .before .before .begins .ensures) ∙ not-false _ (c .before .if1 .left))
+word-requires c κs = search needs
 
 enum-known-p : tie.Need-enum-known-p
 enum-known-p c = search needs
