@@ -1,13 +1,13 @@
 -- Characters that are written in one way only spell themselves. Assumes nothing.
 use mathlib.Core.Path.{_≡_, refl, sym, _∙_, ap, ap₂, subst}
-use mathlib.Core.Bool.{Bool, true, false, _||_, true≢false, false≢true}
-use mathlib.Core.Logic.{_⊎_, inl, inr, _≢_}
+use mathlib.Core.Bool.{true, false, true≢false}
+use mathlib.Core.Logic.{inl, inr, _≢_}
 use mathlib.Core.List.{List, [], _∷_, _++_}
-use Prim.Native.Nat.{ℕ, _≤_, _<_}
+use Prim.Native.Nat.{ℕ, _≤_}
 use native.Mathlib.Omega.{arith}
 use Rattle.text.specs.Bytes.{isUnmarked}
 use Rattle.text.specs.Lists.{All}
-use Rattle.characters.specs.Pieces.{XmlChar, low, Entity, amp, lt, gt, quot, apos, stands, Piece, char, entity, spell, spells, resolved, resolvedAll, GoodPiece, Spells}
+use Rattle.characters.specs.Pieces.{low, Entity, amp, lt, gt, quot, apos, stands, Piece, char, entity, spells, resolvedAll, Spells}
 use Rattle.text.proofs.Classes.{Named, only, from, _or_, is-in}
 use Rattle.characters.proofs.Decoding.{encode1}
 use Rattle.characters.proofs.Spelling.{one-text}

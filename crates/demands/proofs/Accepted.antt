@@ -1,19 +1,18 @@
 -- Demands 1 and 2 in their own words: a refusal leaves every byte; a file is accepted exactly when it is good and its image fits, and then the buffer
 -- begins with the image of its content and the rest stays. Assumes nothing.
-use mathlib.Core.Path.{_≡_, refl, sym, _∙_, ap, ap₂, subst}
+use mathlib.Core.Path.{_≡_, _∙_, ap, ap₂}
 use mathlib.Core.Logic.{_≢_, _↔_}
-use mathlib.Core.List.{List, [], _∷_, _++_}
-use Prim.Native.Nat.{ℕ, _≤_, _<_}
+use mathlib.Core.List.{List, _++_}
+use Prim.Native.Nat.{ℕ, _≤_}
 use native.Mathlib.Omega.{arith}
 use lib.ListN.{length, take, drop}
 use lib.Seq.{take-append-seam}
 use Rattle.answer.specs.declared.Answer.{Answer}
-use Rattle.answer.specs.Table.{answer, accepted, limit, tooLong, notUtf8, notHouseXml, noRoom}
+use Rattle.answer.specs.Table.{answer, accepted, tooLong, notUtf8, notHouseXml, noRoom}
 use Rattle.list.specs.Listing.{Listing}
 use Rattle.list.specs.WellFormed.{WellFormed}
 use Rattle.list.specs.Content.{Content}
 use Rattle.walk.specs.Types.{Spelling}
-use Rattle.walk.specs.First.{found, firstViolation}
 use Rattle.demands.specs.Instance.{Kinds}
 use Rattle.demands.specs.File.{messageIn, File, imageOf}
 use Rattle.demands.specs.Checks.{Answers, long, bytes, markup, violation, room, image}

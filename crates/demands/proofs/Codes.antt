@@ -1,15 +1,15 @@
 -- The codes of violations are 4 to 13, and the row of code 4 is 1. Assumes nothing.
-use mathlib.Core.Path.{_≡_, refl, sym, _∙_, ap, subst}
+use mathlib.Core.Path.{_≡_, refl, subst}
 use mathlib.Core.Bool.{Bool, true, false, _&&_, not}
 use mathlib.Core.List.{List, [], _∷_}
 use Prim.Native.Nat.{ℕ, _≤_}
 use native.Mathlib.Omega.{arith}
 use lib.Dec.{eqb, ltb}
 use Rattle.text.specs.Bytes.{isBlank}
-use Rattle.list.specs.Listing.{Leaf, Kind, group, choice, leaf, Listing, child, isGroup, isChoice}
+use Rattle.list.specs.Listing.{Kind, group, choice, leaf, Listing, child, isGroup, isChoice}
 use Rattle.xml.specs.Message.{Attrs, Parts, none, char, element}
 use Rattle.walk.specs.Types.{Types}
-use Rattle.walk.specs.First.{Found, fine, found, if, orElse, firstOf, isNone, empty, passed, breaks, textOf, currency, attrsOk, kindOf, isRoot, over, absent, childRows, opening, groupEnd, leafEnd, closing, inside, firstViolation}
+use Rattle.walk.specs.First.{Found, fine, found, if, orElse, isNone, empty, passed, breaks, textOf, currency, attrsOk, kindOf, isRoot, over, absent, childRows, opening, groupEnd, closing, inside, firstViolation}
 
 -- nothing, or a code from 4 to 13, with row 1 of 4
 abbrev pub Coded : Found → Type 0

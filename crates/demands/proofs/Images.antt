@@ -1,21 +1,19 @@
 -- Demand 3, and reading back, for what check writes: the images of two accepted files are equal exactly when their contents are, neither is a
 -- shorter beginning of the other, and the reader takes each with the same length and content. Assumes nothing.
-use mathlib.Core.Path.{_≡_, refl, sym, _∙_, ap, ap₂, subst}
+use mathlib.Core.Path.{_≡_, refl, sym, _∙_, ap}
 use mathlib.Core.Logic.{_↔_}
-use mathlib.Core.List.{List, [], _∷_, _++_, append-nil}
-use Prim.Native.Nat.{ℕ, _≤_, _<_}
-use native.Mathlib.Omega.{arith}
-use lib.ListN.{length, take, drop, length-append}
+use mathlib.Core.List.{List, [], _++_, append-nil}
+use Prim.Native.Nat.{ℕ, _≤_}
+use lib.ListN.{length, take}
 use Rattle.answer.specs.declared.Answer.{Answer}
 use Rattle.answer.specs.Table.{accepted, limit}
 use Rattle.list.specs.Listing.{Listing}
 use Rattle.list.specs.WellFormed.{WellFormed}
-use Rattle.list.specs.Content.{Content}
 use Rattle.image.specs.Image.{Lawful}
 use Rattle.image.specs.Place.{Accepts, Reads, whole}
 use Rattle.image.proofs.Images.{told}
 use Rattle.demands.specs.Instance.{Kinds, valuesOf}
-use Rattle.demands.specs.File.{File, imageOf}
+use Rattle.demands.specs.File.{imageOf}
 use Rattle.demands.proofs.Accepted.{Taken, written}
 
 module _ (k : Kinds) (l : Listing) where

@@ -1,5 +1,5 @@
 -- Only one answer fits a file and a buffer: what a file is says the answer and every byte of the buffer. Assumes nothing.
-use mathlib.Core.Path.{_≡_, refl, sym, _∙_, ap, ap₂, subst}
+use mathlib.Core.Path.{_≡_, sym, _∙_, ap, subst}
 use mathlib.Core.Bool.{Bool, true, false, true≢false}
 use mathlib.Core.List.{List, _++_}
 use Prim.Native.Nat.{ℕ, _≤_, _<_}
@@ -11,7 +11,7 @@ use Rattle.characters.specs.Utf8.{Utf8, LongestUtf8}
 use Rattle.characters.proofs.Longest.{longest-utf8-one}
 use Rattle.list.specs.Listing.{Listing}
 use Rattle.list.specs.WellFormed.{WellFormed}
-use Rattle.list.specs.Content.{Content, Meets}
+use Rattle.list.specs.Content.{Content}
 use Rattle.xml.specs.House.{HouseXml, Longest}
 use Rattle.xml.specs.Message.{Parts, messageOf}
 use Rattle.xml.proofs.Unique.{tree-one}

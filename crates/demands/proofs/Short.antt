@@ -1,22 +1,22 @@
 -- An image is no longer than its file, over any types whose values have few bytes and any list whose NUM rows have names of two bytes. Assumes nothing.
-use mathlib.Core.Path.{_≡_, refl, sym, _∙_, ap, ap₂, subst}
-use mathlib.Core.Bool.{Bool, true, false, _&&_, not, false≢true, true≢false}
-use mathlib.Core.List.{List, [], _∷_, _++_, append-assoc, head-eq-of-cons-eq, nil≢cons}
+use mathlib.Core.Path.{_≡_, refl, ap}
+use mathlib.Core.Bool.{true, false, not, false≢true}
+use mathlib.Core.List.{List, [], _∷_, _++_, head-eq-of-cons-eq, nil≢cons}
 use mathlib.Core.Option.{Option}
-use Prim.Native.Nat.{ℕ, zero, suc, _+_, _≤_, _<_}
+use Prim.Native.Nat.{ℕ, zero, suc, _+_, _≤_}
 use native.Mathlib.Omega.{arith}
 use lib.ListN.{length, length-append}
-use Rattle.text.specs.Bytes.{ascii, isNameStart, isNamePart}
-use Rattle.text.specs.Lists.{Begins, same}
-use Rattle.characters.specs.Pieces.{less, greater, solidus, equal, Piece, spell, resolved, resolvedAll, spells, Spells}
+use Rattle.text.specs.Bytes.{ascii}
+use Rattle.text.specs.Lists.{same}
+use Rattle.characters.specs.Pieces.{less, greater, solidus, equal, spell, resolved, resolvedAll, spells, Spells}
 use Rattle.text.proofs.Classes.{and-is}
 use Rattle.characters.proofs.Spelling.{spells-none}
-use Rattle.list.specs.Listing.{Leaf, ref, iban, ccy, bool, num, amt, date, dtm, txt, enum, Kind, group, choice, leaf, Listing, rowAt, Child}
+use Rattle.list.specs.Listing.{Leaf, ref, iban, ccy, bool, num, amt, date, dtm, txt, enum, Kind, group, choice, leaf, Listing, rowAt}
 use Rattle.list.specs.WellFormed.{LeafOk, KindOk, WellFormed}
 use Rattle.list.specs.Content.{Content, end, value, node, items}
 use Rattle.list.proofs.Words.{same-eq}
-use Rattle.xml.specs.House.{IsName, mark, Attr, attr, attrs, Tag, tag, GoodTag, Content as Tags, end as over, piece, empty, full, render, Good, OneElement, declaration, Tree, GoodTree, whole}
-use Rattle.xml.specs.Message.{Attrs, Parts, attrsOf, partsOf, rootAt, messageOf}
+use Rattle.xml.specs.House.{IsName, mark, Attr, attr, attrs, Tag, tag, GoodTag, Content as Tags, end as over, piece, empty, full, render, Good, OneElement, declaration, whole}
+use Rattle.xml.specs.Message.{Attrs, Parts, attrsOf, partsOf, rootAt}
 use Rattle.types.specs.Laws.{extra}
 use Rattle.walk.specs.Types.{Spelling}
 use Rattle.walk.specs.First.{textOf, currency, leafAttrs, isNone}

@@ -3,10 +3,10 @@ use mathlib.Core.Path.{_≡_, refl, sym, _∙_, ap}
 use mathlib.Core.Logic.{_⊎_, inl, inr}
 use mathlib.Core.Bool.{Bool, true, false, true≢false, false≢true}
 use mathlib.Core.List.{List, [], _∷_, _++_}
-use Prim.Native.Nat.{ℕ, zero, suc, _+_, _≤_, _<_, zero-le}
+use Prim.Native.Nat.{ℕ, zero, suc, _+_, _≤_, zero-le}
 use native.Mathlib.Omega.{arith}
 use native.Mathlib.Decide.{decLt}
-use lib.ListN.{length, take, drop, length-drop}
+use lib.ListN.{length, drop, length-drop}
 use Rattle.answer.specs.declared.Answer.{Answer}
 use Rattle.answer.specs.Table.{answer, accepted, limit, tooLong, notUtf8, notHouseXml, noRoom}
 use Rattle.characters.specs.Utf8.{LongestUtf8}
@@ -19,7 +19,7 @@ use Rattle.house.specs.House.{house}
 use Rattle.house.proofs.HouseSound.{house-well}
 use Rattle.xml.specs.House.{HouseXml}
 use Rattle.xml.specs.Message.{rootAt}
-use Rattle.xml.specs.Auto.{At, done, start, first, before, root, declare, name, tail, gap, attr, equals, quote, value, within, slash, content, part, less, close, St, dead, at, run, liveLen}
+use Rattle.xml.specs.Auto.{done, start, first, before, root, declare, name, tail, gap, attr, equals, quote, value, within, slash, content, part, less, close, St, dead, at, run, liveLen}
 use Rattle.xml.proofs.Theorem as xml
 use Rattle.walk.specs.Types.{Spelling}
 use Rattle.walk.specs.First.{Found, fine, found, firstViolation}

@@ -1,8 +1,8 @@
 -- The starred examples hold of the definitions: one statement over the table, by one computed test. Assumes nothing.
 use mathlib.Core.Path.{_≡_, refl, sym, _∙_, ap}
-use mathlib.Core.Bool.{Bool, true, false, cond, _&&_, not, xor, true≢false, false≢true}
+use mathlib.Core.Bool.{Bool, true, false, _&&_, not, xor, true≢false, false≢true}
 use mathlib.Core.List.{List, [], _∷_, _++_}
-use Prim.Native.Nat.{ℕ, _≤_, _<_}
+use Prim.Native.Nat.{ℕ}
 use Prim.Native.String.{String}
 use native.Mathlib.Omega.{arith}
 use lib.Dec.{eqb, leb}

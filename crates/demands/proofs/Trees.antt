@@ -1,22 +1,21 @@
 -- A computed test for good trees, enough for examples: ASCII names, at most one attribute, characters up to U+D7FF. Assumes nothing.
-use mathlib.Core.Path.{_≡_, refl, sym, _∙_, ap}
+use mathlib.Core.Path.{_≡_, refl, ap}
 use mathlib.Core.Logic.{_≢_}
 use mathlib.Core.Bool.{Bool, true, false, _&&_, not, false≢true}
-use mathlib.Core.List.{List, [], _∷_, _++_}
-use Prim.Native.Nat.{ℕ, zero, suc, _≤_, _<_}
+use mathlib.Core.List.{List, [], _∷_}
+use Prim.Native.Nat.{ℕ, zero, suc, _<_}
 use native.Mathlib.Omega.{arith}
 use lib.Dec.{eqb, leb, ltb}
-use lib.ListN.{length}
-use borrow.Author.Tests.{eq-eqb, leb-true, ltb-true, lt-ltb, not-true}
+use borrow.Author.Tests.{eq-eqb, leb-true, ltb-true}
 use Rattle.text.specs.Bytes.{isBlank, isNameStart, isNamePart, inRange}
-use Rattle.text.specs.Lists.{Each, All, Begins}
+use Rattle.text.specs.Lists.{Each}
 use Rattle.characters.specs.Utf8.{Scalar, encode, encodeAll, Utf8}
-use Rattle.characters.specs.Pieces.{less, ampersand, XmlChar, low, Piece, char, entity, GoodPiece}
+use Rattle.characters.specs.Pieces.{less, ampersand, low, Piece, char, entity, GoodPiece}
 use Rattle.text.proofs.Classes.{and-is}
 use Rattle.list.specs.Test.{every, begins}
 use Rattle.list.proofs.Tests.{clash}
 use Rattle.list.proofs.Sound.{every-is, begins-is}
-use Rattle.xml.specs.House.{IsName, Quote, mark, GoodValue, Attr, GoodAttr, GoodAttrs, Tag, GoodTag, Content, end, piece, empty, full, cut, Good, OneElement, Tree, GoodTree}
+use Rattle.xml.specs.House.{Quote, mark, GoodValue, Attr, GoodAttr, GoodAttrs, Tag, GoodTag, Content, end, piece, empty, full, cut, Good, OneElement, Tree, GoodTree}
 
 pub not-is : (b : Bool) → not b ≡ true → b ≡ false
 not-is true e = absurd (false≢true e)

@@ -1,5 +1,4 @@
 -- Which files are good, and their content, over any types and any list. Assumes nothing.
-use mathlib.Core.Path.{_≡_}
 use mathlib.Core.List.{List}
 use Prim.Native.Nat.{ℕ, _≤_}
 use lib.ListN.{length}

@@ -1,27 +1,26 @@
 -- One answer only, and bytes after the first image do not matter. Assumes nothing.
 use mathlib.Core.Path.{_≡_, refl, sym, _∙_, ap, ap₂, subst}
-use mathlib.Core.Logic.{_≢_, _⊎_, inl, inr, ⊎-elim}
-use mathlib.Core.Bool.{Bool, true, false, cond, true≢false}
-use mathlib.Core.List.{List, [], _∷_, _++_, append-assoc, append-nil, head-eq-of-cons-eq, tail-eq-of-cons-eq, nil≢cons}
+use mathlib.Core.Logic.{_≢_, _⊎_, inl, inr}
+use mathlib.Core.Bool.{Bool, true, false, cond}
+use mathlib.Core.List.{List, [], _∷_, _++_, append-assoc, head-eq-of-cons-eq, tail-eq-of-cons-eq}
 use mathlib.Core.Option.{Option, none, some}
-use Prim.Native.Nat.{ℕ, zero, suc, _+_, _-_, _≤_, _<_}
+use Prim.Native.Nat.{ℕ, suc, _+_, _≤_, _<_}
 use native.Mathlib.Omega.{arith}
 use lib.Dec.{eqb}
 use lib.ListN.{length, take, drop, length-append}
 use lib.Seq.{take-append-seam}
-use borrow.Author.Tests.{eq-eqb, ne-eqb, eqb-true, eqb-false}
+use borrow.Author.Tests.{eq-eqb}
 use Rattle.answer.specs.declared.Answer.{Answer}
-use Rattle.answer.specs.Table.{limit, accepted, tooLong, noHeader, wrongVersion, brokenImage, picked, noSuchLeaf}
+use Rattle.answer.specs.Table.{limit, accepted, brokenImage, picked}
 use Rattle.text.specs.Bytes.{ascii}
-use Rattle.text.specs.Numbers.{bigEndian}
 use Rattle.list.specs.Words.{times}
-use Rattle.list.specs.Listing.{Leaf, Kind, leaf, Listing, rowAt, isGroup}
+use Rattle.list.specs.Listing.{Leaf, Listing, isGroup}
 use Rattle.list.specs.WellFormed.{WellFormed}
-use Rattle.list.specs.Content.{Content, items, Meets}
+use Rattle.list.specs.Content.{Content, items}
 use Rattle.image.specs.Image.{Values, Lawful, Item, header, bytes, image}
 use Rattle.image.specs.Place.{Accepts, Refuses, Reads, over, foreign, version, broken, whole}
 use Rattle.image.specs.Pick.{rowsOf, Picked, Missing, Picks, refused, missing, found, Answers, Hands}
-use Rattle.image.proofs.Rows.{Cmp, less, same, more, cmp, clash}
+use Rattle.image.proofs.Rows.{less, same, clash}
 use Rattle.image.proofs.Prefix.{cancel, image-prefix}
 use Rattle.image.proofs.Stops.{header-is, header-length, accepts-one, refuses-one}
 

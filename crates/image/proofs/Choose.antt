@@ -12,24 +12,23 @@ use lib.ListN.{length, getD, take, drop, length-drop, length-append, drop-of-len
 use lib.Seq.{drop-cons, drop-drop, drop-append-le, take-at, drop-at, slice}
 use borrow.Author.Tests.{eq-eqb, ne-eqb, le-leb, lt-leb}
 use Rattle.answer.specs.declared.Answer.{Answer}
-use Rattle.answer.specs.Table.{limit, accepted, picked, tooLong, noHeader, wrongVersion, brokenImage, noSuchLeaf}
+use Rattle.answer.specs.Table.{limit, picked}
 use Rattle.text.proofs.Parts.{part-take}
-use Rattle.list.specs.Words.{times}
 use Rattle.list.specs.Listing.{Leaf, Kind, group, choice, leaf, Row, Listing, size, rowAt, isGroup}
 use Rattle.list.specs.WellFormed.{WellFormed}
-use Rattle.list.specs.Content.{Content, items, Meets, ValueOf, GroupOf}
+use Rattle.list.specs.Content.{Content, items, Meets}
 use Rattle.list.proofs.Next.{row-past}
 use Rattle.image.specs.Image.{Values, Lawful, Item, header, valueBytes, itemBytes, bytes, image}
-use Rattle.image.specs.Place.{Accepts, Refuses, Reads, over, foreign, version, broken, whole}
-use Rattle.image.specs.Pick.{rowsOf, Picked, Missing, Picks, refused, missing, found}
+use Rattle.image.specs.Place.{Accepts, Reads, over, foreign, version, broken, whole}
+use Rattle.image.specs.Pick.{Picked, Missing, Picks, refused, missing, found}
 use Rattle.image.specs.Follow.{OfKind, ItemOk, Trail}
 use Rattle.image.specs.Step.{isLeaf}
 use Rattle.image.specs.Run.{Turn, stop, next, Comes, halts, moves, headOf, hunt, Finds, groups, leaves, Runs, Chooses, refused as no-image, missing as no-leaf, found as leaf-at}
-use Rattle.image.proofs.Rows.{Cmp, less, same, more, cmp, clash, next-in, well, value-is}
-use Rattle.image.proofs.Theorem.{content-whole, root-group}
+use Rattle.image.proofs.Rows.{Cmp, less, same, more, cmp, clash, next-in, well}
+use Rattle.image.proofs.Theorem.{content-whole}
 use Rattle.image.proofs.Prefix.{value-cut, root-oks}
 use Rattle.image.proofs.Stops.{header-length}
-use Rattle.image.proofs.Answers.{many, many-append, many-same}
+use Rattle.image.proofs.Answers.{many, many-append}
 use Rattle.image.proofs.Step.{Lines}
 use Rattle.image.proofs.Run.{comes-one, runs-one, Ending, runs-reads}
 

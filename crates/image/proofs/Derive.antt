@@ -1,15 +1,14 @@
 -- What each row still takes, as items of contents; a row that may come next takes one item off it. Assumes nothing.
-use mathlib.Core.Path.{_≡_, refl, sym, _∙_, ap, ap₂, subst}
-use mathlib.Core.Logic.{_≢_, _⊎_, inl, inr, ⊎-elim}
-use mathlib.Core.Bool.{Bool, true, false, _&&_, _||_, true≢false, false≢true}
-use mathlib.Core.List.{List, [], _∷_, _++_, append-assoc, append-nil, head-eq-of-cons-eq, tail-eq-of-cons-eq, nil≢cons}
+use mathlib.Core.Path.{_≡_, refl, sym, _∙_, ap, subst}
+use mathlib.Core.Logic.{_≢_}
+use mathlib.Core.List.{List, [], _∷_, _++_, append-assoc, head-eq-of-cons-eq, tail-eq-of-cons-eq, nil≢cons}
 use mathlib.Core.Option.{Option, none, some}
-use Prim.Native.Nat.{ℕ, zero, suc, _+_, _-_, _≤_, _<_}
+use Prim.Native.Nat.{ℕ, zero, suc, _+_, _≤_, _<_}
 use native.Mathlib.Omega.{arith}
-use Rattle.list.specs.Listing.{Leaf, Kind, group, choice, leaf, Listing, size, rowAt, Child, isGroup}
-use Rattle.list.specs.Content.{Content, end, value, node, rows, items, ValueOf, GroupOf, Good, Meets}
+use Rattle.list.specs.Listing.{group, leaf, Listing, size, rowAt, Child}
+use Rattle.list.specs.Content.{Content, end, value, node, items, ValueOf, GroupOf}
 use Rattle.image.specs.Image.{Values, Item}
-use Rattle.image.specs.Follow.{parentOf, Simple, Compound, Fits, Shut, Climb, beside, out, Next, down, on, Over, top, ItemOk, Trail}
+use Rattle.image.specs.Follow.{parentOf, Simple, Compound, Fits, Shut, Climb, beside, out, Next, down, on, Over, top, ItemOk}
 use Rattle.image.proofs.Rows.{clash, group-is, value-is, Well}
 
 module _ (vs : Values) (l : Listing) where

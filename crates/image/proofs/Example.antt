@@ -8,7 +8,7 @@ use native.Mathlib.Omega.{arith}
 use lib.ListN.{length, getD, take}
 use lib.Seq.{slice}
 use Rattle.answer.specs.declared.Answer.{Answer}
-use Rattle.answer.specs.Table.{limit, accepted, brokenImage, picked}
+use Rattle.answer.specs.Table.{accepted, brokenImage, picked}
 use Rattle.text.specs.Bytes.{isCapital}
 use Rattle.text.specs.Numbers.{bigEndian, numberFrom}
 use Rattle.characters.specs.Decoding.{decoded}

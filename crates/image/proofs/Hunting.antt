@@ -1,14 +1,14 @@
 -- Each turn of the picker's loop, by the tests that led there; what it finds lies within the run. Assumes nothing.
-use mathlib.Core.Path.{_≡_, refl, sym, _∙_, ap, subst}
+use mathlib.Core.Path.{_≡_, refl, sym, _∙_}
 use mathlib.Core.Logic.{_≢_}
 use mathlib.Core.Bool.{Bool, true, false, cond}
 use mathlib.Core.List.{List}
-use Prim.Native.Nat.{ℕ, zero, suc, _+_, _-_, _≤_, _<_}
+use Prim.Native.Nat.{ℕ, _+_, _-_, _≤_, _<_}
 use native.Mathlib.Omega.{arith}
 use lib.Dec.{leb, eqb}
 use lib.ListN.{length, getD}
-use borrow.Author.Tests.{leb-true, leb-false}
-use Rattle.image.specs.Run.{Turn, stop, next, Comes, halts, moves, headOf, hunt, Finds, groups, leaves}
+use borrow.Author.Tests.{leb-false}
+use Rattle.image.specs.Run.{stop, next, Comes, halts, moves, headOf, hunt, Finds, groups, leaves}
 use Rattle.list.specs.Table.{cell}
 use Rattle.image.proofs.Choose.{hunt-out, hunt-over, hunt-bad, hunt-here, hunt-past, hunt-other}
 

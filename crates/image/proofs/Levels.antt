@@ -1,18 +1,18 @@
 -- The rows side by side keep to their group exactly when each may come directly behind the one before it. Assumes nothing.
 use mathlib.Core.Path.{_≡_, refl, sym, _∙_, ap, subst}
 use mathlib.Core.Logic.{_≢_, _↔_, _⊎_, inl, inr, ⊎-elim}
-use mathlib.Core.Bool.{Bool, true, false, cond, _||_, _&&_, true≢false, false≢true}
-use mathlib.Core.List.{List, [], _∷_, _++_}
+use mathlib.Core.Bool.{Bool, true, false, _||_, _&&_, true≢false, false≢true}
+use mathlib.Core.List.{List, [], _∷_}
 use Prim.Native.Nat.{ℕ, zero, suc, _≤_, _<_}
 use native.Mathlib.Omega.{arith}
 use lib.Dec.{eqb}
 use lib.ListN.{length}
-use borrow.Author.Tests.{eq-eqb, ne-eqb, eqb-true, eqb-false}
+use borrow.Author.Tests.{eq-eqb, eqb-true}
 use Rattle.text.proofs.Classes.{and-is, or-is, or-not}
 use Rattle.text.specs.Lists.{Each}
 use Rattle.list.specs.Words.{times, Ordered}
-use Rattle.list.specs.Listing.{Kind, group, choice, leaf, Count, one, optional, some, any, alternative, Rule, both, Listing, size, rowAt, Child, required}
-use Rattle.list.specs.WellFormed.{BothOk, RuleOk, WellFormed}
+use Rattle.list.specs.Listing.{choice, Count, one, optional, some, any, alternative, Rule, both, Listing, size, Child, required}
+use Rattle.list.specs.WellFormed.{RuleOk, WellFormed}
 use Rattle.list.specs.Content.{Counts, Keeps, Children}
 use Rattle.image.specs.Follow.{repeats, parentOf, countOf, kindOf, paired, ruled, due, Clear, Fits, Shut}
 use Rattle.list.proofs.Words.{times-hit, times-miss}

@@ -1,12 +1,12 @@
 -- What the code reads of sound tables is the list's. Assumes nothing.
 use mathlib.Core.Path.{_≡_, refl, sym, _∙_, ap}
-use mathlib.Core.Bool.{Bool, true, false, cond, not}
-use mathlib.Core.List.{List, [], _∷_}
-use Prim.Native.Nat.{ℕ, zero, suc, _≤_, _<_}
+use mathlib.Core.Bool.{false, cond, not}
+use mathlib.Core.List.{List}
+use Prim.Native.Nat.{ℕ, zero, suc, _≤_}
 use native.Mathlib.Omega.{arith}
 use lib.Dec.{leb, ltb}
 use borrow.Author.Tests.{le-ltb, lt-leb}
-use Rattle.list.specs.Listing.{Kind, Count, Listing, size, rowAt, isGroup, isChoice}
+use Rattle.list.specs.Listing.{Kind, size, isGroup, isChoice}
 use Rattle.list.specs.Table.{cell, countOf, kindOf, wordsIn, listOf}
 use Rattle.list.specs.Sound.{Sound}
 use Rattle.list.proofs.Codes.{choice-is}
@@ -14,7 +14,7 @@ use Rattle.list.proofs.Rows.{size-is, parent-is, count-is, kind-is}
 use Rattle.stored.proofs.Numbered.{by-kind}
 use Rattle.image.specs.Follow.{repeats}
 use Rattle.image.specs.Step.{isLeaf, again}
-use Rattle.image.proofs.Step.{Line, Lines}
+use Rattle.image.proofs.Step.{Lines}
 
 -- the numbers of kinds and counts, as the code tests them
 leaf-code : (k : ℕ) (ws : List (List ℕ)) (c : ℕ) → cond (ltb c 2) false (leb c 11) ≡ not (isGroup (kindOf c k ws))

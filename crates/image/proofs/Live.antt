@@ -1,20 +1,18 @@
 -- Whatever has come so far can be ended: what is due is given its least content. Assumes nothing.
-use mathlib.Core.Path.{_≡_, refl, sym, _∙_, ap, ap₂, subst}
+use mathlib.Core.Path.{_≡_, refl, sym, _∙_, ap, subst}
 use mathlib.Core.Logic.{_≢_, _⊎_, inl, inr, ⊎-elim}
-use mathlib.Core.Bool.{Bool, true, false, _&&_, _||_, true≢false, false≢true}
-use mathlib.Core.List.{List, [], _∷_, _++_, append-assoc, append-nil, head-eq-of-cons-eq, tail-eq-of-cons-eq, nil≢cons}
-use mathlib.Core.Option.{Option}
+use mathlib.Core.Bool.{Bool, true, false, _&&_, false≢true}
+use mathlib.Core.List.{List, [], _++_}
 use Prim.Native.Nat.{ℕ, zero, suc, _+_, _-_, _≤_, _<_}
 use native.Mathlib.Omega.{arith}
 use Rattle.text.proofs.Classes.{and-is, or-is}
-use Rattle.list.specs.Listing.{Leaf, Kind, group, choice, leaf, Listing, size, rowAt, Child, isGroup}
-use Rattle.list.specs.Content.{Content, end, value, node, rows, items, ValueOf, GroupOf, Good, Meets}
+use Rattle.list.specs.Listing.{Kind, group, choice, leaf, Listing, size, rowAt, Child, isGroup}
+use Rattle.list.specs.Content.{Content, end, value, node, items}
 use Rattle.image.specs.Image.{Values, Lawful, Item}
 use lib.Dec.{eqb}
 use borrow.Author.Tests.{eq-eqb, eqb-true}
 use Rattle.list.specs.Listing.{required}
-use Rattle.list.specs.WellFormed.{BothOk}
-use Rattle.image.specs.Follow.{parentOf, countOf, kindOf, Simple, Compound, ruled, due, Clear, Fits, Shut}
+use Rattle.image.specs.Follow.{parentOf, countOf, kindOf, Compound, ruled, due, Fits}
 use Rattle.image.proofs.Derive.{After, Rest, root, more, Takes, after, inside, above}
 use Rattle.image.proofs.Rows.{Cmp, less, same, more as greater, cmp, Well}
 

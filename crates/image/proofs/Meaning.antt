@@ -1,8 +1,8 @@
 -- What the reader's and the picker's promises mean where the tables are sound: the defined answers. Assumes nothing.
 use mathlib.Core.Path.{_≡_, refl, sym, _∙_, ap, ap₂, subst}
 use mathlib.Core.Logic.{_≢_}
-use mathlib.Core.Bool.{Bool, true, false, cond, not, true≢false, false≢true}
-use mathlib.Core.List.{List, [], _∷_, _++_}
+use mathlib.Core.Bool.{true, false, cond, not, false≢true}
+use mathlib.Core.List.{List, [], _++_}
 use mathlib.Core.Option.{Option, none, some}
 use Prim.Native.Nat.{ℕ, _+_, _≤_, _<_}
 use native.Mathlib.Omega.{arith}
@@ -10,7 +10,7 @@ use lib.Dec.{leb}
 use lib.ListN.{length, drop}
 use Rattle.answer.specs.declared.Answer.{Answer}
 use Rattle.list.specs.Listing.{Leaf, Kind, group, choice, leaf, Listing, size, rowAt, isGroup}
-use Rattle.list.specs.WellFormed.{LeafOk, KindOk, WellFormed}
+use Rattle.list.specs.WellFormed.{LeafOk, KindOk}
 use Rattle.list.specs.Table.{cell, kindOf, wordsIn, listOf}
 use Rattle.list.specs.Sound.{wordCount, Sound}
 use Rattle.list.proofs.Rows.{size-is, kind-is}
@@ -27,7 +27,6 @@ use Rattle.stored.proofs.Meaning.{end-none, end-some}
 use Rattle.image.specs.Ends.{itemEnd}
 use Rattle.image.specs.Run.{Runs, headOf, Chooses}
 use Rattle.image.proofs.Rows.{well}
-use Rattle.image.proofs.Step.{Lines}
 use Rattle.image.proofs.Lines.{lines}
 use Rattle.image.proofs.Lawful.{lawful}
 use Rattle.image.proofs.Run.{Ending, runs-reads}

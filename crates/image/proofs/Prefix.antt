@@ -1,17 +1,16 @@
 -- Images tell contents apart, and none is a shorter beginning of another. Assumes nothing.
 use mathlib.Core.Path.{_≡_, refl, sym, _∙_, ap, ap₂, subst}
-use mathlib.Core.Logic.{_≢_, _⊎_, inl, inr, ⊎-elim}
-use mathlib.Core.Bool.{Bool, true, false, _&&_, _||_, true≢false, false≢true}
-use mathlib.Core.List.{List, [], _∷_, _++_, append-assoc, append-nil, head-eq-of-cons-eq, tail-eq-of-cons-eq, nil≢cons}
+use mathlib.Core.Logic.{_≢_}
+use mathlib.Core.List.{List, [], _∷_, _++_, append-assoc, head-eq-of-cons-eq, tail-eq-of-cons-eq, nil≢cons}
 use mathlib.Core.Option.{Option, none, some}
-use Prim.Native.Nat.{ℕ, zero, suc, _+_, _-_, _≤_, _<_}
+use Prim.Native.Nat.{ℕ, _+_, _≤_, _<_}
 use native.Mathlib.Omega.{arith}
-use lib.ListN.{length, length-append}
-use Rattle.list.specs.Listing.{Leaf, Kind, group, choice, leaf, Listing, size, rowAt, Child, isGroup}
+use lib.ListN.{length}
+use Rattle.list.specs.Listing.{Kind, group, choice, leaf, Listing, rowAt, Child}
 use Rattle.list.specs.WellFormed.{KindOk, WellFormed}
-use Rattle.list.specs.Content.{Content, end, value, node, rows, items, ValueOf, GroupOf, Good, Meets}
+use Rattle.list.specs.Content.{Content, end, value, node, rows, items, Meets}
 use Rattle.image.specs.Image.{Values, Lawful, Item, header, valueBytes, itemBytes, bytes, image}
-use Rattle.image.specs.Follow.{parentOf, Simple, Compound, Fits, Next, OfKind, ItemOk, Trail, Trace, lastRow, Whole}
+use Rattle.image.specs.Follow.{parentOf, Compound, OfKind, ItemOk, Trail, Whole}
 use Rattle.image.proofs.Rows.{clash, is-group, value-is, next-in, well}
 use Rattle.image.proofs.Derive.{After, above}
 use Rattle.image.proofs.Levels.{children-chain}

@@ -1,20 +1,20 @@
 -- What the reader's theory uses of a well-formed list. Assumes nothing.
-use mathlib.Core.Path.{_≡_, refl, sym, _∙_, ap, subst}
-use mathlib.Core.Logic.{_≢_, _⊎_, inl, inr, ⊎-elim}
+use mathlib.Core.Path.{_≡_, refl, sym, _∙_, subst}
+use mathlib.Core.Logic.{_≢_, _⊎_, ⊎-elim}
 use mathlib.Core.Bool.{Bool, true, false, _&&_, _||_, true≢false, false≢true}
 use mathlib.Core.List.{List, [], _∷_}
-use Prim.Native.Nat.{ℕ, zero, suc, _≤_, _<_}
+use Prim.Native.Nat.{ℕ, _≤_, _<_}
 use native.Mathlib.Omega.{arith}
 use native.Mathlib.Decide.{decLt}
 use lib.Dec.{eqb}
-use borrow.Author.Tests.{eq-eqb, eqb-true}
+use borrow.Author.Tests.{eqb-true}
 use Rattle.text.proofs.Classes.{and-is, or-is}
 use Rattle.text.specs.Lists.{Each}
-use Rattle.list.specs.Listing.{Leaf, Kind, group, choice, leaf, Count, optional, alternative, Row, Rule, both, Listing, size, rowAt, Child, isGroup, up}
-use Rattle.list.specs.WellFormed.{LeafOk, KindOk, BothOk, RuleOk, WellFormed}
+use Rattle.list.specs.Listing.{Leaf, Kind, group, choice, leaf, alternative, Row, Rule, both, Listing, size, rowAt, Child, isGroup, up}
+use Rattle.list.specs.WellFormed.{KindOk, BothOk, RuleOk, WellFormed}
 use Rattle.list.specs.Content.{ValueOf, GroupOf}
 use Rattle.list.proofs.Next.{row-past}
-use Rattle.image.specs.Follow.{parentOf, countOf, kindOf, Simple, Compound, paired, ruled, Climb, beside, out, Next, down, on}
+use Rattle.image.specs.Follow.{parentOf, countOf, kindOf, Compound, paired, ruled, Climb, beside, out, Next, down, on}
 
 pub data Cmp (a b : ℕ) : Type 0 where
   less : a < b → Cmp a b

@@ -1,32 +1,31 @@
 -- The reader's turns: one answer whatever the tables say, and the defined one where they are sound. Assumes nothing.
 use mathlib.Core.Path.{_≡_, refl, sym, _∙_, ap, ap₂, subst}
-use mathlib.Core.Logic.{_≢_, _⊎_, inl, inr, ⊎-elim}
-use mathlib.Core.Bool.{Bool, true, false, cond, true≢false, false≢true}
-use mathlib.Core.List.{List, [], _∷_, _++_, append-assoc, append-nil, head-eq-of-cons-eq, tail-eq-of-cons-eq, nil≢cons}
+use mathlib.Core.Logic.{_≢_, _⊎_, inl, inr}
+use mathlib.Core.Bool.{Bool, true, false, cond, true≢false}
+use mathlib.Core.List.{List, [], _∷_, _++_, head-eq-of-cons-eq, tail-eq-of-cons-eq, nil≢cons}
 use mathlib.Core.Option.{Option, none, some}
-use Prim.Native.Nat.{ℕ, zero, suc, _+_, _-_, _≤_, _<_}
+use Prim.Native.Nat.{ℕ, zero, suc, _+_, _≤_, _<_}
 use native.Mathlib.Omega.{arith}
 use native.Mathlib.Numerals.{add-one}
 use native.Mathlib.Decide.{decLt}
 use lib.Dec.{leb, eqb}
-use lib.ListN.{length, getD, take, drop, length-drop, length-append, take-append-drop, drop-of-length-le}
-use lib.Seq.{drop-cons, drop-drop}
+use lib.ListN.{length, getD, take, drop, take-append-drop, drop-of-length-le}
+use lib.Seq.{drop-cons}
 use borrow.Author.Tests.{eqb-true, eqb-false, leb-true, leb-false}
 use Rattle.answer.specs.declared.Answer.{Answer}
-use Rattle.answer.specs.Table.{limit, accepted, tooLong, noHeader, wrongVersion, brokenImage}
+use Rattle.answer.specs.Table.{limit, accepted, brokenImage}
 use Rattle.text.specs.Bytes.{ascii}
 use Rattle.list.specs.Listing.{Listing, size, rowAt}
 use Rattle.list.specs.WellFormed.{WellFormed}
 use Rattle.image.specs.Image.{Values, Lawful, header, valueBytes}
-use Rattle.image.specs.Place.{Accepts, Refuses, Reads, over, foreign, version, broken, whole}
-use Rattle.image.specs.Follow.{Simple, Next, Over, ItemOk}
+use Rattle.image.specs.Place.{Accepts, Reads, over, foreign, version, broken, whole}
+use Rattle.image.specs.Follow.{Next, ItemOk}
 use Rattle.image.specs.Reader.{Stuck, Open, Stops, Ends}
 use Rattle.image.specs.Step.{follows, ended}
 use Rattle.image.specs.Run.{Turn, stop, next, Comes, halts, moves, turn, Goes, Runs, over as runs-over, foreign as runs-foreign, version as runs-version, rootless, rooted}
 use Rattle.image.proofs.Rows.{next-in, well}
 use Rattle.image.proofs.Stops.{header-is, stops-on, stops-here, ends-on, ends-here, accepts, refuses, refuses-root}
 use Rattle.image.proofs.Step.{Lines, follows-is, ended-is}
-use Rattle.image.proofs.Answers.{headed-three}
 
 -- turn by turn there is one result only
 pub comes-one : {A : Type 0} {f : ℕ → ℕ → Turn A} {a b : A} {q i : ℕ} → Comes f a q i → Comes f b q i → a ≡ b

@@ -1,22 +1,21 @@
 -- What the code finds in sound tables is which row may come next. Assumes nothing.
-use mathlib.Core.Path.{_≡_, refl, sym, _∙_, ap, ap₂, subst}
-use mathlib.Core.Logic.{_≢_, _↔_, _⊎_, inl, inr, ⊎-elim}
-use mathlib.Core.Bool.{Bool, true, false, cond, _||_, _&&_, not, true≢false, false≢true}
+use mathlib.Core.Path.{_≡_, refl, sym, _∙_, subst}
+use mathlib.Core.Logic.{_≢_, _⊎_, inl, inr, ⊎-elim}
+use mathlib.Core.Bool.{Bool, true, false, cond, _&&_, not, true≢false, false≢true}
 use mathlib.Core.List.{List, [], _∷_}
-use Prim.Native.Nat.{ℕ, zero, suc, _+_, _-_, _≤_, _<_}
+use Prim.Native.Nat.{ℕ, zero, suc, _≤_, _<_}
 use native.Mathlib.Omega.{arith}
 use lib.Dec.{leb, ltb, eqb}
 use borrow.Author.Tests.{eq-eqb, ne-eqb, eqb-true, eqb-false, lt-ltb, ltb-true, le-ltb, le-leb, leb-true, lt-leb}
 use Rattle.text.proofs.Classes.{and-is, or-is}
-use Rattle.list.specs.Listing.{Kind, group, choice, leaf, Count, one, optional, some, any, alternative, Rule, both, Listing, size, rowAt, Child, isGroup, isChoice, required, nextDue, up}
-use Rattle.list.specs.WellFormed.{BothOk, WellFormed}
+use Rattle.list.specs.Listing.{Kind, group, choice, leaf, some, Rule, both, Listing, size, rowAt, Child, isGroup, isChoice, required, nextDue, up}
 use Rattle.list.specs.Table.{cell}
 use Rattle.list.specs.Sound.{firstOf, secondOf}
-use Rattle.list.proofs.Next.{Due, next-due, none-due}
+use Rattle.list.proofs.Next.{next-due, none-due}
 use Rattle.image.specs.Follow.{repeats, parentOf, countOf, kindOf, Simple, Compound, paired, ruled, due, Clear, Fits, Shut, Climb, beside as side, out, Next, down, on, Over, top}
 use Rattle.image.specs.Step.{isLeaf, again, owed, before, mated, inOrder, beside, inside, climbs, follows, rests, ended}
 use Rattle.image.proofs.Levels.{or-neither}
-use Rattle.image.proofs.Rows.{Cmp, less, same, more, cmp, or-left, or-right, clash, next-in, Well, well}
+use Rattle.image.proofs.Rows.{Cmp, less, same, more, cmp, or-left, or-right, clash, next-in, Well}
 
 -- a test and what it says
 pub record Says (b : Bool) (P : Type 0) : Type 0 where

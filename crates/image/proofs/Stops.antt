@@ -1,23 +1,22 @@
 -- The reader that goes item by item answers what is defined: an image, or the most whole items that begin some image. Assumes nothing.
-use mathlib.Core.Path.{_≡_, refl, sym, _∙_, ap, ap₂, subst}
-use mathlib.Core.Logic.{_≢_, _⊎_, inl, inr, ⊎-elim}
-use mathlib.Core.List.{List, [], _∷_, _++_, append-assoc, append-nil, head-eq-of-cons-eq, tail-eq-of-cons-eq, nil≢cons}
-use mathlib.Core.Option.{Option, none, some}
-use Prim.Native.Nat.{ℕ, zero, suc, _+_, _-_, _≤_, _<_}
+use mathlib.Core.Path.{_≡_, refl, sym, _∙_, ap, subst}
+use mathlib.Core.List.{List, [], _∷_, _++_, append-assoc, append-nil, head-eq-of-cons-eq, tail-eq-of-cons-eq}
+use mathlib.Core.Option.{Option, none}
+use Prim.Native.Nat.{ℕ, zero, suc, _+_, _≤_, _<_}
 use native.Mathlib.Omega.{arith}
 use native.Mathlib.Decide.{decLt}
 use lib.ListN.{length, length-append}
 use Rattle.text.specs.Numbers.{bigEndian}
 use Rattle.list.specs.Listing.{Listing, rowAt}
 use Rattle.list.specs.WellFormed.{WellFormed}
-use Rattle.list.specs.Content.{Content, items, Meets}
+use Rattle.list.specs.Content.{Content, items}
 use Rattle.image.specs.Image.{Values, Lawful, Item, header, valueBytes, bytes, image}
 use Rattle.image.specs.Place.{Accepts, Begins, Most, Refuses}
-use Rattle.image.specs.Follow.{Simple, Next, Over, ItemOk, Trail, Trace, lastRow, Whole}
+use Rattle.image.specs.Follow.{Simple, Next, Over, ItemOk, Trail, Trace, lastRow}
 use Rattle.image.specs.Reader.{Stuck, Open, Stops, Ends}
 use Rattle.image.proofs.Rows.{well}
 use Rattle.image.proofs.Theorem.{content-whole, whole-content, begins-trace, trace-begins}
-use Rattle.image.proofs.Prefix.{cancel, Oks, trail-oks, root-oks, bytes-whole, bytes-first, image-prefix}
+use Rattle.image.proofs.Prefix.{cancel, Oks, trail-oks, root-oks, bytes-first, image-prefix}
 
 -- the header's bytes
 pub header-is : header ≡ 75 ∷ 84 ∷ 79 ∷ 0 ∷ 1 ∷ []

@@ -1,19 +1,18 @@
 -- Items begin some content that meets the list exactly when each may come directly behind the one before it. Assumes nothing.
-use mathlib.Core.Path.{_≡_, refl, sym, _∙_, ap, ap₂, subst}
-use mathlib.Core.Logic.{_≢_, _⊎_, inl, inr, ⊎-elim}
-use mathlib.Core.Bool.{Bool, true, false, _&&_, _||_, true≢false, false≢true}
-use mathlib.Core.List.{List, [], _∷_, _++_, append-assoc, append-nil, head-eq-of-cons-eq, tail-eq-of-cons-eq, nil≢cons}
-use mathlib.Core.Option.{Option, none, some}
-use Prim.Native.Nat.{ℕ, zero, suc, _+_, _-_, _≤_, _<_}
+use mathlib.Core.Path.{_≡_, refl, sym, _∙_, subst}
+use mathlib.Core.Logic.{_≢_}
+use mathlib.Core.List.{List, [], _∷_, _++_, append-nil, head-eq-of-cons-eq, tail-eq-of-cons-eq, nil≢cons}
+use mathlib.Core.Option.{none, some}
+use Prim.Native.Nat.{ℕ, _+_, _≤_, _<_}
 use native.Mathlib.Omega.{arith}
-use Rattle.list.specs.Listing.{Leaf, Kind, group, choice, leaf, Listing, size, rowAt, Child, isGroup}
+use Rattle.list.specs.Listing.{group, leaf, Listing, size, rowAt}
 use Rattle.list.specs.WellFormed.{WellFormed}
-use Rattle.list.specs.Content.{Content, end, value, node, rows, items, ValueOf, GroupOf, Good, Meets}
+use Rattle.list.specs.Content.{Content, end, value, node, rows, items, Good, Meets}
 use Rattle.image.specs.Image.{Values, Lawful, Item}
 use Rattle.image.specs.Place.{Begins}
-use Rattle.image.specs.Follow.{kindOf, Simple, Compound, Fits, Shut, Over, top, ItemOk, Trail, Trace, lastRow, Whole}
+use Rattle.image.specs.Follow.{Simple, Compound, Over, top, Trail, Trace, lastRow, Whole}
 use Rattle.image.proofs.Rows.{clash, is-group, value-is, next-in, Well, well}
-use Rattle.image.proofs.Derive.{After, Rest, root, more, Takes, after, inside, above, Stepped, fwd, back, rest-over, over-rest}
+use Rattle.image.proofs.Derive.{After, Rest, root, more, Takes, after, inside, fwd, back, rest-over, over-rest}
 use Rattle.image.proofs.Levels.{Chain, chain-children, children-chain}
 use Rattle.image.proofs.Live.{live}
 

@@ -1,17 +1,16 @@
 -- Each turn of the reader's loop, by the tests that led there. Assumes nothing.
-use mathlib.Core.Path.{_≡_, refl, sym, _∙_, ap, subst}
+use mathlib.Core.Path.{_≡_, sym, ap}
 use mathlib.Core.Logic.{_≢_}
-use mathlib.Core.Bool.{Bool, true, false, cond}
+use mathlib.Core.Bool.{Bool, true, false}
 use mathlib.Core.List.{List}
 use Prim.Native.Nat.{ℕ, _+_, _≤_, _<_}
-use native.Mathlib.Omega.{arith}
 use lib.Dec.{leb, eqb}
 use lib.ListN.{length, getD}
 use borrow.Author.Tests.{eq-eqb, ne-eqb, le-leb, lt-leb}
 use Rattle.answer.specs.declared.Answer.{Answer}
 use Rattle.answer.specs.Table.{accepted, brokenImage}
 use Rattle.image.specs.Step.{follows, ended}
-use Rattle.image.specs.Run.{Turn, stop, next, turn, Goes, halts, moves}
+use Rattle.image.specs.Run.{stop, turn, Goes, halts, moves}
 
 module _ (t : List ℕ) (fin : ℕ → ℕ → ℕ) (s : List ℕ) where
   -- the answer from here is the answer from the start

@@ -1,10 +1,10 @@
 -- A mirror: which row may come directly behind which, from the row of the last item alone. Assumes nothing.
 use mathlib.Core.Path.{_≡_}
-use mathlib.Core.Logic.{_⊎_, inl, inr}
+use mathlib.Core.Logic.{_⊎_}
 use mathlib.Core.Bool.{Bool, true, false, _&&_, _||_}
 use mathlib.Core.List.{List, [], _∷_}
 use mathlib.Core.Option.{Option, none, some}
-use Prim.Native.Nat.{ℕ, suc, _≤_, _<_}
+use Prim.Native.Nat.{ℕ, suc, _<_}
 use lib.Dec.{eqb}
 use Rattle.list.specs.Listing.{Kind, choice, Count, Rule, both, Listing, size, rowAt, Child, isGroup, required}
 use Rattle.list.specs.Content.{ValueOf, GroupOf}

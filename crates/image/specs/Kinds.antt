@@ -1,5 +1,4 @@
 -- The values of document 01's types, as images have them. Assumes nothing.
-use mathlib.Core.List.{List}
 use Prim.Native.Nat.{ℕ}
 use Rattle.list.specs.Listing.{Leaf, ref, iban, ccy, bool, num, amt, date, dtm, txt, enum}
 use Rattle.types.specs.Value.{Value, IsValue, bytes}

@@ -2,14 +2,13 @@
 use mathlib.Core.Path.{_≡_, refl, sym, _∙_, ap, subst}
 use mathlib.Core.Logic.{_≢_}
 use mathlib.Core.List.{List}
-use Prim.Native.Nat.{ℕ, _≤_, _<_}
+use Prim.Native.Nat.{ℕ, _≤_}
 use native.Mathlib.Omega.{arith}
 use lib.ListN.{length, take}
 use Rattle.io.specs.Counts.{Counts}
 use Rattle.text.specs.Pasting.{pasted}
 use Rattle.text.proofs.Pasting.{length-pasted}
 use Rattle.answer.specs.declared.Answer.{Answer}
-use Rattle.answer.specs.Table.{answer}
 use Rattle.line.specs.Line.{refusal}
 use Rattle.line.proofs.Lines.{taken-out, counts}
 use Rattle.house.specs.House.{house}

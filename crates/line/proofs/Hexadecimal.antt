@@ -1,19 +1,19 @@
 -- Hexadecimal: two digits for each byte, one behind the other, and back. Assumes nothing.
 use mathlib.Core.Path.{_≡_, refl, sym, _∙_, ap, ap₂}
 use mathlib.Core.List.{List, [], _∷_, _++_, nil≢cons, head-eq-of-cons-eq, tail-eq-of-cons-eq}
-use Prim.Native.Nat.{ℕ, zero, suc, _+_, _-_, _*_, _/_, _%_, _≤_, _<_, zero-le}
+use Prim.Native.Nat.{ℕ, zero, _+_, _-_, _/_, _%_, _≤_, _<_, zero-le}
 use native.Mathlib.Numerals.{add-one}
-use native.Mathlib.Nat.{add-zero, add-assoc}
+use native.Mathlib.Nat.{add-assoc}
 use native.Mathlib.Decide.{decLt}
 use native.Mathlib.Omega.{arith}
-use lib.ListN.{length, getD, drop, set, length-append, length-drop, length-set, drop-of-length-le}
+use lib.ListN.{length, getD, drop, set, length-drop, length-set, drop-of-length-le}
 use lib.Seq.{slice, drop-cons}
 use borrow.Author.Tests.{lt-ltb, le-ltb}
 use Rattle.text.specs.Lists.{Each}
 use Rattle.text.specs.Pasting.{pasted}
 use Rattle.text.proofs.Numbers.{Byte}
 use Rattle.text.proofs.Parts.{part-room, part-at}
-use Rattle.text.proofs.Pasting.{length-pasted, pasted-no, pasted-none, pasted-first}
+use Rattle.text.proofs.Pasting.{pasted-no, pasted-none, pasted-first}
 use Rattle.line.specs.Hex.{hexDigit, hexadecimal}
 
 pub digit-small : (n : ℕ) → n < 10 → hexDigit n ≡ 48 + n

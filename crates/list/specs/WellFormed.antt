@@ -1,13 +1,13 @@
 -- What a well-formed list keeps to, rule by rule in document 01's order. Assumes nothing.
 use mathlib.Core.Path.{_≡_}
-use mathlib.Core.Bool.{Bool, true, false}
+use mathlib.Core.Bool.{true}
 use mathlib.Core.Logic.{_≢_}
 use mathlib.Core.List.{List, [], _∷_}
 use Prim.Native.Nat.{ℕ, _≤_, _<_}
 use lib.ListN.{length}
 use Rattle.text.specs.Bytes.{isCapital, isNameStart, isNamePart, isUnmarked}
 use Rattle.text.specs.Lists.{Each, All, Begins}
-use Rattle.list.specs.Listing.{Leaf, ref, iban, ccy, bool, num, amt, date, dtm, txt, enum, Kind, group, choice, leaf, Count, one, optional, alternative, Rule, both, Listing, size, rowAt, Child, isGroup, isChoice, up}
+use Rattle.list.specs.Listing.{Leaf, ref, iban, ccy, bool, num, amt, date, dtm, txt, enum, Kind, group, choice, leaf, one, optional, alternative, Rule, both, Listing, size, rowAt, Child, isGroup, up}
 
 -- a text that is none of those
 abbrev pub Fresh : List ℕ → List (List ℕ) → Type 0

@@ -24,7 +24,7 @@ use Rattle.measure.specs.Pass.{Puts, Opens, Shuts, Ready, Passes, Passed
 use Rattle.demands.proofs.House.{spelling}
 use Rattle.measure.proofs.Coin.{coins}
 use Rattle.measure.proofs.End.{says-of}
-use Rattle.measure.proofs.Going.{Going, begun, begin-refused, begin-closed, begin-opened, goes-first, at-most, here-row, step-refused, step-enters, step-leaves, step-ends, enters-row, goes-in, goes-out, bad-value, ends-in}
+use Rattle.measure.proofs.Going.{Going, begun, begin-refused, begin-closed, begin-opened, goes-first, at-most, step-refused, step-enters, step-leaves, step-ends, goes-in, goes-out, bad-value, ends-in}
 
 module _ (t pool s : List ℕ) where
   -- where the pass stands, whatever says that the tables are sound and the text is house XML

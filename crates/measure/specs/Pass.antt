@@ -1,19 +1,17 @@
 -- One pass over a message: the first violation, or the image's length and its bytes in a lent buffer. Assumes nothing.
 use mathlib.Core.Path.{_≡_}
-use mathlib.Core.Bool.{true, false, cond}
-use mathlib.Core.Logic.{_⊎_}
+use mathlib.Core.Bool.{true, false}
 use mathlib.Core.List.{List, [], _∷_}
 use mathlib.Core.Option.{Option, none, some}
 use Prim.Native.Nat.{ℕ, suc, _+_, _≤_, _<_}
-use lib.Dec.{eqb}
 use lib.ListN.{length}
 use Rattle.answer.specs.Table.{limit}
 use Rattle.text.specs.Pasting.{pasted}
 use Rattle.characters.specs.Pieces.{Spells}
-use Rattle.list.specs.Listing.{Leaf, amt, Kind, leaf, Listing, size, Child, child, isGroup}
+use Rattle.list.specs.Listing.{Leaf, amt, Kind, leaf, Listing, isGroup}
 use Rattle.list.specs.WellFormed.{LeafOk}
 use Rattle.list.specs.Content.{Content}
-use Rattle.list.specs.Table.{cell, placeIn, kindOf, wordsIn, listOf}
+use Rattle.list.specs.Table.{cell, placeIn, kindOf, wordsIn}
 use Rattle.list.specs.Sound.{Sound}
 use Rattle.xml.specs.House.{HouseXml}
 use Rattle.xml.specs.Message.{Parts, messageOf}
@@ -23,7 +21,7 @@ use Rattle.walk.specs.First.{fine, found, firstViolation}
 use Rattle.walk.specs.Denotes.{Has}
 use Rattle.demands.specs.Instance.{Kinds}
 use Rattle.demands.specs.File.{imageOf}
-use Rattle.measure.specs.Measured.{verdict, Message}
+use Rattle.measure.specs.Measured.{verdict}
 
 -- bs stand in the buffer from `at` on where they fit in, and r is the place behind them; the buffer keeps its length
 pub record Puts (d : List ℕ) (at : ℕ) (bs : List ℕ) (r : ℕ) (d′ : List ℕ) : Type 0 where

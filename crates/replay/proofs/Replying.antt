@@ -11,17 +11,14 @@ use borrow.Author.Tests.{le-leb, eq-eqb, ne-eqb, eqb-true}
 use Rattle.answer.specs.declared.Answer.{Answer}
 use Rattle.answer.specs.Table.{limit}
 use Rattle.house.specs.House.{house}
-use Rattle.image.specs.Kinds.{values}
-use Rattle.image.specs.Place.{Reads}
-use Rattle.image.specs.Pick.{Picks}
 use Rattle.image.proofs.House.{house-reads-one, house-picks-one}
 use Rattle.demands.specs.Checks.{Checks}
 use Rattle.unit.proofs.Programs.{rooms-alike}
 use Rattle.feed.specs.declared.case.Case.{Case}
 use Rattle.feed.specs.declared.case.Case.the-variants.{Check, Read, Pick, Broken}
 use Rattle.feed.specs.Cases.{longest, caseOf, sizeOf, caseIn, bytesIn}
-use Rattle.feed.specs.Reply.{answerLine, brokenLine, Put}
-use Rattle.feed.proofs.Heads.{whole, Kept, kept, roomOf}
+use Rattle.feed.specs.Reply.{answerLine, Put}
+use Rattle.feed.proofs.Heads.{whole, Kept, kept}
 use Rattle.replay.specs.Replies.{imageIn, Checked, Measured, Picked, Replies, checked, measured, picked, broken}
 
 -- ---- a check

@@ -1,13 +1,12 @@
 -- The scanner's answer, and that no other fits. Assumes nothing.
-use mathlib.Core.Path.{_≡_, refl, sym, _∙_, ap, subst}
-use mathlib.Core.Bool.{Bool, true, false}
-use mathlib.Core.List.{List, [], _∷_}
+use mathlib.Core.Path.{_≡_, refl, _∙_, ap, subst}
+use mathlib.Core.Bool.{true, false}
+use mathlib.Core.List.{List}
 use Prim.Native.Nat.{ℕ, _+_, _≤_, _<_}
-use native.Mathlib.Omega.{arith}
 use lib.ListN.{length, getD, drop}
-use Rattle.text.specs.Bytes.{isBlank, isNamePart}
+use Rattle.text.specs.Bytes.{isBlank}
 use Rattle.text.specs.Lists.{span}
-use Rattle.xml.specs.Auto.{At, done, start, root, St, dead, at, next}
+use Rattle.xml.specs.Auto.{done, start, root, dead, at, next}
 use Rattle.xml.proofs.Theorem.{longest-one}
 use Rattle.scan.specs.Goes.{fate, Goes}
 use Rattle.scan.specs.Right.{Right}

@@ -1,9 +1,9 @@
 -- Attributes. Assumes nothing.
-use mathlib.Core.Path.{_≡_, refl, sym, _∙_, ap, subst}
-use mathlib.Core.Bool.{Bool, true, false, cond}
+use mathlib.Core.Path.{_≡_, refl, sym, _∙_, subst}
+use mathlib.Core.Bool.{true, false}
 use mathlib.Core.Logic.{_≢_, ⊎-elim}
-use mathlib.Core.List.{List, [], _∷_, _++_}
-use Prim.Native.Nat.{ℕ, zero, suc, _+_, _-_, _≤_, _<_}
+use mathlib.Core.List.{List, [], _∷_}
+use Prim.Native.Nat.{ℕ, _+_, _≤_, _<_}
 use native.Mathlib.Omega.{arith}
 use types.Run.{OneOf}
 use lib.Dec.{eqb}
@@ -12,13 +12,13 @@ use borrow.Author.Tests.{eq-eqb, ne-eqb}
 use Rattle.text.specs.Bytes.{isBlank}
 use Rattle.text.specs.Lists.{span}
 use Rattle.xml.specs.House.{Quote, single, double, mark}
-use Rattle.xml.specs.Auto.{Part, Read, bad, all, more, lead, go-on, At, tail, equals, quote, value, within, St, dead, at, valueNext, next}
+use Rattle.xml.specs.Auto.{Read, bad, all, more, lead, go-on, tail, equals, quote, value, within, dead, at, valueNext, next}
 use Rattle.scan.specs.Goes.{fate, Goes, Marked, GoesValue, GoesEquals}
 use Rattle.pieces.specs.Over.{Over}
 use Rattle.pieces.specs.Kinds.{IsPiece}
 use Rattle.pieces.specs.declared.Went.{Went}
 use Rattle.pieces.specs.declared.Went.the-variants.{On, Stopped}
-use Rattle.scan.proofs.Fate.{fate-end, fate-dead, fate-byte, run-within, run-behind, run-over}
+use Rattle.scan.proofs.Fate.{fate-end, fate-dead, fate-byte, run-behind, run-over}
 use Rattle.scan.proofs.Passed.{hosted, Hosts, piece-goes}
 use Rattle.scan.proofs.Goes.{goes-after, goes-byte, goes-stop}
 

@@ -1,25 +1,25 @@
 -- What stands before the first element. Assumes nothing.
 use mathlib.Core.Path.{_≡_, refl, sym, _∙_, ap, ap₂, subst}
-use mathlib.Core.Bool.{Bool, true, false, cond}
+use mathlib.Core.Bool.{true, false}
 use mathlib.Core.Logic.{_≢_}
-use mathlib.Core.List.{List, [], _∷_, _++_}
-use Prim.Native.Nat.{ℕ, zero, suc, _+_, _-_, _≤_, _<_}
+use mathlib.Core.List.{List, [], _∷_}
+use Prim.Native.Nat.{ℕ, _+_, _≤_, _<_}
 use native.Mathlib.Decide.{ℕ-discrete, decLt}
 use native.Mathlib.Omega.{arith}
 use lib.Dec.{eqb}
-use lib.ListN.{length, getD, drop, length-append}
+use lib.ListN.{length, getD, drop}
 use borrow.Author.Tests.{ne-eqb}
 use Rattle.text.specs.Bytes.{ascii, isBlank, isNameStart}
 use Rattle.text.specs.Lists.{span}
 use Rattle.text.specs.Words.{starts}
 use Rattle.text.proofs.Parts.{starts-is, starts-not}
-use Rattle.xml.specs.Auto.{At, start, first, before, root, declare, St, dead, at, declareNext, next}
+use Rattle.xml.specs.Auto.{start, first, before, root, declare, dead, at, declareNext, next}
 use Rattle.scan.specs.Goes.{fate, Goes}
 use Rattle.pieces.specs.Over.{Over}
 use Rattle.pieces.specs.Kinds.{IsWord}
 use Rattle.pieces.specs.declared.Went.{Went}
 use Rattle.pieces.specs.declared.Went.the-variants.{On, Stopped}
-use Rattle.scan.proofs.Fate.{fate-end, fate-dead, fate-byte, fate-alike, run-within, run-behind, run-over}
+use Rattle.scan.proofs.Fate.{fate-end, fate-dead, fate-byte, fate-alike, run-behind, run-over}
 use Rattle.scan.proofs.Passed.{Literal, Spelled, word-spelled}
 use Rattle.scan.proofs.Goes.{goes-after}
 

@@ -1,14 +1,14 @@
 -- The table of classes: what a byte above a level is. Assumes nothing.
-use mathlib.Core.Path.{_≡_, refl, sym, _∙_, ap, subst}
+use mathlib.Core.Path.{_≡_, refl, sym, _∙_, ap}
 use mathlib.Core.Bool.{Bool, true, false, cond, not, _&&_, _||_, true≢false}
-use mathlib.Core.Logic.{_⊎_, inl, inr, _≢_}
+use mathlib.Core.Logic.{inl, inr, _≢_}
 use mathlib.Core.List.{List, [], _∷_}
-use Prim.Native.Nat.{ℕ, zero, suc, _+_, _≤_, _<_}
+use Prim.Native.Nat.{ℕ, _+_, _≤_, _<_}
 use native.Mathlib.Omega.{arith}
-use lib.Dec.{T, leb, ltb, eqb}
+use lib.Dec.{ltb, eqb}
 use native.Mathlib.Decide.{decLt}
 use lib.ListN.{length, getD, drop, List·getD-eq-default}
-use borrow.Author.Tests.{ltb-true, eqb-true, not-true}
+use borrow.Author.Tests.{ltb-true, eqb-true}
 use Rattle.text.specs.Bytes.{isBlank, isNamePart}
 use Rattle.xml.specs.Auto.{Read, bad, all, more, lead}
 use Rattle.xml.proofs.Jump.{Easy}

@@ -2,15 +2,15 @@
 use mathlib.Core.Path.{_≡_, refl, sym, _∙_, ap, ap₂, subst}
 use mathlib.Core.Bool.{Bool, true, false, cond, true≢false}
 use mathlib.Core.List.{List, [], _∷_, _++_, append-assoc, append-nil}
-use Prim.Native.Nat.{ℕ, zero, suc, _+_, _-_, _≤_, _<_}
+use Prim.Native.Nat.{ℕ, zero, suc, _+_, _≤_, _<_}
 use native.Mathlib.Numerals.{add-one}
 use native.Mathlib.Nat.{add-zero}
 use native.Mathlib.Decide.{decLt}
 use native.Mathlib.Omega.{arith}
 use lib.ListN.{length, getD, drop, take, length-drop, drop-of-length-le}
-use lib.Seq.{drop-cons, drop-drop, getD-drop, slice}
+use lib.Seq.{drop-cons, drop-drop, getD-drop}
 use Rattle.text.specs.Lists.{span}
-use Rattle.text.proofs.Spans.{span-le, span-next, span-end, span-stop, span-go}
+use Rattle.text.proofs.Spans.{span-le, span-next, span-end, span-stop}
 use Rattle.xml.specs.House.{HouseXml, Longest}
 use Rattle.xml.specs.Auto.{At, done, start, first, before, root, declare, name, tail, gap, attr, equals, quote, value, within, slash, content, part, less, close, St, dead, at, next, step, run, isDead, liveLen}
 use Rattle.xml.proofs.Theorem.{accepts, accepted, longest, dead-run}

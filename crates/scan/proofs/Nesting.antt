@@ -1,6 +1,6 @@
 -- Elements within elements. Assumes nothing.
 use mathlib.Core.Path.{_≡_, refl, sym, _∙_, ap, ap₂, subst}
-use mathlib.Core.Bool.{Bool, true, false, cond}
+use mathlib.Core.Bool.{true, false, cond}
 use mathlib.Core.Logic.{_≢_}
 use mathlib.Core.List.{List, [], _∷_, _++_}
 use Prim.Native.Nat.{ℕ, zero, suc, _+_, _-_, _≤_, _<_}
@@ -9,7 +9,7 @@ use lib.Dec.{eqb}
 use lib.ListN.{length, getD, set, drop, take}
 use lib.Seq.{slice}
 use borrow.Author.Tests.{ne-eqb}
-use Rattle.text.specs.Bytes.{isBlank, isNameStart, isNamePart}
+use Rattle.text.specs.Bytes.{isBlank, isNameStart}
 use Rattle.text.specs.Lists.{span}
 use Rattle.text.proofs.Parts.{part-take}
 use Rattle.xml.specs.Auto.{At, done, root, name, tail, content, less, close, St, dead, at, after, push, next}

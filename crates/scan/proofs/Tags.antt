@@ -1,24 +1,23 @@
 -- Start tags behind their name: attributes, blanks, and `>` or `/>`. Assumes nothing.
 use mathlib.Core.Path.{_≡_, refl, sym, _∙_, ap, ap₂, subst}
-use mathlib.Core.Bool.{Bool, true, false, cond, true≢false}
+use mathlib.Core.Bool.{true, false, true≢false}
 use mathlib.Core.Logic.{_≢_}
 use mathlib.Core.List.{List, [], _∷_, _++_}
 use Prim.Native.Nat.{ℕ, zero, suc, _+_, _-_, _≤_, _<_}
-use native.Mathlib.Numerals.{add-one}
 use native.Mathlib.Decide.{decLt}
 use native.Mathlib.Omega.{arith}
 use lib.Dec.{eqb}
-use lib.ListN.{length, getD, set, drop, take}
+use lib.ListN.{length, getD, set, drop}
 use lib.Seq.{slice}
-use borrow.Author.Tests.{eq-eqb, ne-eqb}
-use Rattle.text.specs.Bytes.{isBlank, isNameStart, isNamePart}
+use borrow.Author.Tests.{ne-eqb}
+use Rattle.text.specs.Bytes.{isBlank, isNameStart}
 use Rattle.text.specs.Lists.{span}
 use Rattle.text.proofs.Spans.{span-go}
-use Rattle.xml.specs.Auto.{At, name, tail, gap, attr, equals, slash, content, St, dead, at, member, after, next}
+use Rattle.xml.specs.Auto.{name, tail, gap, attr, equals, slash, content, dead, at, member, after, next}
 use Rattle.xml.proofs.Basics.{blank-no-start}
 use Rattle.scan.specs.Classes.{above}
-use Rattle.scan.specs.Goes.{fate, Goes, GoesEquals}
-use Rattle.scan.specs.Tags.{names, Held, Turns, GoesAttribute, GoesEnd, GoesTag}
+use Rattle.scan.specs.Goes.{fate, GoesEquals}
+use Rattle.scan.specs.Tags.{names, Held, GoesAttribute, GoesEnd, GoesTag}
 use Rattle.pieces.specs.declared.Went.{Went}
 use Rattle.pieces.specs.declared.Went.the-variants.{On, Stopped}
 use Rattle.scan.specs.declared.tag.Tag.{Tag}

@@ -3,20 +3,20 @@ use mathlib.Core.Path.{_≡_, refl, sym, _∙_, ap, subst}
 use mathlib.Core.Bool.{Bool, true, false, cond, not, _&&_}
 use mathlib.Core.Logic.{_≢_}
 use mathlib.Core.List.{List, [], _∷_, _++_}
-use Prim.Native.Nat.{ℕ, zero, suc, _+_, _-_, _≤_, _<_}
+use Prim.Native.Nat.{ℕ, suc, _+_, _-_, _≤_, _<_}
 use native.Mathlib.Decide.{decLt}
 use native.Mathlib.Omega.{arith}
 use lib.Dec.{leb, eqb}
-use lib.ListN.{length, getD, drop, take, length-append, length-drop}
+use lib.ListN.{length, getD, drop, take, length-append}
 use lib.Seq.{length-take-le}
 use borrow.Author.Tests.{eq-eqb, ne-eqb, le-leb, leb-true, eqb-true}
 use Rattle.text.specs.Lists.{span}
 use Rattle.text.proofs.Classes.{and-is}
 use Rattle.text.proofs.Spans.{span-le, span-go}
-use Rattle.xml.specs.Auto.{Part, Read, bad, all, more, lead, go-on, At, content, part, less, St, dead, at, contentNext, next}
-use Rattle.xml.proofs.Jump.{Easy, easy-next}
+use Rattle.xml.specs.Auto.{Read, bad, all, more, lead, go-on, content, part, less, dead, at, contentNext, next}
+use Rattle.xml.proofs.Jump.{easy-next}
 use Rattle.scan.specs.Classes.{above}
-use Rattle.scan.specs.Goes.{fate, Goes, GoesOther, GoesText}
+use Rattle.scan.specs.Goes.{fate, GoesOther, GoesText}
 use Rattle.pieces.specs.Over.{Over}
 use Rattle.pieces.specs.Kinds.{IsPiece, isBracket, goesOn, overRow}
 use Rattle.pieces.specs.declared.Went.{Went}
@@ -25,7 +25,7 @@ use Rattle.scan.proofs.Classes.{above-easy}
 use Rattle.scan.proofs.Fate.{fate-end, fate-dead, fate-byte, fate-alike, fate-grow, run-within, run-behind, run-over}
 use Rattle.pieces.proofs.Rows.{row-is, row-next, row-end}
 use Rattle.scan.proofs.Passed.{hosted, Hosts, piece-goes}
-use Rattle.scan.proofs.Goes.{goes-after, goes-stop}
+use Rattle.scan.proofs.Goes.{goes-stop}
 
 and-no : (u : Bool) → (u && false) ≡ false
 and-no true = refl

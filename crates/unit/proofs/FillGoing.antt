@@ -1,7 +1,7 @@
 -- The pass that writes: where it stands, by the walk that finds nothing there, and what each turn adds. Over any types. Assumes nothing.
 use mathlib.Core.Path.{_≡_, refl, sym, _∙_, ap, subst}
 use mathlib.Core.Logic.{_≢_, _⊎_, inl, inr}
-use mathlib.Core.Bool.{Bool, true, false, true≢false, false≢true}
+use mathlib.Core.Bool.{Bool, true, false, true≢false}
 use mathlib.Core.List.{List, [], _∷_, _++_}
 use Prim.Native.Nat.{ℕ, _+_, _-_, _≤_, _<_}
 use native.Mathlib.Decide.{ℕ-discrete}
@@ -25,13 +25,12 @@ use Rattle.tags.specs.declared.token.Token.{Token}
 use Rattle.tags.specs.Passing.{but, headIs, behind}
 use Rattle.tags.specs.Tokens.{openAt}
 use Rattle.tags.specs.Story.{tokenIn}
-use Rattle.walk.specs.declared.level.Level.{Level}
 use Rattle.walk.specs.declared.verdict.Verdict.{Verdict}
 use Rattle.walk.specs.declared.step.Here.{Here}
 use Rattle.walk.specs.declared.step.Met.the-variants.{Opened, Closed, Refused}
 use Rattle.walk.specs.declared.step.Turn.{Turn}
 use Rattle.walk.specs.Types.{Types, Spelling}
-use Rattle.walk.specs.First.{Found, fine, found, firstViolation}
+use Rattle.walk.specs.First.{fine, found, firstViolation}
 use Rattle.walk.specs.Machine.{advance}
 use Rattle.walk.specs.Tables.{isGroupIn, levels}
 use Rattle.walk.specs.Stride.{rowIn, inner, stepIn, stackIn}
@@ -39,7 +38,7 @@ use Rattle.walk.specs.Begin.{beginIn}
 use Rattle.walk.proofs.Sound.{Placed, group-in}
 use Rattle.walk.proofs.Own.{Coins}
 use Rattle.walk.proofs.Beginning.{first-is}
-use Rattle.walk.proofs.Turned.{Nested, Enters, Leaves, Ends, refused, opened, closed, whole, Starts, denied, starts, finds}
+use Rattle.walk.proofs.Turned.{Nested, Enters, Leaves, refused, opened, closed, whole, Starts, denied, starts, finds}
 use Rattle.walk.proofs.Known.{less-is, is-open, close-end, blanks-less, Went, known, there, by-close, by-open, opened-here, closed-here}
 use Rattle.image.specs.Image.{header}
 use Rattle.demands.specs.Instance.{Kinds}
@@ -49,7 +48,7 @@ use Rattle.measure.specs.Pass.{Puts, Shuts, Passes, violates, holds}
 use Rattle.unit.specs.Fill.{spotAt, Comes}
 use Rattle.measure.proofs.Leaf.{opens-group, opens-leaf, shuts-group}
 use Rattle.measure.proofs.End.{isFine}
-use Rattle.measure.proofs.Going.{isRefused, apart, row-byte, Going, begun, begin-opened, goes-first, at-most, steps, step-enters, step-leaves, step-ends, goes-in, goes-out, bad-value, ends-in}
+use Rattle.measure.proofs.Going.{isRefused, apart, Going, begun, goes-first, at-most, steps, step-enters, step-leaves, step-ends, goes-in, goes-out, bad-value, ends-in}
 
 -- a stack to begin with: the walk asks of it only that it has room
 room : List ℕ

@@ -1,9 +1,9 @@
 -- The search for a child that there is, around the children of a group. Assumes nothing.
 use mathlib.Core.Path.{_≡_, refl, sym, _∙_, ap, subst}
-use mathlib.Core.Logic.{_≢_, _⊎_, inl, inr}
+use mathlib.Core.Logic.{_≢_, inl, inr}
 use mathlib.Core.Bool.{Bool, true, false, cond, not, true≢false}
 use mathlib.Core.List.{List}
-use Prim.Native.Nat.{ℕ, _+_, _-_, _≤_, _<_}
+use Prim.Native.Nat.{ℕ, _-_, _≤_, _<_}
 use native.Mathlib.Decide.{ℕ-discrete, decLt}
 use native.Mathlib.Omega.{arith}
 use lib.Dec.{eqb, ltb}
@@ -11,7 +11,7 @@ use borrow.Author.Tests.{eq-eqb, ne-eqb, lt-ltb, le-ltb}
 use Rattle.text.specs.Lists.{same}
 use Rattle.list.specs.Listing.{Listing, rowAt, size, Child, child}
 use Rattle.list.specs.Table.{cell, nameIn, listOf}
-use Rattle.list.specs.Sound.{Sound, nextChild}
+use Rattle.list.specs.Sound.{nextChild}
 use Rattle.list.proofs.Words.{same-eq, same-of}
 use Rattle.list.proofs.Rows.{size-is, name-is}
 use Rattle.list.proofs.Next.{next-child, no-child}

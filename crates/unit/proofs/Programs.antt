@@ -14,8 +14,8 @@ use Rattle.image.specs.Kinds.{values}
 use Rattle.image.specs.Place.{Reads}
 use Rattle.image.proofs.House.{house-reads-one}
 use Rattle.demands.specs.Instance.{houseKinds}
-use Rattle.demands.specs.File.{File, imageOf}
-use Rattle.demands.specs.Checks.{Answers, long, bytes, markup, violation, room, image, Checks}
+use Rattle.demands.specs.File.{imageOf}
+use Rattle.demands.specs.Checks.{long, bytes, markup, violation, room, image, Checks}
 use Rattle.demands.proofs.House.{checks-one, accepted-exactly, accepted-image, read-back}
 
 module _ (s d : List ℕ) (a : Answer) (d′ : List ℕ) where

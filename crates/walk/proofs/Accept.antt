@@ -1,25 +1,25 @@
 -- A message has no violation exactly when it has a content that meets the list; and it has one content. Assumes nothing.
 use mathlib.Core.Path.{_≡_, refl, sym, _∙_, ap, ap₂, subst}
-use mathlib.Core.Bool.{Bool, true, false, _&&_, not, and-false, true≢false, false≢true}
+use mathlib.Core.Bool.{true, false, _&&_, not, and-false, true≢false, false≢true}
 use mathlib.Core.List.{List, [], _∷_}
 use mathlib.Core.Option.{Option}
-use Prim.Native.Nat.{ℕ, zero, suc, _≤_, _<_}
+use Prim.Native.Nat.{ℕ, _<_}
 use native.Mathlib.Omega.{arith}
 use lib.Dec.{eqb}
 use borrow.Author.Tests.{eq-eqb, not-false}
 use Rattle.text.specs.Bytes.{ascii, isBlank}
 use Rattle.text.specs.Lists.{Each, same}
-use Rattle.list.specs.Listing.{Leaf, Kind, group, choice, leaf, Listing, rowAt, Child, child, isGroup, isChoice}
+use Rattle.list.specs.Listing.{Leaf, Kind, group, choice, leaf, Listing, rowAt, Child, child, isGroup}
 use Rattle.list.specs.WellFormed.{LeafOk, KindOk, WellFormed}
-use Rattle.list.specs.Content.{Content, end, value, node, rows, Children, ValueOf, GroupOf, Good, Meets}
+use Rattle.list.specs.Content.{Content, end, value, node, rows, ValueOf, GroupOf, Good, Meets}
 use Rattle.xml.specs.Message.{Attrs, Parts, none, char, element}
 use Rattle.walk.specs.Types.{Types, Spelling}
-use Rattle.walk.specs.First.{Found, fine, found, if, orElse, firstOf, isNone, empty, textOf, only, currency, leafAttrs, attrsOk, kindOf, isRoot, childRows, opening, leafEnd, closing, inside, firstViolation}
-use Rattle.walk.specs.Denotes.{plain, OneElement, Spells, Denotes, Rooted, Has}
+use Rattle.walk.specs.First.{Found, fine, found, if, firstOf, isNone, empty, textOf, only, currency, attrsOk, kindOf, isRoot, childRows, opening, leafEnd, closing, inside, firstViolation}
+use Rattle.walk.specs.Denotes.{plain, OneElement, Spells, Denotes, Has}
 use Rattle.text.proofs.Classes.{and-is}
 use Rattle.list.proofs.Tests.{clash}
 use Rattle.list.proofs.Words.{same-eq, same-of}
-use Rattle.walk.proofs.Answers.{or-fine, if-no, only-yes, yes-only, group-attrs, attrs-group, kinds, some-of, no-none}
+use Rattle.walk.proofs.Answers.{or-fine, if-no, only-yes, yes-only, group-attrs, attrs-group, kinds, some-of}
 use Rattle.list.proofs.Child.{child-found, child-is}
 use Rattle.walk.proofs.Tests.{no-child}
 use Rattle.walk.proofs.Steps.{Fits, Steps}

@@ -1,9 +1,9 @@
 -- First answers, and the small tests that they are made of. Assumes nothing.
-use mathlib.Core.Path.{_≡_, refl, sym, _∙_, ap}
-use mathlib.Core.Bool.{Bool, true, false, cond, _&&_, _||_, not, true≢false, false≢true}
+use mathlib.Core.Path.{_≡_, refl, sym}
+use mathlib.Core.Bool.{Bool, true, false, _&&_, not, true≢false, false≢true}
 use mathlib.Core.List.{List, [], _∷_}
 use mathlib.Core.Option.{Option}
-use Prim.Native.Nat.{ℕ, zero, suc, _≤_, _<_}
+use Prim.Native.Nat.{ℕ, _≤_, _<_}
 use native.Mathlib.Omega.{arith}
 use lib.Dec.{ltb}
 use lib.ListN.{length}
@@ -12,7 +12,7 @@ use Rattle.text.specs.Lists.{Each, same}
 use Rattle.list.specs.Listing.{Leaf, Kind, group, choice, leaf, isGroup}
 use Rattle.xml.specs.Message.{Attrs}
 use Rattle.walk.specs.Types.{Types}
-use Rattle.walk.specs.First.{Found, fine, found, if, orElse, firstOf, isNone, empty, passed, only, noAttrs, attrsOk}
+use Rattle.walk.specs.First.{Found, fine, found, if, orElse, isNone, empty, passed, only, noAttrs, attrsOk}
 use Rattle.text.proofs.Classes.{and-is, or-not}
 use Rattle.list.proofs.Words.{same-eq, same-refl}
 

@@ -1,22 +1,21 @@
 -- The lowest required child that has not come, kept as one number. Assumes nothing.
 use mathlib.Core.Path.{_≡_, refl, sym, _∙_, ap}
 use mathlib.Core.Logic.{_≢_}
-use mathlib.Core.Bool.{Bool, true, false, cond, _&&_, not, and-true, and-false, true≢false, false≢true}
+use mathlib.Core.Bool.{true, false, cond, _&&_, not, and-true, false≢true}
 use mathlib.Core.List.{List, [], _∷_}
 use Prim.Native.Nat.{ℕ, zero, suc, _+_, _≤_, _<_}
 use native.Mathlib.Omega.{arith}
 use native.Mathlib.Decide.{ℕ-discrete, decLt}
 use lib.Dec.{eqb, ltb}
-use borrow.Author.Tests.{eqb-true, eq-eqb, ne-eqb, ltb-true, lt-ltb, le-ltb}
+use borrow.Author.Tests.{eqb-true, eq-eqb, ne-eqb, le-ltb}
 use Rattle.text.specs.Lists.{Each}
 use Rattle.list.specs.Words.{times, has, firstFrom}
 use Rattle.list.specs.Listing.{Listing, rowAt, size, Child, required, nextDue}
 use Rattle.text.proofs.Classes.{and-is}
 use Rattle.list.proofs.Tests.{byCases, clash}
-use Rattle.list.proofs.Words.{First, firstFrom-none, firstFrom-some, firstFrom-is, firstFrom-zero, firstFrom-ext, times-hit, times-miss, times-more, has-yes, has-of, each-at}
-use Rattle.list.proofs.Next.{Due, next-due, none-due}
+use Rattle.list.proofs.Words.{firstFrom-none, firstFrom-some, firstFrom-is, firstFrom-zero, firstFrom-ext, times-hit, times-miss, times-more, has-of, each-at}
+use Rattle.list.proofs.Next.{next-due, none-due}
 use Rattle.walk.specs.First.{absent}
-use Rattle.walk.proofs.Answers.{imp-and}
 use Rattle.walk.proofs.Tests.{lack}
 
 -- a row above all others has not come

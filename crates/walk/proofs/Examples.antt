@@ -1,14 +1,12 @@
 -- The examples, for the definition itself and for the mirror. Assumes nothing.
 use mathlib.Core.Path.{_≡_, refl}
 use mathlib.Core.Bool.{xor}
-use mathlib.Core.List.{List, [], _∷_}
 use Rattle.text.specs.Bytes.{isBlank}
 use Rattle.text.specs.Lists.{Each, same}
 use Rattle.list.specs.Words.{firstFrom}
 use Rattle.list.specs.Listing.{rowAt, child}
 use Rattle.house.specs.House.{house}
-use Rattle.xml.specs.Message.{Parts}
-use Rattle.walk.specs.First.{Found, absent, childRows, inside, firstViolation}
+use Rattle.walk.specs.First.{absent, childRows, inside, firstViolation}
 use Rattle.walk.specs.Example.{anyText, examples}
 
 pub examples-right : Each (λ c. firstViolation anyText house (c .0) ≡ c .1) examples

@@ -1,19 +1,19 @@
 -- The walk hands out the items of the message's content, in order. Assumes nothing.
 use mathlib.Core.Path.{_≡_, refl, sym, _∙_, ap, ap₂}
-use mathlib.Core.Bool.{Bool, true, false, cond, false≢true}
+use mathlib.Core.Bool.{true, false, false≢true}
 use mathlib.Core.List.{List, [], _∷_, _++_, append-assoc, append-nil}
 use mathlib.Core.Option.{Option}
-use Prim.Native.Nat.{ℕ, _<_}
-use Rattle.list.specs.Listing.{Kind, group, choice, leaf, Listing, rowAt, Child, child, isGroup}
+use Prim.Native.Nat.{ℕ}
+use Rattle.list.specs.Listing.{Kind, group, choice, leaf, Listing, child, isGroup}
 use Rattle.list.specs.WellFormed.{KindOk, WellFormed}
 use Rattle.list.specs.Content.{Content, end, value, node, items}
 use Rattle.xml.specs.Message.{Attrs, Parts, none, char, element}
-use Rattle.tags.specs.Story.{Event, char as text, enter, leave, events}
+use Rattle.tags.specs.Story.{Event, char as text, leave, events}
 use Rattle.walk.specs.declared.level.Level.{Level}
 use Rattle.walk.specs.Types.{Types, Spelling}
 use Rattle.walk.specs.First.{textOf, currency, kindOf}
 use Rattle.walk.specs.Denotes.{plain, Spells, Denotes, Has}
-use Rattle.walk.specs.Machine.{State, before, at, after, pop, fresh, advance, opens, closes, emits}
+use Rattle.walk.specs.Machine.{before, at, pop, fresh, advance, opens, closes, emits}
 use Rattle.list.proofs.Child.{child-is}
 
 -- a group's one item comes at its beginning

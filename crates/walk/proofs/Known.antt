@@ -5,29 +5,27 @@ use mathlib.Core.Bool.{Bool, true, false, cond, true≢false}
 use mathlib.Core.List.{List, [], _∷_}
 use Prim.Native.Nat.{ℕ, _+_, _-_, _≤_, _<_, min}
 use native.Mathlib.Nat.{min-eq-left}
-use native.Mathlib.Decide.{ℕ-discrete, decLt}
+use native.Mathlib.Decide.{decLt}
 use native.Mathlib.Omega.{arith}
 use lib.Dec.{eqb, ltb}
 use lib.ListN.{length, getD, drop, drop-of-length-le}
-use lib.Seq.{slice, drop-cons}
+use lib.Seq.{drop-cons}
 use native.Mathlib.Numerals.{add-one}
 use borrow.Author.Tests.{eqb-true, eqb-false, lt-ltb}
 use Rattle.text.specs.Bytes.{isBlank}
 use Rattle.text.specs.Lists.{span}
 use Rattle.characters.specs.Pieces.{less, greater, solidus}
 use Rattle.list.specs.Table.{cell}
-use Rattle.list.specs.Lookup.{childAlong}
 use Rattle.tags.specs.declared.attribute.Attribute.{Attribute}
 use Rattle.tags.specs.declared.token.Kind.{Kind}
 use Rattle.tags.specs.declared.token.Kind.the-variants.{Open, Empty, Close, End}
 use Rattle.tags.specs.declared.token.Token.{Token}
 use Rattle.tags.specs.Passing.{but, inName, pass, one, headIs, behind}
-use Rattle.tags.specs.Tokens.{bare, shutAt, tailAt, tagAt, openAt, tokenAt, inkIn}
+use Rattle.tags.specs.Tokens.{bare, shutAt, tailAt, tagAt, openAt, tokenAt}
 use Rattle.tags.specs.Story.{tokenIn}
-use Rattle.tags.proofs.Passing.{pass-at, pass-any, past-go, past-end}
-use Rattle.tags.proofs.Tokens.{token-ahead, token-within}
+use Rattle.tags.proofs.Passing.{pass-at, pass-any}
+use Rattle.tags.proofs.Tokens.{token-ahead}
 use Rattle.tags.proofs.Steps.{token-later}
-use Rattle.walk.specs.declared.level.Level.{Level}
 use Rattle.walk.specs.declared.step.Here.{Here}
 use Rattle.walk.specs.declared.step.Turn.{Turn}
 use Rattle.walk.specs.declared.step.Met.{Met}

@@ -1,9 +1,9 @@
 -- The walk with five numbers for each open element finds the first violation. Assumes nothing.
-use mathlib.Core.Path.{_≡_, refl, sym, _∙_, ap, ap₂, subst}
+use mathlib.Core.Path.{_≡_, refl, sym, _∙_, ap, subst}
 use mathlib.Core.Logic.{_≢_, inl, inr}
 use mathlib.Core.Bool.{Bool, true, false, cond, _&&_, _||_, not, true≢false, false≢true}
 use mathlib.Core.List.{List, [], _∷_, _++_, append-assoc, append-nil}
-use Prim.Native.Nat.{ℕ, zero, suc, _+_, _≤_, _<_}
+use Prim.Native.Nat.{ℕ, _+_, _≤_, _<_}
 use native.Mathlib.Omega.{arith}
 use native.Mathlib.Decide.{ℕ-discrete, decLt}
 use lib.Dec.{eqb, ltb}
@@ -11,17 +11,17 @@ use borrow.Author.Tests.{eqb-false, eq-eqb, ne-eqb, lt-ltb, le-ltb}
 use Rattle.text.specs.Bytes.{isBlank}
 use Rattle.text.specs.Lists.{Each}
 use Rattle.list.specs.Words.{times, has}
-use Rattle.list.specs.Listing.{Leaf, Kind, group, choice, leaf, Rule, both, Listing, rowAt, size, Child, child, isGroup, isChoice, single, required, nextDue}
+use Rattle.list.specs.Listing.{Leaf, Kind, group, choice, leaf, Rule, both, Listing, rowAt, size, Child, child, isGroup, isChoice, single, required}
 use Rattle.list.specs.WellFormed.{WellFormed}
 use Rattle.list.specs.Sound.{firstOf as mate, secondOf as pair}
 use Rattle.list.proofs.Words.{firstFrom-ext, times-hit, times-miss, has-of, each-at, each-of}
 use Rattle.xml.specs.Message.{Attrs, Parts, none, char, element}
-use Rattle.tags.specs.Story.{Event, char as text, enter, leave, events}
+use Rattle.tags.specs.Story.{Event, char as text, leave, events}
 use Rattle.walk.specs.declared.level.Level.{Level}
 use Rattle.walk.specs.Types.{Types}
 use Rattle.walk.specs.First.{Found, fine, found, if, orElse, firstOf, empty, passed, breaks, textOf, attrsOk, kindOf, isRoot, over, absent, childRows, opening, closing, inside, firstViolation}
 use Rattle.walk.specs.Denotes.{OneElement}
-use Rattle.walk.specs.Machine.{State, before, at, after, pop, fresh, advance, again, openTest, closeTest, run, walk, misses}
+use Rattle.walk.specs.Machine.{at, pop, fresh, advance, again, openTest, closeTest, run, walk, misses}
 use Rattle.walk.proofs.Answers.{or-right, or-when, or-assoc, if-no, passed-no, no-passed, group-attrs, kinds}
 use Rattle.list.proofs.Child.{child-found}
 use Rattle.walk.proofs.Tests.{no-child}

@@ -1,20 +1,19 @@
 -- A level's flag for rules: whether a row of a rule has come for good without the other. Assumes nothing.
 use mathlib.Core.Path.{_≡_, refl, sym, _∙_, ap, subst}
 use mathlib.Core.Logic.{_≢_, _⊎_, inl, inr}
-use mathlib.Core.Bool.{Bool, true, false, cond, _&&_, _||_, not, xor, or-true, true≢false, false≢true}
+use mathlib.Core.Bool.{Bool, true, false, _&&_, _||_, not, xor, or-true, false≢true}
 use mathlib.Core.List.{List, [], _∷_}
-use Prim.Native.Nat.{ℕ, zero, suc, _+_, _≤_, _<_}
+use Prim.Native.Nat.{ℕ, _≤_, _<_}
 use native.Mathlib.Omega.{arith}
 use native.Mathlib.Decide.{ℕ-discrete, decLt}
 use lib.Dec.{eqb, ltb}
-use borrow.Author.Tests.{eqb-true, eqb-false, eq-eqb, ne-eqb, ltb-true, ltb-false, lt-ltb, le-ltb, not-true, not-false}
+use borrow.Author.Tests.{eqb-true, eqb-false, eq-eqb, ne-eqb, lt-ltb, le-ltb, not-true}
 use Rattle.text.specs.Lists.{Each}
 use Rattle.list.specs.Words.{times, has}
-use Rattle.list.specs.Listing.{Rule, both, Listing, rowAt, Child}
+use Rattle.list.specs.Listing.{Rule, both, Listing, Child}
 use Rattle.list.specs.WellFormed.{BothOk, RuleOk, WellFormed}
 use Rattle.list.specs.Sound.{firstOf as mate, secondOf as pair}
 use Rattle.text.proofs.Classes.{and-is, or-is}
-use Rattle.list.proofs.Tests.{byCases}
 use Rattle.list.proofs.Rules.{Among, each-among}
 use Rattle.list.proofs.Words.{times-hit, times-miss, each-at}
 use Rattle.walk.specs.First.{breaks}

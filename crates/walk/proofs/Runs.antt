@@ -1,23 +1,22 @@
 -- The walk over a whole text at once, and over an element without content. Assumes nothing.
-use mathlib.Core.Path.{_≡_, refl, sym, _∙_, ap}
+use mathlib.Core.Path.{_≡_, refl, _∙_, ap}
 use mathlib.Core.Bool.{Bool, true, false, cond, _&&_, not}
 use mathlib.Core.List.{List, [], _∷_, _++_, append-assoc, append-nil}
-use Prim.Native.Nat.{ℕ, _+_, _≤_, _<_}
+use Prim.Native.Nat.{ℕ, _+_, _<_}
 use native.Mathlib.Omega.{arith}
-use lib.Dec.{eqb, ltb}
+use lib.Dec.{ltb}
 use lib.ListN.{length, length-append}
-use borrow.Author.Tests.{eq-eqb, lt-ltb, le-ltb}
+use borrow.Author.Tests.{lt-ltb, le-ltb}
 use Rattle.text.specs.Bytes.{isBlank}
 use Rattle.characters.specs.Pieces.{Piece, spell, spells, resolved, resolvedAll}
 use Rattle.characters.proofs.Resolving.{piece-some}
 use Rattle.list.specs.Listing.{Kind, group, choice, leaf, Listing, isGroup}
 use Rattle.xml.specs.Message.{Attrs}
-use Rattle.tags.specs.Story.{Event, enter, leave, chars, inkOf}
+use Rattle.tags.specs.Story.{Event, chars, inkOf}
 use Rattle.walk.specs.declared.level.Level.{Level}
 use Rattle.walk.specs.Types.{Types}
-use Rattle.walk.specs.First.{Found, fine, found, if, orElse, kindOf}
-use Rattle.walk.specs.Machine.{State, at, pop, fresh, advance, openTest, closeTest, run, emits}
-use Rattle.walk.proofs.Answers.{or-when}
+use Rattle.walk.specs.First.{found, if, orElse, kindOf}
+use Rattle.walk.specs.Machine.{at, fresh, closeTest, run, emits}
 
 module _ (T : Types) (l : Listing) (lv : Level) (below : List Level) (ats : Attrs) where
   -- in a leaf the characters are collected

@@ -1,13 +1,12 @@
 -- The tests of a tag over the tables, from what the code's calls told. Assumes nothing.
-use mathlib.Core.Path.{_≡_, refl, sym, _∙_}
-use mathlib.Core.Bool.{Bool, true, false, cond, _&&_, _||_, not}
+use mathlib.Core.Path.{_≡_, sym, _∙_}
+use mathlib.Core.Bool.{Bool, true, false, _||_, not}
 use mathlib.Core.List.{List}
 use Prim.Native.Nat.{ℕ, _≤_, _<_}
 use lib.Dec.{eqb, ltb, leb}
 use borrow.Author.Tests.{eq-eqb, ne-eqb, lt-ltb, le-ltb, le-leb, lt-leb}
 use Rattle.list.specs.Table.{cell}
 use Rattle.walk.specs.declared.level.Level.{Level}
-use Rattle.walk.specs.declared.verdict.Verdict.{Verdict}
 use Rattle.walk.specs.Tables.{says, nothing, isGroupIn, passedIn, againIn, openingIn, brokenIn, groupEndIn}
 
 pub leaf-kind : (c : ℕ) → 2 ≤ c → c ≤ 11 → false ≡ isGroupIn c

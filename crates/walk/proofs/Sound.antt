@@ -1,30 +1,26 @@
 -- In sound tables the numbers and tests over cells are those over the list. Assumes nothing.
 use mathlib.Core.Path.{_≡_, refl, sym, _∙_, ap, ap₂, subst}
 use mathlib.Core.Logic.{_≢_, _⊎_, inl, inr}
-use mathlib.Core.Bool.{Bool, true, false, cond, _&&_, _||_, not, true≢false, false≢true}
+use mathlib.Core.Bool.{Bool, true, false, cond, _&&_, _||_, not, false≢true}
 use mathlib.Core.List.{List, [], _∷_}
-use Prim.Native.Nat.{ℕ, zero, suc, _+_, _≤_, _<_}
+use Prim.Native.Nat.{ℕ, _≤_, _<_}
 use native.Mathlib.Omega.{arith}
-use native.Mathlib.Decide.{ℕ-discrete, decLt}
-use lib.Dec.{eqb, ltb, leb}
-use borrow.Author.Tests.{eq-eqb, ne-eqb, lt-ltb, le-ltb, le-leb, lt-leb}
-use Rattle.list.specs.Listing.{Leaf, Kind, group, choice, leaf, Count, Listing, size, rowAt, Child, isGroup, isChoice, single, nextDue}
-use Rattle.list.specs.WellFormed.{WellFormed}
-use Rattle.list.specs.Table.{cell, countOf, kindOf, wordsIn, listOf}
+use lib.Dec.{eqb, ltb}
+use borrow.Author.Tests.{eq-eqb}
+use Rattle.list.specs.Listing.{Kind, group, choice, leaf, Listing, size, rowAt, Child, isGroup, isChoice, single}
+use Rattle.list.specs.Table.{cell, wordsIn, listOf}
 use Rattle.list.specs.Sound.{Sound}
 use Rattle.list.specs.Sound.{firstOf as mate, secondOf as pair}
-use Rattle.list.specs.Lookup.{dueAfter}
 use Rattle.list.proofs.Along.{due-after}
 use Rattle.list.proofs.Codes.{single-is, choice-is, group-is}
 use Rattle.list.proofs.Rows.{size-is, kind-is, count-is}
 use Rattle.xml.specs.Message.{Attrs}
 use Rattle.walk.specs.declared.level.Level.{Level}
-use Rattle.walk.specs.declared.verdict.Verdict.{Verdict}
 use Rattle.walk.specs.Types.{Types}
-use Rattle.walk.specs.First.{Found, fine, found, if, orElse, firstOf, attrsOk}
+use Rattle.walk.specs.First.{found, if, firstOf, attrsOk}
 use Rattle.walk.specs.First.{kindOf as kindIn}
 use Rattle.walk.specs.Machine.{misses, fresh, advance, again, openTest, groupTest}
-use Rattle.walk.specs.Tables.{freshIn, nextIn, oddIn, advanceIn, says, nothing, isGroupIn, passedIn, againIn, openingIn, brokenIn, groupEndIn, foundOf}
+use Rattle.walk.specs.Tables.{freshIn, advanceIn, says, nothing, isGroupIn, passedIn, againIn, openingIn, brokenIn, groupEndIn, foundOf}
 
 -- ---- the tests, whatever the cells
 

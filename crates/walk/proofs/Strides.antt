@@ -1,6 +1,6 @@
 -- One step over bytes and tables, from what the code's calls told. Assumes nothing.
 use mathlib.Core.Path.{_≡_, refl, sym, _∙_, ap, ap₂, subst}
-use mathlib.Core.Bool.{Bool, true, false, cond, _&&_, not}
+use mathlib.Core.Bool.{Bool, true, false, cond}
 use mathlib.Core.List.{List}
 use mathlib.Core.Logic.{_≢_}
 use Prim.Native.Nat.{ℕ, zero, suc, _+_, _-_, _≤_, _<_, min}
@@ -27,9 +27,9 @@ use Rattle.walk.specs.declared.level.Level.{Level}
 use Rattle.walk.specs.declared.verdict.Verdict.{Verdict}
 use Rattle.walk.specs.declared.step.Here.{Here}
 use Rattle.walk.specs.declared.step.Turn.{Turn}
-use Rattle.walk.specs.declared.step.Met.the-variants.{Opened, Closed, Refused}
-use Rattle.walk.specs.Tables.{says, nothing, isGroupIn, freshIn, advanceIn, openingIn, groupEndIn, levelAt, pushed}
-use Rattle.walk.specs.Stride.{isCurrency, named, ownIn, spaceIn, inkBefore, textFrom, inkFrom, endIn, refusedAt, refusal, outer, closedIn, rowIn, inner, enteredIn, belowIn, vacantIn, numberOf, metIn, leftIn, inkAhead, stepBy, stackBy, stepIn, stackIn}
+use Rattle.walk.specs.declared.step.Met.the-variants.{Opened, Closed}
+use Rattle.walk.specs.Tables.{says, nothing, isGroupIn, freshIn, advanceIn, openingIn, groupEndIn, pushed}
+use Rattle.walk.specs.Stride.{isCurrency, named, ownIn, spaceIn, inkBefore, textFrom, inkFrom, endIn, refusedAt, refusal, outer, closedIn, rowIn, enteredIn, belowIn, vacantIn, numberOf, metIn, leftIn, inkAhead, stepBy, stackBy, stepIn, stackIn}
 
 -- ---- a kind by its number
 

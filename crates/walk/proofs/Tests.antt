@@ -1,9 +1,9 @@
 -- What it means that the tests of an opening and of a closing tag find nothing. Assumes nothing.
-use mathlib.Core.Path.{_≡_, refl, sym, _∙_, ap, ap₂, subst}
+use mathlib.Core.Path.{_≡_, refl, sym, _∙_, ap, subst}
 use mathlib.Core.Logic.{_↔_, _≢_}
-use mathlib.Core.Bool.{Bool, true, false, cond, _&&_, _||_, not, xor, true≢false, false≢true}
+use mathlib.Core.Bool.{Bool, true, false, _&&_, not, xor, true≢false, false≢true}
 use mathlib.Core.List.{List, [], _∷_}
-use Prim.Native.Nat.{ℕ, zero, suc, _+_, _≤_, _<_}
+use Prim.Native.Nat.{ℕ, zero, _≤_, _<_}
 use native.Mathlib.Omega.{arith}
 use native.Mathlib.Decide.{ℕ-discrete, decLt}
 use lib.Dec.{eqb, ltb}
@@ -16,7 +16,7 @@ use Rattle.list.specs.WellFormed.{WellFormed}
 use Rattle.list.specs.Content.{Counts, Keeps, Children}
 use Rattle.xml.specs.Message.{Attrs}
 use Rattle.walk.specs.Types.{Types}
-use Rattle.walk.specs.First.{Found, fine, found, if, orElse, firstOf, empty, passed, breaks, attrsOk, kindOf, over, absent, opening, groupEnd, closing}
+use Rattle.walk.specs.First.{Found, fine, if, firstOf, empty, passed, breaks, attrsOk, over, absent, groupEnd, closing}
 use Rattle.text.proofs.Classes.{or-not}
 use Rattle.list.proofs.Child.{child-zero}
 use Rattle.list.proofs.Words.{firstFrom-none, firstFrom-zero, times-hit, times-miss}

@@ -1,5 +1,5 @@
 -- A mirror: the root's tag over bytes and tables. Assumes nothing.
-use mathlib.Core.Bool.{Bool, false, cond, _&&_}
+use mathlib.Core.Bool.{Bool, cond, _&&_}
 use mathlib.Core.List.{List}
 use Prim.Native.Nat.{ℕ, _+_}
 use lib.Dec.{ltb}

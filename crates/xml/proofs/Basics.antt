@@ -1,14 +1,14 @@
 -- Blanks, names that differ, and tests. Assumes nothing.
-use mathlib.Core.Path.{_≡_, refl, sym, _∙_, ap, ap₂, subst}
+use mathlib.Core.Path.{_≡_, refl, sym, ap, subst}
 use mathlib.Core.Logic.{_≢_}
-use mathlib.Core.Bool.{Bool, true, false, cond, _&&_, _||_, true≢false}
-use mathlib.Core.List.{List, [], _∷_, _++_, nil≢cons}
-use Prim.Native.Nat.{ℕ, zero, suc, _+_, _≤_, _<_}
+use mathlib.Core.Bool.{Bool, true, false, _||_, true≢false}
+use mathlib.Core.List.{List, [], _∷_, _++_}
+use Prim.Native.Nat.{ℕ, zero, suc, _+_, _<_}
 use native.Mathlib.Omega.{arith}
-use lib.Dec.{leb, ltb, eqb}
+use lib.Dec.{eqb}
 use lib.ListN.{length, length-append}
-use borrow.Author.Tests.{eqb-true, eqb-false, eq-eqb, leb-true, ltb-true}
-use Rattle.text.specs.Bytes.{inRange, isBlank, isNameStart, isNamePart}
+use borrow.Author.Tests.{eqb-true}
+use Rattle.text.specs.Bytes.{isBlank, isNameStart, isNamePart}
 use Rattle.text.specs.Lists.{All, same}
 use Rattle.text.proofs.Parts.{same-eq, same-not}
 use Rattle.xml.specs.House.{Fresh}

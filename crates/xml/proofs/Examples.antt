@@ -1,11 +1,10 @@
 -- Examples: how many bytes begin some house XML text, computed. Assumes nothing.
-use mathlib.Core.Path.{_≡_, refl, subst}
-use mathlib.Core.Bool.{Bool, true, false, cond, _&&_}
+use mathlib.Core.Path.{subst}
+use mathlib.Core.Bool.{Bool, true, false, _&&_}
 use mathlib.Core.List.{List, [], _∷_, _++_}
 use Prim.Native.Nat.{ℕ, zero, suc}
 use Prim.Native.String.{String}
 use lib.Dec.{eqb, T, eqb→eq}
-use lib.ListN.{length}
 use Rattle.text.specs.Bytes.{ascii, isBlank, isNameStart, isNamePart}
 use Rattle.text.specs.Lists.{same}
 use Rattle.xml.specs.House.{Longest}

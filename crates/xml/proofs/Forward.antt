@@ -1,21 +1,20 @@
 -- The automaton over the rendering of a good tree. Assumes nothing.
-use mathlib.Core.Path.{_≡_, refl, sym, _∙_, ap, subst}
+use mathlib.Core.Path.{_≡_, refl, sym, _∙_, ap}
 use mathlib.Core.Logic.{_≢_}
-use mathlib.Core.Bool.{Bool, true, false, cond, _&&_, true≢false}
+use mathlib.Core.Bool.{Bool, true, false, _&&_, true≢false}
 use mathlib.Core.List.{List, [], _∷_, _++_, append-assoc, append-nil}
 use Prim.Native.Nat.{ℕ, zero, suc}
 use native.Mathlib.Omega.{arith}
-use lib.Dec.{leb, ltb, eqb}
-use borrow.Author.Tests.{eqb-true, eqb-false, eq-eqb, ne-eqb}
-use Rattle.text.specs.Bytes.{ascii, isBlank, isNameStart, isNamePart}
-use Rattle.characters.specs.Utf8.{encode}
-use Rattle.text.specs.Lists.{All, Begins}
-use Rattle.characters.specs.Pieces.{Piece, char, entity, spell, GoodPiece}
+use lib.Dec.{leb, eqb}
+use borrow.Author.Tests.{eq-eqb, ne-eqb}
+use Rattle.text.specs.Bytes.{isBlank, isNameStart, isNamePart}
+use Rattle.text.specs.Lists.{All}
+use Rattle.characters.specs.Pieces.{Piece, char, spell}
 use Rattle.xml.specs.House.{Blanks, SomeBlanks, IsName, Quote, single, double, mark, GoodValue, Attr, GoodAttr, Fresh, GoodAttrs, Tag, GoodTag, Content, end, piece, empty, full, OneElement, declaration}
 use Rattle.xml.proofs.Runs.{cuts, brackets, GoodAfter}
-use Rattle.xml.specs.Auto.{Part, Read, bad, all, more, lead, go-on, takes, At, done, start, first, before, root, declare, name, tail, gap, attr, equals, quote, value, within, slash, content, part, less, close, St, dead, at, member, after, tailStep, endStep, gapStep, equalsStep, valueNext, contentNext, push, closeStep, declareNext, next, step, run}
+use Rattle.xml.specs.Auto.{Part, Read, bad, all, more, lead, go-on, takes, At, done, start, first, before, root, name, tail, gap, attr, equals, quote, value, within, slash, content, part, less, close, St, at, member, after, endStep, valueNext, contentNext, next, step, run}
 use Rattle.xml.proofs.Basics.{blank-no-rest, blank-no-start, fresh-member}
-use Rattle.xml.proofs.Pieces.{Plain, Seen, s-short, s-long, seen, plain-brackets}
+use Rattle.xml.proofs.Pieces.{Seen, s-short, s-long, seen, plain-brackets}
 use Rattle.xml.proofs.Lang.{spellsOn, attrOn, attrsOn, tagOn, endOn, on}
 
 -- a byte, then the rest

@@ -1,20 +1,20 @@
 -- What each state of the automaton still takes, as renderings of trees. Assumes nothing.
 use mathlib.Core.Path.{_≡_, refl, sym, _∙_, ap, subst}
-use mathlib.Core.Bool.{Bool, true, false, cond, _&&_, true≢false}
+use mathlib.Core.Bool.{Bool, true, false, cond, _&&_}
 use mathlib.Core.List.{List, [], _∷_, _++_, append-assoc, append-nil}
 use Prim.Native.Nat.{ℕ, zero, suc, _<_}
 use native.Mathlib.Omega.{arith}
-use lib.Dec.{leb, ltb, eqb}
+use lib.Dec.{leb, eqb}
 use borrow.Author.Tests.{eqb-true, eqb-false, eq-eqb}
 use Rattle.text.specs.Bytes.{ascii, isBlank, isNameStart, isNamePart}
 use Rattle.characters.specs.Utf8.{encode}
-use Rattle.text.specs.Lists.{All, Begins}
-use Rattle.characters.specs.Pieces.{Piece, char, entity, spell, GoodPiece}
-use Rattle.xml.specs.House.{Blanks, SomeBlanks, IsName, Quote, single, double, mark, GoodValue, Attr, GoodAttr, Fresh, GoodAttrs, Tag, GoodTag, Content, end, piece, empty, full, declaration}
+use Rattle.text.specs.Lists.{All}
+use Rattle.characters.specs.Pieces.{Piece, char, spell}
+use Rattle.xml.specs.House.{Blanks, Quote, single, double, mark, GoodValue, Attr, Fresh, GoodAttrs, Tag, GoodTag, Content, end, piece, empty, full, declaration}
 use Rattle.xml.proofs.Runs.{cuts, brackets, GoodAfter}
-use Rattle.xml.specs.Auto.{Part, one, two, three, e0, ed, ef, efbf, f0, f4, ampersand, ampersandA, rest, Read, bad, all, more, toWord, lead, go-on, takes, At, done, start, first, before, root, declare, name, tail, gap, attr, equals, quote, value, within, slash, content, part, less, close, St, dead, at, member, after, tailStep, endStep, gapStep, equalsStep, valueNext, contentNext, push, closeStep, declareNext, next, step}
+use Rattle.xml.specs.Auto.{Part, one, two, three, e0, ed, ef, efbf, f0, f4, ampersand, ampersandA, rest, Read, bad, all, more, toWord, lead, go-on, takes, At, done, start, first, before, root, declare, name, tail, gap, attr, equals, quote, value, within, slash, content, part, less, close, St, dead, at, member, after, tailStep, endStep, gapStep, equalsStep, valueNext, contentNext, push, closeStep, declareNext, next}
 use Rattle.xml.proofs.Basics.{member-fresh, size, many, many-rest, grown}
-use Rattle.xml.proofs.Pieces.{Short, short, Found, found, plain-not, plain-cuts, plain-brackets}
+use Rattle.xml.proofs.Pieces.{short, found, plain-not, plain-cuts, plain-brackets}
 
 -- the bytes of a part of a tree, and then u
 abbrev pub spellsOn : List Piece → List ℕ → List ℕ

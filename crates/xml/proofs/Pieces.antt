@@ -1,12 +1,12 @@
 -- A piece by its bytes. Assumes nothing.
-use mathlib.Core.Path.{_≡_, refl, sym, _∙_, ap, ap₂, subst}
+use mathlib.Core.Path.{_≡_, refl, sym, _∙_, ap, ap₂}
 use mathlib.Core.Logic.{_≢_}
-use mathlib.Core.Bool.{Bool, true, false, cond, _&&_, _||_, true≢false}
-use mathlib.Core.List.{List, [], _∷_, _++_}
-use Prim.Native.Nat.{ℕ, zero, suc, _+_, _*_, _-_, _/_, _%_, _≤_, _<_}
+use mathlib.Core.Bool.{Bool, true, false, cond, _||_, true≢false}
+use mathlib.Core.List.{List, [], _∷_}
+use Prim.Native.Nat.{ℕ, _+_, _*_, _-_, _/_, _%_, _≤_, _<_}
 use native.Mathlib.Omega.{arith}
 use lib.Dec.{leb, ltb, eqb}
-use borrow.Author.Tests.{lt-ltb, le-ltb, le-leb, lt-leb, eq-eqb, ne-eqb, ltb-true, ltb-false, leb-true, leb-false, eqb-true, eqb-false}
+use borrow.Author.Tests.{lt-ltb, le-ltb, le-leb, ne-eqb, ltb-true, ltb-false, leb-true, eqb-true, eqb-false}
 use Rattle.text.specs.Bytes.{ascii, inRange}
 use Rattle.characters.specs.Pieces.{XmlChar, tab, line, return, low, middle, high}
 use Rattle.characters.specs.Utf8.{encode}
@@ -14,7 +14,7 @@ use Rattle.text.proofs.Classes.{in-range, in-range-is}
 use Rattle.characters.proofs.Decoding.{encode1, encode2, encode3, encode4}
 use Rattle.characters.specs.Pieces.{Entity, amp, lt, gt, quot, apos, word, Piece, char, entity, spell, GoodPiece}
 use Rattle.xml.proofs.Runs.{cuts, brackets}
-use Rattle.xml.specs.Auto.{Part, one, two, three, e0, ed, ef, efbf, f0, f4, ampersand, ampersandA, rest, Read, bad, all, more, toWord, asciiLead, long, lead, go-on, takes}
+use Rattle.xml.specs.Auto.{Part, one, two, three, e0, ed, ef, efbf, f0, f4, ampersand, ampersandA, Read, bad, all, more, toWord, long, lead, takes}
 
 -- no ASCII character
 abbrev pub Plain : Piece → Type 0

@@ -1,14 +1,13 @@
 -- `]]>` by counting: how many `]` stand directly before a piece. Assumes nothing.
-use mathlib.Core.Path.{_≡_, refl, sym, _∙_, ap}
-use mathlib.Core.Bool.{Bool, true, false, cond, _&&_, _||_, true≢false}
-use mathlib.Core.List.{List, [], _∷_}
-use Prim.Native.Nat.{ℕ, zero, suc, _≤_, _<_}
+use mathlib.Core.Path.{_≡_, refl, sym, _∙_}
+use mathlib.Core.Bool.{Bool, true, false, cond, _&&_, _||_}
+use Prim.Native.Nat.{ℕ, zero, suc}
 use native.Mathlib.Omega.{arith}
 use lib.Dec.{leb, eqb}
 use borrow.Author.Tests.{eqb-true, ne-eqb, le-leb, lt-leb, leb-true, leb-false}
 use Rattle.characters.specs.Pieces.{Piece, char, entity, GoodPiece}
 use Rattle.text.proofs.Classes.{or-not}
-use Rattle.xml.specs.House.{Blanks, GoodTag, Content, end, piece, empty, full, isChar, begins, behind, cut, Good}
+use Rattle.xml.specs.House.{Blanks, GoodTag, Content, end, piece, empty, full, begins, behind, cut, Good}
 
 abbrev pub cuts : ℕ → Piece → Bool
 cuts r (char c) = eqb c 62 && leb 2 r

@@ -1,13 +1,13 @@
 -- The automaton takes house XML, and its first dead step is where no house XML text goes on. Assumes nothing.
 use mathlib.Core.Path.{_≡_, refl, sym, _∙_, ap, subst}
 use mathlib.Core.Bool.{Bool, true, false, cond, true≢false}
-use mathlib.Core.List.{List, [], _∷_, _++_, append-assoc, append-nil}
+use mathlib.Core.List.{List, [], _∷_, _++_, append-nil}
 use Prim.Native.Nat.{ℕ, zero, suc, _≤_, zero-le, suc-le-suc}
 use native.Mathlib.Nat.{le-of-suc-le-suc}
 use native.Mathlib.Omega.{arith}
 use lib.ListN.{length, take}
-use Rattle.xml.specs.House.{Blanks, Content, end, empty, full, render, declaration, Tree, GoodTree, HouseXml, Viable, Longest}
-use Rattle.xml.specs.Auto.{At, done, start, St, dead, at, next, step, run, isDead, liveLen}
+use Rattle.xml.specs.House.{end, empty, full, render, declaration, HouseXml, Viable, Longest}
+use Rattle.xml.specs.Auto.{done, start, St, dead, at, step, run, isDead, liveLen}
 use Rattle.xml.proofs.Runs.{to-after, from-after}
 use Rattle.xml.proofs.Lang.{on, Rest, StartL, BeforeL, RootL, ElementL, e-empty, e-full, element, LS, back, live}
 use Rattle.xml.proofs.Forward.{start-run}

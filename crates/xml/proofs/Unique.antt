@@ -1,23 +1,23 @@
 -- A house XML text has one tree. Assumes nothing.
 use mathlib.Core.Path.{_≡_, refl, sym, _∙_, ap, ap₂, subst}
 use mathlib.Core.Logic.{_≢_}
-use mathlib.Core.Bool.{Bool, true, false, cond, _&&_, true≢false}
-use mathlib.Core.List.{List, [], _∷_, _++_, append-assoc, append-nil, head-eq-of-cons-eq, tail-eq-of-cons-eq, nil≢cons}
-use Prim.Native.Nat.{ℕ, zero, suc, _+_, _*_, _-_, _/_, _%_, _≤_, _<_}
+use mathlib.Core.Bool.{Bool, true, false, cond, true≢false}
+use mathlib.Core.List.{List, [], _∷_, _++_, head-eq-of-cons-eq, tail-eq-of-cons-eq}
+use Prim.Native.Nat.{ℕ, zero, suc, _+_, _*_, _-_, _/_, _%_, _<_}
 use native.Mathlib.Omega.{arith}
-use lib.Dec.{leb, ltb, eqb}
+use lib.Dec.{ltb, eqb}
 use lib.ListN.{getD}
-use borrow.Author.Tests.{lt-ltb, le-ltb, eqb-true, eqb-false, eq-eqb, ne-eqb, ltb-true, ltb-false}
-use Rattle.text.specs.Bytes.{ascii, isBlank, isNameStart, isNamePart}
+use borrow.Author.Tests.{ltb-true, ltb-false}
+use Rattle.text.specs.Bytes.{isBlank, isNameStart, isNamePart}
 use Rattle.characters.specs.Pieces.{XmlChar, tab, line, return, low, middle, high}
 use Rattle.characters.specs.Utf8.{encode}
-use Rattle.text.specs.Lists.{All, Begins}
+use Rattle.text.specs.Lists.{All}
 use Rattle.characters.specs.Pieces.{Entity, amp, lt, gt, quot, apos, word, Piece, char, entity, spell, GoodPiece}
-use Rattle.xml.specs.House.{Blanks, SomeBlanks, IsName, Quote, single, double, mark, GoodValue, Attr, GoodAttr, Fresh, GoodAttrs, Tag, GoodTag, Content, end, piece, empty, full, OneElement, declaration, Tree, GoodTree, whole}
+use Rattle.xml.specs.House.{Blanks, SomeBlanks, IsName, Quote, single, double, mark, GoodValue, Attr, GoodAttr, GoodAttrs, Tag, GoodTag, Content, end, piece, empty, full, OneElement, declaration, Tree, GoodTree, whole}
 use Rattle.xml.proofs.Runs.{brackets, GoodAfter, to-after}
 use Rattle.xml.specs.Auto.{Part, Read, bad, all, more, lead, go-on, takes}
-use Rattle.xml.proofs.Basics.{by-blank, blank-no-rest, blank-no-start}
-use Rattle.xml.proofs.Pieces.{Plain, Seen, s-short, s-long, seen}
+use Rattle.xml.proofs.Basics.{blank-no-rest, blank-no-start}
+use Rattle.xml.proofs.Pieces.{Seen, s-short, s-long, seen}
 use Rattle.xml.proofs.Lang.{spellsOn, attrOn, attrsOn, tagOn, endOn, on}
 use Rattle.xml.proofs.Render.{render-on}
 

@@ -2,7 +2,7 @@
 use borrow.Author.Needs.{needs}
 use Rattle.measure.proofs.violation.Statement.{statement}
 use Rattle.measure.proofs.violation.Tie as tie
-use mathlib.Core.Path.{_≡_, sym, _∙_, ap, ap₂}
+use mathlib.Core.Path.{sym, _∙_, ap, ap₂}
 use Prim.Native.Nat.{ℕ}
 use Rattle.answer.specs.Table.{answer}
 use Rattle.measure.proofs.Saying.{last-code}

@@ -1,6 +1,6 @@
 -- `replay::answer_all` meets its contract: the number of the case grows to its end. Assumes nothing.
 use mathlib.Core.Path.{_≡_}
-use Prim.Native.Nat.{_-_, _≤_}
+use Prim.Native.Nat.{_-_}
 use lib.ListN.{length}
 use borrow.Author.Needs.{needs}
 use Rattle.replay.proofs.answer_all.Statement.{statement}

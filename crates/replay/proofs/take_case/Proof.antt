@@ -1,5 +1,4 @@
 -- `replay::take_case` meets its contract: what is read counts bytes of the buffer. Assumes nothing.
-use mathlib.Core.Path.{_≡_}
 use Prim.Native.Nat.{_+_, _≤_}
 use native.Mathlib.Omega.{arith}
 use lib.ListN.{length}

@@ -1,5 +1,5 @@
 -- `amount::amount` meets its contract. Assumes nothing.
-use mathlib.Core.Path.{_≡_, sym, _∙_, ap}
+use mathlib.Core.Path.{sym}
 use native.Mathlib.Omega.{arith}
 use Rattle.types.proofs.Amounts.{answer-bad, answered, read-end, read-plus, read-minus, read-bare}
 use borrow.Author.Needs.{needs}

@@ -1,5 +1,5 @@
 -- `amount::finish` meets its contract. Assumes nothing.
-use mathlib.Core.Path.{_≡_, refl, sym, _∙_}
+use mathlib.Core.Path.{sym, _∙_}
 use borrow.Author.Tests.{eq-eqb, ne-eqb}
 use Rattle.types.proofs.Amounts.{answer-good}
 use Rattle.amounts.proofs.amount.finish.Statement.{statement}

@@ -1,8 +1,7 @@
 -- `amount::signed` meets its contract. Assumes nothing.
-use mathlib.Core.Path.{_≡_, sym, _∙_, ap}
+use mathlib.Core.Path.{sym, _∙_, ap}
 use Prim.Native.Nat.{_+_}
 use native.Mathlib.Omega.{arith}
-use borrow.Author.Tests.{not-true, not-false}
 use Rattle.types.specs.Reading.{answer}
 use Rattle.types.proofs.Amounts.{answer-bad, signed-end, signed-whole, signed-stop, signed-point, point-end, point-frac}
 use borrow.Author.Needs.{needs}

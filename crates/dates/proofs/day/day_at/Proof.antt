@@ -1,5 +1,5 @@
 -- `day::day_at` meets its contract. Assumes nothing.
-use mathlib.Core.Path.{_≡_, sym, _∙_, subst}
+use mathlib.Core.Path.{subst}
 use mathlib.Core.Bool.{Bool, true}
 use lib.ListN.{drop}
 use native.Mathlib.Omega.{arith}

@@ -1,5 +1,5 @@
 -- `day::mark` meets its contract. Assumes nothing.
-use mathlib.Core.Path.{_≡_, sym, subst}
+use mathlib.Core.Path.{sym, subst}
 use native.Mathlib.Omega.{arith}
 use lib.ListN.{length-drop}
 use lib.Dec.{eqb}

@@ -1,5 +1,4 @@
 -- `day::month_days` meets its contract. Assumes nothing.
-use mathlib.Core.Path.{_≡_, refl, sym}
 use native.Mathlib.Omega.{arith}
 use borrow.Author.Tests.{eq-eqb, ne-eqb}
 use Rattle.types.proofs.Months.{month-none, month-thirty, month-else}

@@ -1,9 +1,9 @@
 -- `moment::three` meets its contract. Assumes nothing.
-use mathlib.Core.Path.{_≡_, sym, _∙_, subst}
+use mathlib.Core.Path.{sym, _∙_, subst}
 use mathlib.Core.List.{List}
-use Prim.Native.Nat.{ℕ, _+_, _*_, _-_}
+use Prim.Native.Nat.{ℕ}
 use native.Mathlib.Omega.{arith}
-use lib.ListN.{length-drop, getD}
+use lib.ListN.{length-drop}
 use borrow.Author.Tests.{not-true, not-false}
 use Rattle.types.specs.Digits.{Three}
 use Rattle.types.proofs.Classes.{digit-range}

@@ -1,14 +1,14 @@
 -- `moment::zone` meets its contract. Assumes nothing.
 use mathlib.Core.Path.{_≡_, sym, _∙_, subst}
-use mathlib.Core.Bool.{Bool, true≢false}
+use mathlib.Core.Bool.{Bool}
 use mathlib.Core.List.{List}
 use mathlib.Core.Logic.{⊎-elim}
-use Prim.Native.Nat.{ℕ, _+_, _*_, _-_, _≤_}
+use Prim.Native.Nat.{ℕ, _+_}
 use native.Mathlib.Omega.{arith}
 use lib.ListN.{drop, length, length-drop}
 use lib.Seq.{drop-drop}
 use borrow.Author.Tests.{not-true, not-false}
-use Rattle.types.specs.Digits.{Mark, Two, ZoneAt}
+use Rattle.types.specs.Digits.{Mark, Two}
 use Rattle.types.proofs.Fronts.{no-mark, zone-z, zone-one, zone-length, zone-off, zone-ahead, zone-behind, zone-on-ahead, zone-on-behind}
 use borrow.Author.Needs.{needs}
 use Rattle.dates.proofs.moment.zone.Statement.{statement}

@@ -1,5 +1,5 @@
 -- `case::number` meets its contract: a number of 32 bits, byte by byte. Assumes nothing.
-use mathlib.Core.Path.{sym, _∙_}
+use mathlib.Core.Path.{sym}
 use borrow.Author.Needs.{needs}
 use Rattle.feed.proofs.Heads.{four}
 use Rattle.feed.proofs.case.number.Statement.{statement}

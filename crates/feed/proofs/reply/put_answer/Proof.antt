@@ -1,5 +1,4 @@
 -- `reply::put_answer` meets its contract: the line whole, or nothing. Assumes nothing.
-use mathlib.Core.Path.{_≡_}
 use native.Mathlib.Omega.{arith}
 use lib.ListN.{length}
 use lib.Seq.{slice}

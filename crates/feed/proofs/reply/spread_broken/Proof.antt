@@ -1,5 +1,4 @@
 -- `reply::spread_broken` meets its contract: the line of a broken feed, piece by piece. Assumes nothing.
-use mathlib.Core.Path.{_≡_}
 use Prim.Native.Nat.{_+_}
 use native.Mathlib.Omega.{arith}
 use borrow.Author.Needs.{needs}

@@ -3,7 +3,6 @@ use borrow.Author.Needs.{needs}
 use Rattle.image.proofs.picker.find.Statement.{statement}
 use Rattle.image.proofs.picker.find.Tie as tie
 use mathlib.Core.Path.{refl, sym, _∙_}
-use Prim.Native.Nat.{_-_}
 use borrow.Author.Needs.{needs}
 use Rattle.image.specs.Run.{groups, leaves}
 

@@ -3,7 +3,6 @@ use borrow.Author.Needs.{needs}
 use Rattle.image.proofs.picker.head.Statement.{statement}
 use Rattle.image.proofs.picker.head.Tie as tie
 use mathlib.Core.Path.{sym}
-use Prim.Native.Nat.{_-_}
 use borrow.Author.Needs.{needs}
 use borrow.Author.Tests.{le-leb, lt-leb}
 use Rattle.image.specs.Run.{headOf}

@@ -4,7 +4,7 @@ use Rattle.image.proofs.picker.pick.Statement.{statement}
 use Rattle.image.proofs.picker.pick.Tie as tie
 use mathlib.Core.Path.{refl, sym, subst}
 use mathlib.Core.List.{[]}
-use Prim.Native.Nat.{_+_, _-_}
+use Prim.Native.Nat.{_+_}
 use native.Mathlib.Omega.{arith}
 use lib.Seq.{slice}
 use borrow.Author.Needs.{needs}

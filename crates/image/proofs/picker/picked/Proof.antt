@@ -3,7 +3,7 @@ use borrow.Author.Needs.{needs}
 use Rattle.image.proofs.picker.picked.Statement.{statement}
 use Rattle.image.proofs.picker.picked.Tie as tie
 use mathlib.Core.Path.{refl, _∙_, ap₂, subst}
-use Prim.Native.Nat.{ℕ, _+_, _-_}
+use Prim.Native.Nat.{ℕ, _+_}
 use native.Mathlib.Omega.{arith}
 use lib.Seq.{slice}
 use borrow.Author.Needs.{needs}

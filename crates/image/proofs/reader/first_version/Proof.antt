@@ -2,7 +2,6 @@
 use borrow.Author.Needs.{needs}
 use Rattle.image.proofs.reader.first_version.Statement.{statement}
 use Rattle.image.proofs.reader.first_version.Tie as tie
-use Prim.Native.Nat.{_-_}
 use native.Mathlib.Omega.{arith}
 use borrow.Author.Needs.{needs}
 use Rattle.image.proofs.Heads.{high-byte, low-byte}

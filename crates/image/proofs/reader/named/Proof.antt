@@ -2,7 +2,6 @@
 use borrow.Author.Needs.{needs}
 use Rattle.image.proofs.reader.named.Statement.{statement}
 use Rattle.image.proofs.reader.named.Tie as tie
-use Prim.Native.Nat.{_-_}
 use native.Mathlib.Omega.{arith}
 use borrow.Author.Needs.{needs}
 use Rattle.image.proofs.Heads.{short, not-k, not-t, last-letter}

@@ -1,5 +1,5 @@
 -- `check::check` meets its contract. Assumes nothing.
-use mathlib.Core.Path.{_≡_, refl}
+use mathlib.Core.Path.{refl}
 use native.Mathlib.Omega.{arith}
 use Rattle.types.proofs.Rights.{checked-by, checked-none, right-ref, right-txt-of, right-iban, right-ccy, right-bool, right-num, right-amt, right-date, right-dtm}
 use borrow.Author.Needs.{needs}

@@ -1,6 +1,4 @@
 -- `check::coded` meets its contract. Assumes nothing.
-use mathlib.Core.Path.{_≡_}
-use borrow.Author.Needs.{needs}
 use Rattle.judge.proofs.check.coded.Statement.{statement}
 use Rattle.judge.proofs.check.coded.Tie as tie
 

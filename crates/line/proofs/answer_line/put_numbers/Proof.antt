@@ -2,7 +2,7 @@
 use borrow.Author.Needs.{needs}
 use Rattle.line.proofs.answer_line.put_numbers.Statement.{statement}
 use Rattle.line.proofs.answer_line.put_numbers.Tie as tie
-use mathlib.Core.Path.{_≡_, sym, _∙_, ap}
+use mathlib.Core.Path.{_∙_, ap}
 use native.Mathlib.Omega.{arith}
 use lib.Seq.{slice}
 use Rattle.text.specs.Pasting.{pasted}

@@ -2,7 +2,7 @@
 use borrow.Author.Needs.{needs}
 use Rattle.line.proofs.answer_line.put_refusal.Statement.{statement}
 use Rattle.line.proofs.answer_line.put_refusal.Tie as tie
-use mathlib.Core.Path.{_≡_, _∙_, ap}
+use mathlib.Core.Path.{_∙_, ap}
 use native.Mathlib.Omega.{arith}
 use lib.Seq.{slice}
 use Rattle.text.specs.Pasting.{pasted}

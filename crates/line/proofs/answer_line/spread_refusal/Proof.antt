@@ -2,7 +2,6 @@
 use borrow.Author.Needs.{needs}
 use Rattle.line.proofs.answer_line.spread_refusal.Statement.{statement}
 use Rattle.line.proofs.answer_line.spread_refusal.Tie as tie
-use mathlib.Core.Path.{_≡_}
 use Prim.Native.Nat.{_+_}
 use native.Mathlib.Omega.{arith}
 use Rattle.line.proofs.Lines.{length-refusal, refused}

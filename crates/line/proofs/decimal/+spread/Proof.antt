@@ -1,5 +1,5 @@
 -- `decimal::spread` meets its contract: the digits of a tenth, and the last digit behind them. The number falls. Assumes nothing.
-use Prim.Native.Nat.{ℕ, _<_, _+_, _/_, _≤_}
+use Prim.Native.Nat.{ℕ, _<_, _+_}
 use mathlib.Core.Path.{ap}
 use native.Mathlib.Omega.{arith}
 use borrow.Author.Needs.{needs}

@@ -1,5 +1,5 @@
 -- `decimal::put` meets its contract: what does not fit is not written. Assumes nothing.
-use mathlib.Core.Path.{_≡_, sym}
+use mathlib.Core.Path.{sym}
 use native.Mathlib.Omega.{arith}
 use borrow.Author.Needs.{needs}
 use Rattle.text.proofs.Pasting.{pasted-no}

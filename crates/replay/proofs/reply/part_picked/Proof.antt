@@ -1,5 +1,5 @@
 -- `reply::part_picked` meets its contract: the answer and the part belong together. Assumes nothing.
-use mathlib.Core.Path.{_≡_, _∙_, ap}
+use mathlib.Core.Path.{_∙_, ap}
 use native.Mathlib.Omega.{arith}
 use lib.ListN.{length}
 use lib.Seq.{take-all}

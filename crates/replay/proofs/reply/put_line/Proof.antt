@@ -1,5 +1,4 @@
 -- `reply::put_line` meets its contract: the line fits, so it is the buffer's beginning. Assumes nothing.
-use mathlib.Core.Path.{_≡_}
 use Prim.Native.Nat.{_≤_}
 use native.Mathlib.Omega.{arith}
 use lib.ListN.{length, take, length-take}

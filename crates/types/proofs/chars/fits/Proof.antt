@@ -1,5 +1,5 @@
 -- `chars::fits` meets its contract. Assumes nothing.
-use mathlib.Core.Path.{_≡_, sym, _∙_}
+use mathlib.Core.Path.{_∙_}
 use borrow.Author.Needs.{needs}
 use Rattle.types.proofs.chars.fits.Statement.{statement}
 use Rattle.types.proofs.chars.fits.Tie as tie

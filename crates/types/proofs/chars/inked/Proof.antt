@@ -1,6 +1,4 @@
 -- `chars::inked` meets its contract. Assumes nothing.
-use mathlib.Core.Path.{_≡_}
-use borrow.Author.Needs.{needs}
 use Rattle.types.proofs.chars.inked.Statement.{statement}
 use Rattle.types.proofs.chars.inked.Tie as tie
 

@@ -1,5 +1,5 @@
 -- `chars::is_quiet` meets its contract. Assumes nothing.
-use mathlib.Core.Path.{_≡_, _∙_}
+use mathlib.Core.Path.{_∙_}
 use borrow.Author.Needs.{needs}
 use Rattle.types.proofs.chars.is_quiet.Statement.{statement}
 use Rattle.types.proofs.chars.is_quiet.Tie as tie

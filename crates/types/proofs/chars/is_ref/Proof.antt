@@ -1,5 +1,5 @@
 -- `chars::is_ref` meets its contract. Assumes nothing.
-use mathlib.Core.Path.{_≡_, refl}
+use mathlib.Core.Path.{refl}
 use native.Mathlib.Omega.{arith}
 use Rattle.text.proofs.Classes.{yes, no}
 use Rattle.types.proofs.Named.{reference}

@@ -1,7 +1,7 @@
 -- `chars::is_txt` meets its contract. Assumes nothing.
-use mathlib.Core.Path.{_≡_, refl}
+use mathlib.Core.Path.{refl}
 use native.Mathlib.Omega.{arith}
-use Rattle.text.proofs.Classes.{yes, no}
+use Rattle.text.proofs.Classes.{yes}
 use Rattle.types.proofs.Named.{writing, writing-listed, writing-not}
 use Rattle.types.proofs.chars.is_txt.Statement.{statement}
 use Rattle.types.proofs.chars.is_txt.Tie as tie

@@ -1,5 +1,4 @@
 -- `chars::run_of` meets its contract. Assumes nothing.
-use mathlib.Core.Path.{_≡_}
 use native.Mathlib.Omega.{arith}
 use borrow.Author.Needs.{needs}
 use Rattle.types.proofs.chars.run_of.Statement.{statement}

@@ -1,6 +1,4 @@
 -- `chars::slash_and` meets its contract. Assumes nothing.
-use mathlib.Core.Path.{_≡_}
-use borrow.Author.Needs.{needs}
 use Rattle.types.proofs.chars.slash_and.Statement.{statement}
 use Rattle.types.proofs.chars.slash_and.Tie as tie
 

@@ -1,5 +1,5 @@
 -- `chars::slash_behind` meets its contract. Assumes nothing.
-use mathlib.Core.Path.{_≡_, _∙_}
+use mathlib.Core.Path.{_∙_}
 use borrow.Author.Needs.{needs}
 use borrow.Author.Tests.{ne-eqb}
 use Rattle.types.proofs.chars.slash_behind.Statement.{statement}

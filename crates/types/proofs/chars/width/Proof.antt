@@ -1,5 +1,5 @@
 -- `chars::width` meets its contract. Assumes nothing.
-use mathlib.Core.Path.{_≡_, sym}
+use mathlib.Core.Path.{sym}
 use native.Mathlib.Omega.{arith}
 use Rattle.types.proofs.Sizes.{width-one, width-len}
 use Rattle.types.proofs.chars.width.Statement.{statement}

@@ -1,5 +1,5 @@
 -- `code::iban_byte` meets its contract. Assumes nothing.
-use mathlib.Core.Path.{_≡_, sym, _∙_}
+use mathlib.Core.Path.{sym, _∙_}
 use native.Mathlib.Omega.{arith}
 use Rattle.types.proofs.Codes.{iban-country, iban-check, iban-rest}
 use borrow.Author.Needs.{needs}

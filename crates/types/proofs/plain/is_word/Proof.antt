@@ -1,5 +1,5 @@
 -- `plain::is_word` meets its contract. Assumes nothing.
-use mathlib.Core.Path.{_≡_, sym, _∙_, ap}
+use mathlib.Core.Path.{ap}
 use native.Mathlib.Omega.{arith}
 use lib.ListN.{length}
 use Rattle.types.proofs.Loops.{exactly-no}

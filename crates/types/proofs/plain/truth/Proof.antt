@@ -1,5 +1,5 @@
 -- `plain::truth` meets its contract. Assumes nothing.
-use mathlib.Core.Path.{_≡_, sym, _∙_}
+use mathlib.Core.Path.{sym, _∙_}
 use mathlib.Core.Bool.{true, false, true≢false}
 use mathlib.Core.Logic.{inl, inr}
 use Rattle.types.proofs.Rights.{truth-is, truth-not}

@@ -2,8 +2,6 @@
 use borrow.Author.Needs.{needs}
 use Rattle.unit.proofs.fill.around.Statement.{statement}
 use Rattle.unit.proofs.fill.around.Tie as tie
-use mathlib.Core.Path.{sym, ap, _∙_}
-use mathlib.Core.Bool.{Bool, cond}
 use borrow.Author.Tests.{eq-eqb, ne-eqb}
 
 cell-requires : tie.Need-cell-requires
