@@ -1,7 +1,7 @@
 -- The characters that a text spells, one after the other, and the laws of loops over them. Assumes nothing.
 use mathlib.Core.Path.{_≡_, refl, sym, _∙_, ap, subst}
 use mathlib.Core.Bool.{Bool, true, false, true≢false}
-use mathlib.Core.List.{List, [], _∷_, _++_, append-assoc}
+use mathlib.Core.List.{List, [], _∷_, _++_}
 use mathlib.Core.Logic.{_≢_}
 use Prim.Native.Nat.{ℕ, zero, suc, _+_, _≤_, _<_, zero-le, suc-le-suc}
 use native.Mathlib.Omega.{arith}
@@ -65,21 +65,6 @@ spells-more l cs r b w =
       chars = ap (λ (x : Char). x .code ∷ cs) (b .found) ∙ ap (λ (u : List ℕ). resolved (b .sign) ∷ u) (w .chars);
     }
 
--- two texts, one behind the other
-pub spells-append : (s cs t ds : List ℕ) → Spells s cs → Spells t ds → Spells (s ++ t) (cs ++ ds)
-spells-append s cs t ds v w = go (v .pieces) (v .good) s cs (v .is) (v .chars)
-  where
-    go : (ps : List Piece) → Each GoodPiece ps → (s cs : List ℕ) → s ≡ spells ps → cs ≡ resolvedAll ps → Spells (s ++ t) (cs ++ ds)
-    go [] g s cs e f = rw (e, f) w
-    go (p ∷ ps) g s cs e f =
-        let r = go ps (g .1) (spells ps) (resolvedAll ps) refl refl in
-        record {
-          pieces = p ∷ r .pieces;
-          good = (g .0, r .good);
-          is = ap (λ (u : List ℕ). u ++ t) e ∙ append-assoc (spell p) (spells ps) t ∙ ap (λ (u : List ℕ). spell p ++ u) (r .is);
-          chars = ap (λ (u : List ℕ). u ++ ds) f ∙ ap (λ (u : List ℕ). resolved p ∷ u) (r .chars);
-        }
-
 -- ---- a text spells one list of characters
 
 one-step : (l cs ds : List ℕ) → ((k cs′ ds′ : List ℕ) → length k < length l → Spells k cs′ → Spells k ds′ → cs′ ≡ ds′)
@@ -114,10 +99,6 @@ here-none g s = record { within = zero-le; to = λ p. p; from = λ p. p }
 module _ (g₀ : List ℕ → Bool) (s : List ℕ) (i : ℕ) (g : List ℕ → Bool) (w : Here g₀ s i g) (h : i < length s) (r : Char) (n : NextChar (drop i s) r) where
   at-lead : (cs : List ℕ) → Spells (drop i s) cs → Leads (drop i s) cs r
   at-lead cs v = leads (drop i s) cs r n v (omega (arith, length-drop i s))
-
-  -- no character begins here
-  pub here-stuck : r .len ≡ 0 → Passes g₀ s → ⊥
-  here-stuck z p = let q = w .from p in let f = at-lead (q .chars) (q .spells) in omega (arith, f .some)
 
   -- the character here is refused
   pub here-bad : ((cs : List ℕ) → g (r .code ∷ cs) ≡ false) → Passes g₀ s → ⊥

@@ -25,17 +25,11 @@ pub record Says (b : Bool) (P : Type 0) : Type 0 where
 pub map-is : {b : Bool} {P Q : Type 0} → (P → Q) → (Q → P) → Says b P → Says b Q
 map-is f g s = record { so = λ e. f (s .so e); back = λ h. s .back (g h) }
 
-lt-is : (a b : ℕ) → Says (ltb a b) (a < b)
-lt-is a b = record { so = ltb-true a b; back = lt-ltb a b }
-
 le-is : (a b : ℕ) → Says (leb a b) (a ≤ b)
 le-is a b = record { so = leb-true a b; back = le-leb a b }
 
 eq-is : (a b : ℕ) → Says (eqb a b) (a ≡ b)
 eq-is a b = record { so = eqb-true a b; back = eq-eqb a b }
-
-true-is : (b : Bool) → Says b (b ≡ true)
-true-is b = record { so = λ e. e; back = λ e. e }
 
 -- a test that refuses first, and one that accepts first
 then-go : (a b : Bool) {P Q : Type 0} → Says a P → Says b Q → Says (cond a b false) (P × Q)

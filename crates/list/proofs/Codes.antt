@@ -1,6 +1,6 @@
 -- What code asks of a number for a count or a kind is what the definitions ask of the count or kind. Assumes nothing.
 use mathlib.Core.Path.{_≡_, refl, sym, _∙_, ap}
-use mathlib.Core.Bool.{Bool, true, false, _||_, not, Bool·beq, false≢true}
+use mathlib.Core.Bool.{Bool, true, false, not, Bool·beq, false≢true}
 use mathlib.Core.List.{List}
 use Prim.Native.Nat.{ℕ, _≤_}
 use native.Mathlib.Omega.{arith}
@@ -10,7 +10,7 @@ use lib.ListN.{List·getD-eq-default}
 use borrow.Author.Tests.{le-ltb, ne-eqb}
 use Rattle.text.specs.Bytes.{inRange}
 use Rattle.text.proofs.Classes.{every, passes, in-range-is, not-so}
-use Rattle.list.specs.Listing.{group, alternative, isGroup, isChoice, single, required}
+use Rattle.list.specs.Listing.{group, alternative, isGroup, isChoice, single}
 use Rattle.list.specs.Table.{counts, kinds, countOf, kindOf}
 
 beq-is : (a b : Bool) → Bool·beq a b ≡ true → a ≡ b
@@ -33,11 +33,6 @@ pub single-is : (c : ℕ) → single (countOf c) ≡ ltb c 2
 single-is c =
     agree (λ c. single (countOf c)) (λ c. ltb c 2) 4 refl
     (λ c h. ap single (past-count c h) ∙ sym (le-ltb c 2 (omega arith))) c
-
-pub required-is : (c : ℕ) → required (countOf c) ≡ (eqb c 0 || eqb c 2)
-required-is c =
-    agree (λ c. required (countOf c)) (λ c. eqb c 0 || eqb c 2) 4 refl
-    (λ c h. ap required (past-count c h) ∙ sym (rw (ne-eqb c 0 (λ z. omega arith), ne-eqb c 2 (λ z. omega arith)) refl)) c
 
 module _ (k : ℕ) (ws : List (List ℕ)) where
   past-kind : (c : ℕ) → 12 ≤ c → kindOf c k ws ≡ group

@@ -5,10 +5,10 @@ use mathlib.Core.List.{List, [], _∷_}
 use Prim.Native.Nat.{ℕ, zero, suc, _+_, _≤_, _<_}
 use native.Mathlib.Omega.{arith}
 use native.Mathlib.Decide.{ℕ-discrete}
-use borrow.Author.Tests.{eq-eqb, ne-eqb, ltb-true, lt-ltb}
+use borrow.Author.Tests.{eq-eqb, ne-eqb, lt-ltb}
 use Rattle.text.specs.Lists.{Each, same}
 pub use Rattle.text.proofs.Parts.{same-eq, same-of}
-use Rattle.list.specs.Words.{times, has, Ordered, firstFrom}
+use Rattle.list.specs.Words.{times, has, firstFrom}
 use Rattle.list.proofs.Tests.{byCases}
 
 -- ---- texts compared
@@ -88,9 +88,6 @@ times-miss r q rs e = rw (ne-eqb q r e)
 pub times-more : (r q : ℕ) (rs : List ℕ) → times r rs ≤ times r (q ∷ rs)
 times-more r q rs = elim (ℕ-discrete q r) [ yes e ↦ rw (eq-eqb q r e) (omega arith) | no ne ↦ rw (ne-eqb q r ne) (omega arith) ]
 
-pub has-yes : (r : ℕ) (rs : List ℕ) → has r rs ≡ true → 0 < times r rs
-has-yes r rs e = ltb-true 0 (times r rs) e
-
 pub has-of : (r : ℕ) (rs : List ℕ) → 0 < times r rs → has r rs ≡ true
 has-of r rs h = lt-ltb 0 (times r rs) h
 
@@ -107,14 +104,3 @@ each-of P [] f = tt
 each-of P (q ∷ rs) f = (f q (rw (eq-eqb q q refl) (omega arith)), each-of P rs (λ r h. f r (omega (arith, times-more r q rs))))
 
 -- ---- row order
-
--- the first of rows in order is the lowest
-pub ordered-low : (r q : ℕ) (rs : List ℕ) → Ordered (r ∷ rs) → 0 < times q (r ∷ rs) → r ≤ q
-ordered-low r q rs o h = elim (ℕ-discrete r q) [
-  | yes e ↦ omega arith
-  | no ne ↦ each-at (λ x. r ≤ x) rs q (o .0) (subst (λ m. 0 < m) (times-miss q r rs ne) h)
-]
-
--- a row in front of rows that are none below it
-pub ordered-front : (r : ℕ) (rs : List ℕ) → ((q : ℕ) → 0 < times q rs → r ≤ q) → Ordered rs → Ordered (r ∷ rs)
-ordered-front r rs h o = (each-of (λ x. r ≤ x) rs h, o)

@@ -109,9 +109,6 @@ module _ (k : Kinds) (t pool s : List ℕ) (sd : Sound t pool) where
   kind-of : (lv : Level) → Placed t pool sd lv → rowAt l (lv .row) .kind ≡ kindIn t pool (lv .row)
   kind-of lv p = kind-is t pool (lv .row) (p .low) (omega (arith, p .high, size-is t pool))
 
-  pub row-byte : (lv : Level) → Placed t pool sd lv → lv .row ≤ 255
-  row-byte lv p = omega (arith, p .high, sd .well .bytes)
-
   module _ (x : HouseXml s) where
     abbrev found-all : Found
     found-all = run T l before (events (messageOf (x .tree)) [])
@@ -196,9 +193,6 @@ module _ (k : Kinds) (t pool s : List ℕ) (sd : Sound t pool) where
         pub at-most : length s ≤ 1048576 → at ≤ 1000000000000
         at-most h = omega (arith, g .most, g .stands .within)
 
-        pub here-row : here .level .row ≤ 255
-        here-row = row-byte (here .level) (g .stands .placed)
-
         -- what is put behind
         more : (new : List (ℕ × Option (T .A))) (r : ℕ) (d′ : List ℕ) → Puts d at (itemsOf new) r d′ → Puts d₁ a₁ (itemsOf (g .done ++ new)) r d′
         more new r d′ p =
@@ -249,9 +243,6 @@ module _ (k : Kinds) (t pool s : List ℕ) (sd : Sound t pool) where
 
         -- an element that goes on
         module _ (st′ : List ℕ) (turn : Turn) (w : Enters T t pool s sd here (g .below) (g .ats) (g .rest) st′ turn) where
-          pub enters-row : turn .here .level .row ≤ 255
-          enters-row = row-byte (turn .here .level) (w .stands .placed)
-
           pub goes-in : (r : ℕ) (d′ : List ℕ) → Opens k t (turn .here .level .row) d at r d′ → Going d′ st′ (turn .here) r
           goes-in r d′ o = record {
             below = advance l (here .level) (turn .here .level .row) ∷ g .below;

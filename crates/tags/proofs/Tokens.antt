@@ -11,7 +11,7 @@ use lib.Seq.{drop-append-seam}
 use borrow.Author.Tests.{ne-eqb}
 use Rattle.text.specs.Bytes.{isBlank, isNamePart, isNameStart}
 use Rattle.text.specs.Lists.{All, Each, span}
-use Rattle.characters.specs.Pieces.{less, greater, solidus, Piece, spell, spells, GoodPiece}
+use Rattle.characters.specs.Pieces.{less, greater, solidus, Piece, spells, GoodPiece}
 use Rattle.xml.specs.House.{Blanks, IsName, attrs, Tag, tag, GoodTag}
 use Rattle.tags.specs.declared.attribute.Attribute.{Attribute}
 use Rattle.tags.specs.declared.token.Kind.the-variants.{Open, Empty, Close, End}
@@ -21,7 +21,7 @@ use Rattle.tags.specs.Attributes.{attributeAt, passedAt}
 use Rattle.tags.specs.Tokens.{bare, shutAt, tailAt, tagAt, tokenAt}
 use Rattle.tags.specs.Places.{firstOf, tagOf}
 use Rattle.tags.proofs.Passing.{all-append, all-weaken, but-by, stops, span-wider, pass-over, pass-skip, pass-none, pass-any, one-le, part-in-name}
-use Rattle.tags.proofs.Avoid.{piece-avoids, text-avoids}
+use Rattle.tags.proofs.Avoid.{text-avoids}
 use Rattle.tags.proofs.Attributes.{name-all, passed-between, passed-is, first-is, attrs-end-name}
 
 -- ---- on any bytes: a token ends within them, and behind its `<` if there is one
@@ -79,11 +79,6 @@ token-within s o h =
     ahead-to o (o + length (drop o s)) (length s) (tokenAt o (drop o s)) (omega (arith, length-drop o s)) (token-ahead o (drop o s))
 
 -- ---- texts
-
--- the token behind a piece is the token before it: the text goes on
-pub token-piece : (o : ℕ) (p : Piece) (w : List ℕ) → GoodPiece p → tokenAt o (spell p ++ w) ≡ tokenAt (o + length (spell p)) w
-unfolding tokenAt
-token-piece o p w g = pass-skip (but less) tagAt o (spell p) w (piece-avoids p g)
 
 pub token-text : (o : ℕ) (ps : List Piece) (w : List ℕ) → Each GoodPiece ps
     → tokenAt o (spells ps ++ w) ≡ tokenAt (o + length (spells ps)) w

@@ -169,9 +169,6 @@ module _ {f : ℕ → Bool} {p : Class} (d : Named f p) where
   pub is-in : (x : ℕ) → f x ≡ true → Within p x
   is-in x e = is-within p x (sym (d .is x) ∙ e)
 
-  pub is-out : (x : ℕ) → f x ≡ false → Outside p x
-  is-out x e = is-outside p x (sym (d .is x) ∙ e)
-
 -- the classes of document 01
 pub blank : Named isBlank (only 32 or only 9 or only 10 or only 13)
 unfolding isBlank

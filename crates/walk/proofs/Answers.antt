@@ -113,6 +113,3 @@ kinds (leaf f) a b = b f refl
 pub some-of : {A : Type 0} (x : Option A) → isNone x ≡ false → (v : A) × (x ≡ Option.some v)
 some-of Option.none e = absurd (true≢false e)
 some-of (Option.some v) e = (v, refl)
-
-pub no-none : {A : Type 0} (x : Option A) (v : A) → x ≡ Option.some v → isNone x ≡ false
-no-none x v e = rw e

@@ -363,9 +363,6 @@ ok1 z p q = tested 128 191 z [] all bad p q refl
 ok2 : (y z : ℕ) → 128 ≤ y → y ≤ 191 → 128 ≤ z → z ≤ 191 → takes (y ∷ z ∷ []) (more two) ≡ true
 ok2 y z a b p q = tested 128 191 y (z ∷ []) (more one) bad a b (ok1 z p q)
 
-ok3 : (x y z : ℕ) → 128 ≤ x → x ≤ 191 → 128 ≤ y → y ≤ 191 → 128 ≤ z → z ≤ 191 → takes (x ∷ y ∷ z ∷ []) (more three) ≡ true
-ok3 x y z a b c d p q = tested 128 191 x (y ∷ z ∷ []) (more two) bad a b (ok2 y z c d p q)
-
 -- a character's bytes
 seen2 : (c : ℕ) → 0x80 ≤ c → c < 0x800 → Seen (char c)
 seen2 c a b = s-long a (0xC0 + c / 64) ((0x80 + c % 64) ∷ []) one (encode2 c a b) (lead-one (0xC0 + c / 64) (omega arith) (omega arith)) (ok1 (0x80 + c % 64) (omega arith) (omega arith))
