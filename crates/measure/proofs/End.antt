@@ -1,6 +1,5 @@
 -- What a whole pass says, without a buffer and with one that the image fits in. Over any types. Assumes nothing.
-use mathlib.Core.Path.{_≡_, sym, _∙_, ap, subst}
-use mathlib.Core.Bool.{Bool, true, false, true≢false}
+use mathlib.Core.Path.{_≡_, subst}
 use mathlib.Core.List.{List}
 use Prim.Native.Nat.{ℕ, _≤_}
 use lib.ListN.{length}
@@ -11,17 +10,13 @@ use Rattle.list.specs.Content.{Content}
 use Rattle.xml.specs.Message.{Parts, messageOf}
 use Rattle.walk.specs.declared.verdict.Verdict.{Verdict}
 use Rattle.walk.specs.Types.{Spelling}
-use Rattle.walk.specs.First.{Found, fine, found}
 use Rattle.walk.proofs.Accept.{unique}
 use Rattle.demands.specs.Instance.{Kinds}
 use Rattle.demands.specs.File.{imageOf}
+use Rattle.demands.proofs.One.{fine-found}
 use Rattle.measure.specs.Measured as measured
 use Rattle.measure.specs.Measured.{Says, Message}
 use Rattle.measure.specs.Pass.{Passes, violates, holds}
-
-abbrev pub isFine : Found → Bool
-isFine fine = true
-isFine (found c r o) = false
 
 module _ (k : Kinds) (l : Listing) where
   pub says-of : (m : Parts) (d : List ℕ) (v : Verdict) (d′ : List ℕ) → Passes k l m d v d′ → Says k l m v
@@ -30,7 +25,7 @@ module _ (k : Kinds) (l : Listing) where
 
   pub filled-of : Spelling (k .types) → WellFormed l → (s : List ℕ) (c : Content (k .types .A)) (m : Message k l s c) (d : List ℕ) (v : Verdict) (d′ : List ℕ)
       → Passes k l (messageOf (m .xml .tree)) d v d′ → length (imageOf k l c) ≤ length d → d′ ≡ pasted d 0 (imageOf k l c)
-  filled-of y w s c m d v d′ (violates q r o e f) h = absurd (true≢false (ap isFine (sym (m .none) ∙ e)))
+  filled-of y w s c m d v d′ (violates q r o e f) h = fine-found _ q r o (m .none) e
   filled-of y w s c m d v d′ (holds e b i f g) h =
       let same : b ≡ c = unique (k .types) y l w (messageOf (m .xml .tree)) b c i (m .has) in
       subst (λ (z : Content (k .types .A)). length (imageOf k l z) ≤ length d → d′ ≡ pasted d 0 (imageOf k l z)) same g h

@@ -47,7 +47,7 @@ use Rattle.measure.specs.Measured.{verdict}
 use Rattle.measure.specs.Pass.{Puts, Shuts, Passes, violates, holds}
 use Rattle.unit.specs.Fill.{spotAt, Comes}
 use Rattle.measure.proofs.Leaf.{opens-group, opens-leaf, shuts-group}
-use Rattle.measure.proofs.End.{isFine}
+use Rattle.demands.proofs.One.{fine-found}
 use Rattle.measure.proofs.Going.{isRefused, apart, Going, begun, goes-first, at-most, steps, step-enters, step-leaves, step-ends, goes-in, goes-out, bad-value, ends-in}
 
 -- a stack to begin with: the walk asks of it only that it has room
@@ -100,7 +100,7 @@ module _ (k : Kinds) (t pool s : List ℕ) (sd : Sound t pool) (x : HouseXml s) 
 
         goes-on : turn .met ≢ Refused
         goes-on m = elim (steps k t pool s sd x d₁ a₁ d st full at g coins turn st′ refl refl) [
-          | refused w ↦ true≢false (ap isFine (sym fine-here ∙ w .found))
+          | refused w ↦ fine-found _ _ _ _ fine-here (w .found)
           | opened w ↦ apart isRefused (turn .met) Refused Opened m (w .met) refl refl
           | closed w ↦ apart isRefused (turn .met) Refused Closed m (w .met) refl refl
           | whole w ↦ apart isRefused (turn .met) Refused Closed m (w .met) refl refl
@@ -139,7 +139,7 @@ module _ (k : Kinds) (t pool s : List ℕ) (sd : Sound t pool) (x : HouseXml s) 
         below m = enters m .stands .nested .0
 
         no-bad : (d′ : List ℕ) → Passes k l (messageOf (x .tree)) [] (verdict 12 row (full .level .place)) d′ → ⊥
-        no-bad d′ (violates c q z f h) = true≢false (ap isFine (sym none ∙ f))
+        no-bad d′ (violates c q z f h) = fine-found _ c q z none f
         no-bad d′ (holds f c h v p) = let z : _≡_ {A = ℕ} 12 0 = ap (λ (u : Verdict). u .code) v in omega arith
 
         -- the end of an element within another
@@ -163,7 +163,7 @@ module _ (k : Kinds) (t pool s : List ℕ) (sd : Sound t pool) (x : HouseXml s) 
         where
           w : Starts T t pool s sd (x .tree) first
           w = elim (begun k t pool s sd x first e) [
-            | denied v ↦ absurd (true≢false (ap isFine (sym none ∙ first-is T l (sd .well) (x .tree) (x .good) ∙ v .found)))
+            | denied v ↦ fine-found _ _ _ _ none (first-is T l (sd .well) (x .tree) (x .good) ∙ v .found)
             | starts v ↦ v
           ]
 
