@@ -1,7 +1,7 @@
 -- What holds of `check`'s answers with document 01's types and its house list. Assumes nothing.
 use mathlib.Core.Path.{_≡_, refl, sym, _∙_, ap, subst}
 use mathlib.Core.Bool.{Bool, true, false, _||_, not, false≢true}
-use mathlib.Core.Logic.{_≢_, _↔_}
+use mathlib.Core.Logic.{_≢_, _↔_, inl}
 use mathlib.Core.List.{List, [], _++_, append-nil}
 use Prim.Native.Nat.{ℕ, zero, suc, _+_, _≤_}
 use native.Mathlib.Omega.{arith}
@@ -22,10 +22,9 @@ use Rattle.types.specs.Value.{Value}
 use Rattle.types.proofs.Values.{value-laws}
 use Rattle.types.proofs.Spell.{spell-sound, spell-complete}
 use Rattle.walk.specs.Types.{Spelling}
-use Rattle.image.specs.Kinds.{values}
-use Rattle.image.specs.Place.{Accepts, Reads}
 use Rattle.image.proofs.Lawful.{lawful}
-use Rattle.image.proofs.Images.{told}
+use Rattle.reading.specs.Reads.{stored, HouseAccepts, HouseReads}
+use Rattle.reading.proofs.House.{house-accepts-one}
 use Rattle.demands.specs.Instance.{houseTypes, houseKinds}
 use Rattle.demands.specs.File.{File, imageOf}
 use Rattle.demands.specs.Checks.{Checks, Finds}
@@ -110,31 +109,29 @@ module _ (s d : List ℕ) (a : Answer) (d′ : List ℕ) (p : Checks s d a d′)
   room-enough = general.room-enough houseKinds house s d a d′ image-no-longer p
 
   -- what check wrote is read back by the reader, with check's answer
-  pub read-back : a .code ≡ 0 → Reads values house (take (a .place) d′) a
+  pub read-back : a .code ≡ 0 → HouseReads (take (a .place) d′) a
   read-back z =
       let t = general.taken houseKinds house s d a d′ p z in
       let e = append-nil (take (a .place) d′) in
       let n : length (take (a .place) d′) ≡ length (imageOf houseKinds house (t .content)) = ap length (general.written houseKinds house s d a d′ t) in
-      subst (λ (r : List ℕ). Reads values house r a) e
-      (images.read-alike houseKinds house s d a d′ t [] (omega (arith, ap length e, n, image-no-longer s (t .content) (t .file), t .file .whole .size)))
+      subst (λ (r : List ℕ). HouseReads r a) e
+      (images.read-alike houseKinds house s d a d′ t stored (inl refl) [] (omega (arith, ap length e, n, image-no-longer s (t .content) (t .file), t .file .whole .size)))
 
   -- and so is the buffer as it stands, where it is within the limit
-  pub read-buffer : a .code ≡ 0 → length d′ ≤ limit → Reads values house d′ a
+  pub read-buffer : a .code ≡ 0 → length d′ ≤ limit → HouseReads d′ a
   read-buffer z h =
       let t = general.taken houseKinds house s d a d′ p z in
       let e = take-append-drop (a .place) d′ in
-      subst (λ (r : List ℕ). Reads values house r a) e (images.read-alike houseKinds house s d a d′ t (drop (a .place) d′) (omega (arith, ap length e)))
+      subst (λ (r : List ℕ). HouseReads r a) e (images.read-alike houseKinds house s d a d′ t stored (inl refl) (drop (a .place) d′) (omega (arith, ap length e)))
 
   -- whatever image of the house list begins there is of this length, and of the file's content
-  pub read-content : a .code ≡ 0 → (u : List ℕ) (n : ℕ) (w : Accepts values house (take (a .place) d′ ++ u) n) (c : Content Value) → File houseKinds house s c
-      → (n ≡ a .place) × (w .content ≡ c)
+  pub read-content : a .code ≡ 0 → (u : List ℕ) (n : ℕ) (w : HouseAccepts (take (a .place) d′ ++ u) n) (c : Content Value) → File houseKinds house s c
+      → (n ≡ a .place) × (w .holds .content ≡ c)
   read-content z u n w c f =
       let t = general.taken houseKinds house s d a d′ p z in
-      let b = images.reads-back houseKinds house s d a d′ t u in
-      let o = told values house lawful house-well (w .content) (b .content) (w .rest) (b .rest) (w .meets) (b .meets) (sym (w .at) ∙ b .at) .0 in
-      let e : w .content ≡ t .content = o ∙ images.same-content houseKinds house s d a d′ t u in
-      let g : length (imageOf houseKinds house (w .content)) ≡ length (imageOf houseKinds house (b .content)) = ap (λ (x : Content Value). length (imageOf houseKinds house x)) o in
-      (w .long ∙ g ∙ sym (b .long), e ∙ one-content s (t .content) c (t .file) f)
+      let b = images.reads-back houseKinds house s d a d′ t stored (inl refl) u in
+      let o = house-accepts-one (take (a .place) d′ ++ u) n (a .place) w b in
+      (o .0, o .1 ∙ images.same-content houseKinds house s d a d′ t stored (inl refl) u ∙ one-content s (t .content) c (t .file) f)
 
 -- demand 3, for any two accepted files
 module _ (s d : List ℕ) (a : Answer) (d′ : List ℕ) (p : Checks s d a d′) (good : a .code ≡ 0) (s₂ d₂ : List ℕ) (a₂ : Answer) (e′ : List ℕ) (p₂ : Checks s₂ d₂ a₂ e′) (good₂ : a₂ .code ≡ 0)

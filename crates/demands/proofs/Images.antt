@@ -2,15 +2,15 @@
 -- shorter beginning of the other, and the reader takes each with the same length and content. Assumes nothing.
 use mathlib.Core.Path.{_≡_, refl, sym, _∙_, ap}
 use mathlib.Core.Logic.{_↔_}
-use mathlib.Core.List.{List, [], _++_, append-nil}
+use mathlib.Core.List.{List, [], _++_, append-assoc, append-nil}
 use Prim.Native.Nat.{ℕ, _≤_}
-use lib.ListN.{length, take}
+use lib.ListN.{length, take, length-append}
 use Rattle.answer.specs.declared.Answer.{Answer}
 use Rattle.answer.specs.Table.{accepted, limit}
 use Rattle.list.specs.Listing.{Listing}
 use Rattle.list.specs.WellFormed.{WellFormed}
-use Rattle.image.specs.Image.{Lawful}
-use Rattle.image.specs.Place.{Accepts, Reads, whole}
+use Rattle.image.specs.Image.{Lawful, header, body, image}
+use Rattle.image.specs.Place.{now, Among, Accepts, Reads, whole}
 use Rattle.image.proofs.Images.{told}
 use Rattle.demands.specs.Instance.{Kinds, valuesOf}
 use Rattle.demands.specs.File.{imageOf}
@@ -37,14 +37,29 @@ module _ (k : Kinds) (l : Listing) where
     long-is : a .place ≡ length (imageOf k l (t .content))
     long-is = ap (λ (x : Answer). x .place) (t .is)
 
-    -- a run that begins with what check wrote begins with an image of the answer's length, and of the file's content
-    pub reads-back : (u : List ℕ) → Accepts (valuesOf k) l (take (a .place) d′ ++ u) (a .place)
-    reads-back u = record { content = t .content; meets = t .file .meets; rest = u; at = ap (λ (x : List ℕ). x ++ u) (written k l s d a d′ t); long = long-is }
+    abbrev bodyOf : List ℕ
+    bodyOf = body (valuesOf k) l (t .content)
 
-    pub same-content : (u : List ℕ) → reads-back u .content ≡ t .content
-    unfolding reads-back
-    same-content u = refl
+    module _ (ls : List Listing) (i : Among l ls) (u : List ℕ) where
+      -- a run that begins with what check wrote begins with an image of the answer's length, and of the file's content
+      pub reads-back : Accepts (valuesOf k) ls (take (a .place) d′ ++ u) (a .place)
+      unfolding image
+      reads-back = record {
+        list = l;
+        among = i;
+        head = header l;
+        front = now refl;
+        behind = bodyOf ++ u;
+        at = ap (λ (x : List ℕ). x ++ u) (written k l s d a d′ t) ∙ append-assoc (header l) bodyOf u;
+        size = length bodyOf;
+        holds = record { content = t .content; meets = t .file .meets; rest = u; at = refl; long = refl };
+        long = long-is ∙ length-append (header l) bodyOf;
+      }
 
-    -- the reader's answer for it is check's, whatever follows within the limit
-    pub read-alike : (u : List ℕ) → length (take (a .place) d′ ++ u) ≤ limit → Reads (valuesOf k) l (take (a .place) d′ ++ u) a
-    read-alike u h = whole h (a .place) (reads-back u) (t .is ∙ ap accepted (sym long-is))
+      pub same-content : reads-back .holds .content ≡ t .content
+      unfolding reads-back
+      same-content = refl
+
+      -- the reader's answer for it is check's, whatever follows within the limit
+      pub read-alike : length (take (a .place) d′ ++ u) ≤ limit → Reads (valuesOf k) ls (take (a .place) d′ ++ u) a
+      read-alike h = whole h (a .place) reads-back (t .is ∙ ap accepted (sym long-is))

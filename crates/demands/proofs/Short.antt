@@ -22,7 +22,7 @@ use Rattle.walk.specs.Types.{Spelling}
 use Rattle.walk.specs.First.{textOf, currency, leafAttrs, isNone}
 use Rattle.walk.specs.Denotes.{plain, Spells as Holds, Denotes, Has}
 use Rattle.image.specs.Image.{Item, header, valueBytes, itemBytes, bytes, image}
-use Rattle.image.proofs.Stops.{header-length}
+use Rattle.image.proofs.Heads.{header-length}
 use Rattle.demands.specs.Instance.{Kinds, valuesOf}
 use Rattle.demands.specs.File.{File, imageOf}
 
@@ -191,7 +191,7 @@ module _ (k : Kinds) (y : Spelling (k .types)) (l : Listing) (wf : WellFormed l)
   unfolding image
   image-many c e h =
       let x = bytes (valuesOf k) l (items c) in
-      omega (arith, length-append header (x ++ (0 ∷ [])), length-append x (0 ∷ []), header-length, ap (λ (z : Content (k .types .A)). many (items z)) h, node-many 1 e end)
+      omega (arith, length-append (header l) (x ++ (0 ∷ [])), length-append x (0 ∷ []), header-length l, ap (λ (z : Content (k .types .A)). many (items z)) h, node-many 1 e end)
 
   root-short : (i : Tags) (o : ℕ) (c : Content (k .types .A)) → OneElement i → Good 16 i → Has (k .types) l (partsOf o i) c → length (imageOf k l c) ≤ length (render i)
   root-short over o c one g h = absurd one

@@ -83,7 +83,7 @@ abbrev foundIn : Content → Found
 foundIn i = firstViolation houseTypes house (messageOf (rootTree i))
 
 abbrev imageIn : Content → List ℕ
-imageIn i = header ++ (bytes values house (emits houseTypes house before (events (messageOf (rootTree i)) [])) ++ (0 ∷ []))
+imageIn i = header house ++ (bytes values house (emits houseTypes house before (events (messageOf (rootTree i)) [])) ++ (0 ∷ []))
 
 abbrev fits : Star → List ℕ → Bool → Bool
 fits e x true = sameAnswer (e .answer) (accepted (length x)) && same (e .image) x
@@ -156,7 +156,7 @@ module _ (e : Star) (chars : asciiTest (e .file) ≡ true) (size : leb (length (
         record {
           content = c .0;
           its = record { whole = file; has = c .2; meets = c .1 };
-          pictured = ap (λ is′. header ++ (bytes values house is′ ++ (0 ∷ []))) (sym (items-are houseTypes spelling house house-well (messageOf (rootTree i)) (c .0) (c .2)));
+          pictured = ap (λ is′. header house ++ (bytes values house is′ ++ (0 ∷ []))) (sym (items-are houseTypes spelling house house-well (messageOf (rootTree i)) (c .0) (c .2)));
         }
 
     fits-shown : foundIn i ≡ fine → (b : Bool) → leb (length (imageIn i)) (e .room) ≡ b → fits e (imageIn i) b ≡ true → Checks (e .file) d (e .answer) (left (e .image))

@@ -11,36 +11,22 @@ use denote.Ref.{now}
 use Rattle.text.specs.Lists.{Each}
 use Rattle.answer.specs.declared.Answer.{Answer}
 use Rattle.answer.specs.Table.{limit, accepted, noHeader}
-use Rattle.list.specs.Listing.{Listing}
 use Rattle.house.specs.House.{house}
 use Rattle.list.specs.Content.{Content, Meets}
 use Rattle.types.specs.Value.{Value, IsValue}
-use Rattle.image.specs.Image.{Values, image, images}
+use Rattle.image.specs.Image.{image, images}
 use Rattle.image.specs.Kinds.{values}
-use Rattle.image.specs.Place.{Accepts, Reads, over, foreign, version, broken, whole}
+use Rattle.image.specs.Place.{foreign, whole}
 use Rattle.hold.specs.Held.{left, Moves, Steps, Next, Calls, rested, called}
 use Rattle.hold.specs.declared.held.Held.{Held}
 use Rattle.hold.specs.declared.held.Step.{Step}
-use Rattle.image.proofs.House.{house-reads-one}
-
--- ---- an answer that accepts
-
-pub reads-whole : (vs : Values) (l : Listing) (s : List ℕ) (a : Answer) → Reads vs l s a → a .code ≡ 0 → Accepts vs l s (a .place)
-reads-whole vs l s a (over h e) z = absurd (omega (arith, ap (λ (x : Answer). x .code) e))
-reads-whole vs l s a (foreign h x e) z = absurd (omega (arith, ap (λ (x : Answer). x .code) e))
-reads-whole vs l s a (version h x y w e) z = absurd (omega (arith, ap (λ (x : Answer). x .code) e))
-reads-whole vs l s a (broken h t e place r f) z = absurd (omega (arith, ap (λ (x : Answer). x .code) f))
-reads-whole vs l s a (whole h n w e) z = subst (Accepts vs l s) (sym (ap (λ (x : Answer). x .place) e)) w
-
--- the image lies within the run
-pub reads-in : (vs : Values) (l : Listing) (s : List ℕ) (a : Answer) → Reads vs l s a → a .code ≡ 0 → a .place ≤ length s
-reads-in vs l s a r z =
-    let w = reads-whole vs l s a r z in
-    omega (arith, w .long, ap length (w .at), length-append (image vs l (w .content)) (w .rest))
+use Rattle.image.proofs.Answers.{accepting, accepts-in, image-begins}
+use Rattle.reading.specs.Reads.{stored, HouseAccepts, HouseReads}
+use Rattle.reading.proofs.House.{house-reads-one}
 
 -- ---- one step
 
-module _ (run : List ℕ) (at : ℕ) (a : Answer) (r : Reads values house (drop at run) a) where
+module _ (run : List ℕ) (at : ℕ) (a : Answer) (r : HouseReads (drop at run) a) where
   pub step-stays : a .code ≢ 0 → Steps run at (record { answer = a; at = at })
   step-stays z = record { reads = r; moves = record { on = λ e. absurd (z e); stays = λ e. refl } }
 
@@ -48,7 +34,7 @@ module _ (run : List ℕ) (at : ℕ) (a : Answer) (r : Reads values house (drop 
   step-on z = record { reads = r; moves = record { on = λ e. refl; stays = λ e. absurd (e z) } }
 
   pub step-room : a .code ≡ 0 → a .place ≤ length run - at
-  step-room z = omega (arith, reads-in values house (drop at run) a r z, length-drop at run)
+  step-room z = omega (arith, accepts-in values stored (drop at run) (a .place) (accepting values stored (drop at run) a r z .1), length-drop at run)
 
 -- ---- no second answer fits, and no second place
 
@@ -70,7 +56,7 @@ next-one h a b p q x y =
 
 pub next-end : (h : Held) (a : Answer) (p : Held) → left h ≡ [] → Next h a p → (a ≡ noHeader) × (p .at ≡ h .at)
 next-end h a p z x =
-    let e : a ≡ noHeader = house-reads-one (left h) a noHeader (x .reads) (subst (λ (s : List ℕ). Reads values house s noHeader) (sym z) (foreign (omega arith) (inl (omega arith)) refl)) in
+    let e : a ≡ noHeader = house-reads-one (left h) a noHeader (x .reads) (subst (λ (s : List ℕ). HouseReads s noHeader) (sym z) (foreign (omega arith) (inl (omega arith)) refl)) in
     (e, x .moves .stays (λ c. omega (arith, ap (λ (y : Answer). y .code) e)))
 
 pub next-past : (h : Held) (a : Answer) (p : Held) → length (now (h .run)) ≤ h .at → Next h a p → (a ≡ noHeader) × (p .at ≡ h .at)
@@ -82,7 +68,7 @@ next-past h a p past x = next-end h a p (drop-of-length-le (now (h .run)) past) 
 pub next-takes : (h : Held) (a : Answer) (p : Held) (c : Content Value) (u : List ℕ) → Meets IsValue house c → length (left h) ≤ limit → left h ≡ image values house c ++ u → Next h a p
     → (a ≡ accepted (length (image values house c))) × (left p ≡ u)
 next-takes h a p c u m short at x =
-    let e : a ≡ accepted (length (image values house c)) = house-reads-one (left h) a (accepted (length (image values house c))) (x .reads) (whole short (length (image values house c)) (record { content = c; meets = m; rest = u; at = at; long = refl }) refl) in
+    let e : a ≡ accepted (length (image values house c)) = house-reads-one (left h) a (accepted (length (image values house c))) (x .reads) (whole short (length (image values house c)) (subst (λ (s : List ℕ). HouseAccepts s (length (image values house c))) (sym at) (image-begins values stored house (inl refl) c m u)) refl) in
     let f : p .at ≡ h .at + length (image values house c) = x .moves .on (ap (λ (y : Answer). y .code) e) ∙ ap (λ (y : Answer). h .at + y .place) e in
     (e, behind f)
   where

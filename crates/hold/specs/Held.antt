@@ -6,9 +6,7 @@ use Prim.Native.Nat.{ℕ, _+_}
 use lib.ListN.{drop}
 use denote.Ref.{now}
 use Rattle.answer.specs.declared.Answer.{Answer}
-use Rattle.house.specs.House.{house}
-use Rattle.image.specs.Kinds.{values}
-use Rattle.image.specs.Place.{Reads}
+use Rattle.reading.specs.Reads.{HouseReads}
 use Rattle.hold.specs.declared.held.Held.{Held}
 use Rattle.hold.specs.declared.held.Step.{Step}
 
@@ -24,12 +22,12 @@ pub record Moves (a : Answer) (from to : ℕ) : Type 0 where
 
 -- reading at a place of a run
 pub record Steps (run : List ℕ) (at : ℕ) (r : Step) : Type 0 where
-  pub reads : Reads values house (drop at run) (r .answer)
+  pub reads : HouseReads (drop at run) (r .answer)
   pub moves : Moves (r .answer) at (r .at)
 
 -- the held reader before and behind a call that reads: "it answers as they do on the rest of the run", and moves; its run stays
 pub record Next (h : Held) (a : Answer) (h′ : Held) : Type 0 where
-  pub reads : Reads values house (left h) a
+  pub reads : HouseReads (left h) a
   pub moves : Moves a (h .at) (h′ .at)
   pub holds : h′ .run ≡ h .run
 

@@ -12,14 +12,10 @@
 //
 // The four functions that have a `Held` only take it apart; the work is done by the others, on the slice and the place.
 use answer::Answer;
-use house::tables::rows;
-use image::picker;
-use image::reader;
+use reading::first;
 ghost use mathlib.Core.Path.{_≡_};
 ghost use lib.ListN.{drop};
-ghost use Rattle.house.specs.House.{house};
-ghost use Rattle.image.specs.Kinds.{values};
-ghost use Rattle.image.specs.Pick.{Answers, Hands};
+ghost use Rattle.reading.specs.Reads.{HouseAnswers, HouseHands};
 ghost use Rattle.hold.specs.Held.{left, Steps, Next};
 
 // The run and the place.
@@ -48,8 +44,7 @@ fn rest(run: &[u8], at: usize) -> &[u8]
 pub(crate) fn read_at(run: &[u8], at: usize) -> Step
     ensures { λ r. ⌜ Steps (now (run .entry)) at r ⌝ }
 {
-    let rows = rows();
-    let a = reader::read(&rows, rest(run, at));
+    let a = first::read(rest(run, at));
     if a.code != Answer::ACCEPTED {
         return Step { answer: a, at };
     }
@@ -61,18 +56,16 @@ pub(crate) fn read_at(run: &[u8], at: usize) -> Step
 
 // The n-th leaf of `row` in that image.
 pub(crate) fn pick_at(run: &[u8], at: usize, row: usize, n: usize) -> Answer
-    ensures { λ a. ⌜ Answers values house (drop at (now (run .entry))) row n a ⌝ }
+    ensures { λ a. ⌜ HouseAnswers (drop at (now (run .entry))) row n a ⌝ }
 {
-    let rows = rows();
-    picker::pick(&rows, rest(run, at), row, n)
+    first::pick(rest(run, at), row, n)
 }
 
 // Its part.
 pub(crate) fn picked_at(run: &[u8], at: usize, row: usize, n: usize) -> &[u8]
-    ensures { λ s. ⌜ Hands values house (drop at (now (run .entry))) row n (now s) ⌝ }
+    ensures { λ s. ⌜ HouseHands (drop at (now (run .entry))) row n (now s) ⌝ }
 {
-    let rows = rows();
-    picker::picked(&rows, rest(run, at), row, n)
+    first::picked(rest(run, at), row, n)
 }
 
 // At the start of a run.
@@ -93,14 +86,14 @@ pub fn next<'s, 'a>(h: &'s mut Held<'a>) -> Answer
 
 // The answer for the n-th leaf, from 0, of `row` in the image at its place.
 pub fn pick<'a>(h: Held<'a>, row: usize, n: usize) -> Answer
-    ensures { λ a. ⌜ Answers values house (left (h .entry)) row n a ⌝ }
+    ensures { λ a. ⌜ HouseAnswers (left (h .entry)) row n a ⌝ }
 {
     pick_at(h.run, h.at, row, n)
 }
 
 // Its part of the run; empty where `pick` refuses.
 pub fn picked<'a>(h: Held<'a>, row: usize, n: usize) -> &'a [u8]
-    ensures { λ s. ⌜ Hands values house (left (h .entry)) row n (now s) ⌝ }
+    ensures { λ s. ⌜ HouseHands (left (h .entry)) row n (now s) ⌝ }
 {
     picked_at(h.run, h.at, row, n)
 }

@@ -9,28 +9,27 @@ use native.Mathlib.Omega.{arith}
 use native.Mathlib.Numerals.{add-one}
 use lib.Dec.{leb, eqb}
 use lib.ListN.{length, getD, take, drop, length-drop, length-append, drop-of-length-le}
-use lib.Seq.{drop-cons, drop-drop, drop-append-le, take-at, drop-at, slice}
+use lib.Seq.{drop-cons, drop-drop, drop-append-le, take-at, slice}
 use borrow.Author.Tests.{eq-eqb, ne-eqb, le-leb, lt-leb}
 use Rattle.answer.specs.declared.Answer.{Answer}
-use Rattle.answer.specs.Table.{limit, picked}
+use Rattle.answer.specs.Table.{picked}
 use Rattle.text.proofs.Parts.{part-take}
 use Rattle.list.specs.Listing.{Leaf, Kind, group, choice, leaf, Row, Listing, size, rowAt, isGroup}
 use Rattle.list.specs.WellFormed.{WellFormed}
 use Rattle.list.specs.Content.{Content, items, Meets}
 use Rattle.list.proofs.Next.{row-past}
-use Rattle.image.specs.Image.{Values, Lawful, Item, header, valueBytes, itemBytes, bytes, image}
-use Rattle.image.specs.Place.{Accepts, Reads, over, foreign, version, broken, whole}
-use Rattle.image.specs.Pick.{Picked, Missing, Picks, refused, missing, found}
+use Rattle.image.specs.Image.{Values, Lawful, Item, valueBytes, itemBytes, bytes}
+use Rattle.image.specs.Place.{Holds}
+use Rattle.image.specs.Pick.{Picked, Missing, Selects, none-such, one-such}
 use Rattle.image.specs.Follow.{OfKind, ItemOk, Trail}
 use Rattle.image.specs.Step.{isLeaf}
-use Rattle.image.specs.Run.{Turn, stop, next, Comes, halts, moves, headOf, hunt, Finds, groups, leaves, Runs, Chooses, refused as no-image, missing as no-leaf, found as leaf-at}
+use Rattle.image.specs.Run.{Turn, stop, next, Comes, halts, moves, headOf, hunt, Finds, groups, leaves, Chooses, missing as no-leaf, found as leaf-at}
 use Rattle.image.proofs.Rows.{Cmp, less, same, more, cmp, clash, next-in, well}
 use Rattle.image.proofs.Theorem.{content-whole}
 use Rattle.image.proofs.Prefix.{value-cut, root-oks}
-use Rattle.image.proofs.Stops.{header-length}
 use Rattle.image.proofs.Answers.{many, many-append}
 use Rattle.image.proofs.Step.{Lines}
-use Rattle.image.proofs.Run.{comes-one, runs-one, Ending, runs-reads}
+use Rattle.image.proofs.Run.{comes-one, Ending}
 
 both-same : {A : Type 0} (b : Bool) (x : A) → cond b x x ≡ x
 both-same true x = refl
@@ -76,26 +75,18 @@ module _ (t : List ℕ) (fin : ℕ → ℕ → ℕ) (s : List ℕ) (r n i : ℕ)
     hunt-other y e = rw (lt-leb (length s) i h, sym ex, ne-eqb x 0 z, sym ej, ne-eqb j 0 y, ne-eqb x r e)
 
 module _ (t : List ℕ) (fin : ℕ → ℕ → ℕ) (s : List ℕ) where
-  finds-one : {r n p q : ℕ} → Finds t fin s r n p → Finds t fin s r n q → p ≡ q
+  finds-one : {from r n p q : ℕ} → Finds t fin s from r n p → Finds t fin s from r n q → p ≡ q
   finds-one (groups e f) (groups g h) = f ∙ sym h
   finds-one (groups e f) (leaves g h) = absurd (clash g e)
   finds-one (leaves e f) (groups g h) = absurd (clash e g)
   finds-one (leaves e f) (leaves g h) = comes-one f h
 
-  same-code : (a b : Answer) → Runs t fin s a → Runs t fin s b → a .code ≢ 0 → b .code ≡ 0 → ⊥
-  same-code a b x y n e = n (ap (λ (z : Answer). z .code) (runs-one t fin s a b x y) ∙ e)
-
   -- one answer and one part only, whatever the tables say
-  pub chooses-one : (r n : ℕ) (a b : Answer) (u v : List ℕ) → Chooses t fin s r n a u → Chooses t fin s r n b v → (a ≡ b) × (u ≡ v)
-  chooses-one r n a b u v (no-image x c e) (no-image y d f) = (runs-one t fin s a b x y, e ∙ sym f)
-  chooses-one r n a b u v (no-image x c e) (no-leaf b′ y d k g f) = absurd (same-code a b′ x y c d)
-  chooses-one r n a b u v (no-image x c e) (leaf-at b′ y d p z k g f) = absurd (same-code a b′ x y c d)
-  chooses-one r n a b u v (no-leaf a′ x c k g e) (no-image y d f) = absurd (same-code b a′ y x d c)
-  chooses-one r n a b u v (no-leaf a′ x c k g e) (no-leaf b′ y d k′ g′ f) = (g ∙ sym g′, e ∙ sym f)
-  chooses-one r n a b u v (no-leaf a′ x c k g e) (leaf-at b′ y d p z k′ g′ f) = absurd (omega (arith, finds-one k k′))
-  chooses-one r n a b u v (leaf-at a′ x c p z k g e) (no-image y d f) = absurd (same-code b a′ y x d c)
-  chooses-one r n a b u v (leaf-at a′ x c p z k g e) (no-leaf b′ y d k′ g′ f) = absurd (omega (arith, finds-one k k′))
-  chooses-one r n a b u v (leaf-at a′ x c p z k g e) (leaf-at b′ y d q z′ k′ g′ f) =
+  pub chooses-one : (from r n : ℕ) (a b : Answer) (u v : List ℕ) → Chooses t fin s from r n a u → Chooses t fin s from r n b v → (a ≡ b) × (u ≡ v)
+  chooses-one from r n a b u v (no-leaf k g e) (no-leaf k′ g′ f) = (g ∙ sym g′, e ∙ sym f)
+  chooses-one from r n a b u v (no-leaf k g e) (leaf-at p z k′ g′ f) = absurd (omega (arith, finds-one k k′))
+  chooses-one from r n a b u v (leaf-at p z k g e) (no-leaf k′ g′ f) = absurd (omega (arith, finds-one k k′))
+  chooses-one from r n a b u v (leaf-at p z k g e) (leaf-at q z′ k′ g′ f) =
       let w = finds-one k k′ in
       (g ∙ ap (λ (m : ℕ). picked r (m + headOf t r)) w ∙ sym g′, e ∙ ap (λ (m : ℕ). slice (m + headOf t r) (fin r m) s) w ∙ sym f)
 
@@ -117,8 +108,8 @@ module _ (t : List ℕ) (fin : ℕ → ℕ → ℕ) (s : List ℕ) where
         let w = content-whole vs lw l wf c m in
         subst Goods (sym (w .is)) ((omega arith, well l wf .rows), root-oks vs lw l wf (w .inside) (w .trail) .1, trail-goods (w .inside) 1 (w .trail))
 
-    -- a whole run: its content, and what follows the image
-    module _ (c : Content (vs .Value)) (rest : List ℕ) (r m : ℕ) where
+    -- a body from a place on: its content, and what follows it
+    module _ (from : ℕ) (c : Content (vs .Value)) (rest : List ℕ) (r m : ℕ) where
       -- the n-th of the row is here
       pub record Spot (y p : ℕ) : Type 0 where
         pub before : List (Item vs)
@@ -126,7 +117,7 @@ module _ (t : List ℕ) (fin : ℕ → ℕ → ℕ) (s : List ℕ) where
         pub behind : List (Item vs)
         pub at : items c ≡ before ++ ((y, value) ∷ behind)
         pub nth : many vs l r before ≡ m
-        pub place : p ≡ 5 + length (bytes vs l before) + 1
+        pub place : p ≡ from + length (bytes vs l before) + 1
         pub row : (0 < y) × (y ≤ size l)
         pub good : ItemOk vs l y value
         pub ends : fin y p ≡ p + length (vb y value)
@@ -138,7 +129,7 @@ module _ (t : List ℕ) (fin : ℕ → ℕ → ℕ) (s : List ℕ) where
       -- on the way: what is passed and what is to come
       record At (done todo : List (Item vs)) (n i : ℕ) : Type 0 where
         is : items c ≡ done ++ todo
-        place : i ≡ 5 + length (bytes vs l done)
+        place : i ≡ from + length (bytes vs l done)
         here : drop i s ≡ bytes vs l todo ++ (0 ∷ rest)
         left : n + many vs l r done ≡ m
         goods : Goods todo
@@ -261,26 +252,15 @@ module _ (t : List ℕ) (fin : ℕ → ℕ → ℕ) (s : List ℕ) where
       hunts {p} {n} {i} (halts e) done todo a = result done todo e (turned done todo n i a)
       hunts {p} {n} {i} (moves n′ j e g) done todo a = carry n′ j done todo e (λ d u b. hunts g d u b) (turned done todo n i a)
 
-    -- the answers that accept
-    accepting : (b : Answer) → Reads vs l s b → b .code ≡ 0 → (length s ≤ limit) × ((k : ℕ) × Accepts vs l s k)
-    accepting b (over h e) z = let c : 1 ≡ b .code = sym (ap (λ (a : Answer). a .code) e) in absurd (omega arith)
-    accepting b (foreign h x e) z = let c : 15 ≡ b .code = sym (ap (λ (a : Answer). a .code) e) in absurd (omega arith)
-    accepting b (version h x y w e) z = let c : 16 ≡ b .code = sym (ap (λ (a : Answer). a .code) e) in absurd (omega arith)
-    accepting b (broken h u x p y e) z = let c : 17 ≡ b .code = sym (ap (λ (a : Answer). a .code) e) in absurd (omega arith)
-    accepting b (whole h n w e) z = (h, (n, w))
-
-    start : (k : ℕ) (w : Accepts vs l s k) (r n : ℕ) → At (w .content) (w .rest) r n [] (items (w .content)) n 5
-    unfolding image
-    start k w r n = record {
-      is = refl;
-      place = refl;
-      here = ap (drop 5) (w .at ∙ append-assoc header (x ++ (0 ∷ [])) (w .rest)) ∙ drop-at header ((x ++ (0 ∷ [])) ++ w .rest) 5 header-length ∙ append-assoc x (0 ∷ []) (w .rest);
-      left = omega arith;
-      goods = content-goods (w .content) (w .meets);
-    }
-      where
-        x : List ℕ
-        x = bytes vs l (items (w .content))
+    module _ (from k : ℕ) (w : Holds vs l (drop from s) k) where
+      start : (r n : ℕ) → At from (w .content) (w .rest) r n [] (items (w .content)) n from
+      start r n = record {
+        is = refl;
+        place = omega arith;
+        here = w .at ∙ append-assoc (bytes vs l (items (w .content))) (0 ∷ []) (w .rest);
+        left = omega arith;
+        goods = content-goods (w .content) (w .meets);
+      }
 
     -- a number that the tables have for no leaf is no leaf's row
     no-leaf-row : (r : ℕ) → isLeaf t r ≡ false → Cmp 0 r → Cmp r (size l) → isGroup (rowAt l r .kind) ≡ true
@@ -290,12 +270,13 @@ module _ (t : List ℕ) (fin : ℕ → ℕ → ℕ) (s : List ℕ) where
     no-leaf-row r e (less a) (less c) = grouped (isGroup (rowAt l r .kind)) (sym (ls .line r a (omega arith) .leaf) ∙ e)
     no-leaf-row r e (less a) (same c) = grouped (isGroup (rowAt l r .kind)) (sym (ls .line r a (omega arith) .leaf) ∙ e)
 
-    finds : (k : ℕ) (w : Accepts vs l s k) (r n p : ℕ) → Finds t fin s r n p → ((isGroup (rowAt l r .kind) ≡ true) × (p ≡ 0)) ⊎ ((isLeaf t r ≡ true) × Outcome (w .content) (w .rest) r n p)
-    finds k w r n p (groups e f) = inl (no-leaf-row r e (cmp 0 r) (cmp r (size l)), f)
-    finds k w r n p (leaves e f) = inr (e, hunts (w .content) (w .rest) r n f [] (items (w .content)) (start k w r n))
+    module _ (from k : ℕ) (w : Holds vs l (drop from s) k) (r n : ℕ) where
+      finds : (p : ℕ) → Finds t fin s from r n p → ((isGroup (rowAt l r .kind) ≡ true) × (p ≡ 0)) ⊎ ((isLeaf t r ≡ true) × Outcome from (w .content) (w .rest) r n p)
+      finds p (groups e f) = inl (no-leaf-row r e (cmp 0 r) (cmp r (size l)), f)
+      finds p (leaves e f) = inr (e, hunts from (w .content) (w .rest) r n f [] (items (w .content)) (start from k w r n))
 
-    none-there : (k : ℕ) (w : Accepts vs l s k) (r n : ℕ) → Finds t fin s r n 0 → Missing vs l (w .content) r n
-    none-there k w r n f = ⊎-elim (λ h. inl (h .0)) (λ h. ⊎-elim (λ g. inr (g .1)) (λ g. absurd (omega (arith, g .0))) (h .1)) (finds k w r n 0 f)
+      none-there : Finds t fin s from r n 0 → Missing vs l (w .content) r n
+      none-there f = ⊎-elim (λ h. inl (h .0)) (λ h. ⊎-elim (λ g. inr (g .1)) (λ g. absurd (omega (arith, g .0))) (h .1)) (finds 0 f)
 
     leaf-value : (k : Kind) (v : Option (vs .Value)) → OfKind vs l k v → isGroup k ≡ false → (f : Leaf) × (k ≡ leaf f) × ((w : vs .Value) × (v ≡ some w) × vs .Is f w)
     leaf-value group v h e = absurd (true≢false e)
@@ -304,9 +285,9 @@ module _ (t : List ℕ) (fin : ℕ → ℕ → ℕ) (s : List ℕ) where
     leaf-value (leaf f) (some w) h e = (f, refl, (w, refl, h))
 
     module _ (hd : (r : ℕ) (f : Leaf) → 0 < r → r ≤ size l → rowAt l r .kind ≡ leaf f → headOf t r ≡ vs .head f) where
-      spot-picked : (k : ℕ) (w : Accepts vs l s k) (r n p : ℕ) (part : List ℕ) → isLeaf t r ≡ true → Spot (w .content) (w .rest) r n r p
-          → part ≡ slice (p + headOf t r) (fin r p) s → Picked vs l (w .content) r n (p + headOf t r) part
-      spot-picked k w r n p part e g f =
+      spot-picked : (from k : ℕ) (w : Holds vs l (drop from s) k) (r n p : ℕ) (part : List ℕ) → isLeaf t r ≡ true → Spot from (w .content) (w .rest) r n r p
+          → part ≡ slice (p + headOf t r) (fin r p) s → Picked vs l from (w .content) r n (p + headOf t r) part
+      spot-picked from k w r n p part e g f =
           let simple : isGroup (rowAt l r .kind) ≡ false = leafed (isGroup (rowAt l r .kind)) (sym (ls .line r (g .row .0) (g .row .1) .leaf) ∙ e) in
           let o = leaf-value (rowAt l r .kind) (g .value) (g .good) simple in
           let h = hd r (o .0) (g .row .0) (g .row .1) (o .1) in
@@ -333,15 +314,9 @@ module _ (t : List ℕ) (fin : ℕ → ℕ → ℕ) (s : List ℕ) where
               ∙ take-at (drop h x) u (length x - h) (length-drop h x)
 
       -- in sound tables the picker answers and hands back as defined
-      pub chooses-picks : (r n : ℕ) (a : Answer) (part : List ℕ) → Chooses t fin s r n a part → Picks vs l s r n a part
-      chooses-picks r n a part (no-image x c e) = refused (runs-reads t fin s vs lw l wf ls en a x) c e
-      chooses-picks r n a part (no-leaf b x c f g e) =
-          let w = accepting b (runs-reads t fin s vs lw l wf ls en b x) c in
-          missing (w .0) (w .1 .0) (w .1 .1) (none-there (w .1 .0) (w .1 .1) r n f) g e
-      chooses-picks r n a part (leaf-at b x c p z f g e) =
-          let w = accepting b (runs-reads t fin s vs lw l wf ls en b x) c in
-          let k = w .1 .0 in
-          let u = w .1 .1 in
+      pub chooses-selects : (from k : ℕ) (w : Holds vs l (drop from s) k) (r n : ℕ) (a : Answer) (part : List ℕ) → Chooses t fin s from r n a part → Selects vs l from (w .content) r n a part
+      chooses-selects from k w r n a part (no-leaf f g e) = none-such (none-there from k w r n f) g e
+      chooses-selects from k w r n a part (leaf-at p z f g e) =
           ⊎-elim (λ h. absurd (omega (arith, h .1)))
-          (λ h. ⊎-elim (λ y. absurd (omega (arith, y .0))) (λ y. found (w .0) k u (p + headOf t r) (spot-picked k u r n p part (h .0) (y .1) e) g) (h .1))
-          (finds k u r n p f)
+          (λ h. ⊎-elim (λ y. absurd (omega (arith, y .0))) (λ y. one-such (p + headOf t r) (spot-picked from k w r n p part (h .0) (y .1) e) g) (h .1))
+          (finds from k w r n p f)

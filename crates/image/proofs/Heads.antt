@@ -1,82 +1,49 @@
--- A run's first bytes against the header. Assumes nothing.
-use mathlib.Core.Path.{_≡_, refl, sym, _∙_}
-use mathlib.Core.Logic.{_≢_, _⊎_, inl, inr}
-use mathlib.Core.Bool.{Bool, true, false, true≢false, false≢true}
-use mathlib.Core.List.{List, [], _∷_, head-eq-of-cons-eq, tail-eq-of-cons-eq}
-use Prim.Native.Nat.{ℕ, _≤_, _<_}
+-- How images begin. Assumes nothing.
+use mathlib.Core.Path.{_≡_, refl, sym, _∙_, ap}
+use mathlib.Core.Logic.{inl, inr}
+use mathlib.Core.List.{List, [], _∷_, _++_}
+use Prim.Native.Nat.{ℕ, _≤_}
 use native.Mathlib.Omega.{arith}
-use lib.Dec.{eqb}
-use lib.ListN.{length, getD, take}
-use borrow.Author.Tests.{eqb-true, eqb-false}
+use lib.ListN.{length, take}
 use Rattle.text.specs.Bytes.{ascii}
-use Rattle.image.specs.Image.{header}
-use Rattle.image.specs.Run.{Kto, Named, First}
-use Rattle.image.proofs.Stops.{header-is}
+use Rattle.text.specs.Numbers.{bigEndian}
+use Rattle.list.specs.Listing.{Listing}
+use Rattle.image.specs.Image.{versioned, header}
+use Rattle.image.specs.Place.{Front, now, Among, Apart}
+use Rattle.image.proofs.Prefix.{cancel}
 
-first-three : (s : List ℕ) → 5 ≤ length s → take 3 s ≡ getD s 0 0 ∷ getD s 1 0 ∷ getD s 2 0 ∷ []
-first-three [] h = absurd (omega arith)
-first-three (a ∷ []) h = absurd (omega arith)
-first-three (a ∷ b ∷ []) h = absurd (omega arith)
-first-three (a ∷ b ∷ c ∷ s) h = refl
+pub versioned-is : versioned 1 ≡ 75 ∷ 84 ∷ 79 ∷ 0 ∷ 1 ∷ []
+unfolding bigEndian
+versioned-is = refl
 
-first-five : (s : List ℕ) → 5 ≤ length s → take 5 s ≡ getD s 0 0 ∷ getD s 1 0 ∷ getD s 2 0 ∷ getD s 3 0 ∷ getD s 4 0 ∷ []
-first-five [] h = absurd (omega arith)
-first-five (a ∷ []) h = absurd (omega arith)
-first-five (a ∷ b ∷ []) h = absurd (omega arith)
-first-five (a ∷ b ∷ c ∷ []) h = absurd (omega arith)
-first-five (a ∷ b ∷ c ∷ d ∷ []) h = absurd (omega arith)
-first-five (a ∷ b ∷ c ∷ d ∷ e ∷ s) h = refl
+pub header-is : (l : Listing) → header l ≡ versioned 1
+unfolding header
+header-is l = refl
 
-module _ (s : List ℕ) where
-  refuse : (length s < 5) ⊎ (take 3 s ≢ ascii "KTO") → Named s false
-  refuse h = record { yes′ = λ e. absurd (false≢true e); no′ = λ e. h }
+pub header-length : (l : Listing) → length (header l) ≡ 5
+header-length l = ap length (header-is l ∙ versioned-is)
 
-  pub short : length s < 5 → Named s false
-  short h = refuse (inl h)
+-- a run that begins so has five bytes, is named and of a version
+front-is : (l : Listing) (h : List ℕ) → Front l h → h ≡ versioned 1
+front-is l h (now e) = e ∙ header-is l
 
-  letters : 5 ≤ length s → take 3 s ≡ ascii "KTO" → getD s 0 0 ∷ getD s 1 0 ∷ getD s 2 0 ∷ [] ≡ 75 ∷ 84 ∷ 79 ∷ []
-  letters h e = sym (first-three s h) ∙ e
+module _ (l : Listing) (h : List ℕ) (f : Front l h) where
+  pub front-long : 5 ≤ length h
+  front-long = omega (arith, ap length (front-is l h f ∙ versioned-is))
 
-  pub not-k : 5 ≤ length s → getD s 0 0 ≢ 75 → Named s false
-  not-k h n = refuse (inr (λ e. n (head-eq-of-cons-eq (letters h e))))
+  pub front-three : (s : List ℕ) → take 3 (h ++ s) ≡ ascii "KTO"
+  front-three s = rw (front-is l h f ∙ versioned-is)
 
-  pub not-t : 5 ≤ length s → getD s 1 0 ≢ 84 → Named s false
-  not-t h n = refuse (inr (λ e. n (head-eq-of-cons-eq (tail-eq-of-cons-eq (letters h e)))))
+  pub front-five : (s : List ℕ) → take 5 (h ++ s) ≡ versioned 1
+  front-five s = rw (front-is l h f ∙ versioned-is) (sym versioned-is)
 
-  pub last-letter : 5 ≤ length s → getD s 0 0 ≡ 75 → getD s 1 0 ≡ 84 → Named s (eqb (getD s 2 0) 79)
-  last-letter h a b = go (eqb (getD s 2 0) 79) refl
-    where
-      go : (r : Bool) → eqb (getD s 2 0) 79 ≡ r → Named s r
-      go true e = record { yes′ = λ z. (h, first-three s h ∙ rw (a, b, eqb-true (getD s 2 0) 79 e)); no′ = λ z. absurd (true≢false z) }
-      go false e = refuse (inr (λ k. eqb-false (getD s 2 0) 79 e (head-eq-of-cons-eq (tail-eq-of-cons-eq (tail-eq-of-cons-eq (letters h k))))))
-
-  five : 5 ≤ length s → take 5 s ≡ header → getD s 0 0 ∷ getD s 1 0 ∷ getD s 2 0 ∷ getD s 3 0 ∷ getD s 4 0 ∷ [] ≡ 75 ∷ 84 ∷ 79 ∷ 0 ∷ 1 ∷ []
-  five h e = sym (first-five s h) ∙ e ∙ header-is
-
-  pub high-byte : Kto s → getD s 3 0 ≢ 0 → First s false
-  high-byte k n = record {
-    yes′ = λ e. absurd (false≢true e);
-    no′ = λ z e. n (head-eq-of-cons-eq (tail-eq-of-cons-eq (tail-eq-of-cons-eq (tail-eq-of-cons-eq (five (k .0) e)))));
-  }
-
-  pub low-byte : Kto s → getD s 3 0 ≡ 0 → First s (eqb (getD s 4 0) 1)
-  low-byte k z = go (eqb (getD s 4 0) 1) refl
-    where
-      t : getD s 0 0 ∷ getD s 1 0 ∷ getD s 2 0 ∷ [] ≡ 75 ∷ 84 ∷ 79 ∷ []
-      t = letters (k .0) (k .1)
-
-      a : getD s 0 0 ≡ 75
-      a = head-eq-of-cons-eq t
-
-      b : getD s 1 0 ≡ 84
-      b = head-eq-of-cons-eq (tail-eq-of-cons-eq t)
-
-      c : getD s 2 0 ≡ 79
-      c = head-eq-of-cons-eq (tail-eq-of-cons-eq (tail-eq-of-cons-eq t))
-
-      go : (r : Bool) → eqb (getD s 4 0) 1 ≡ r → First s r
-      go true e = record { yes′ = λ y. first-five s (k .0) ∙ rw (a, b, c, z, eqb-true (getD s 4 0) 1 e) (sym header-is); no′ = λ y. absurd (true≢false y) }
-      go false e = record {
-        yes′ = λ y. absurd (false≢true y);
-        no′ = λ y h. eqb-false (getD s 4 0) 1 e (head-eq-of-cons-eq (tail-eq-of-cons-eq (tail-eq-of-cons-eq (tail-eq-of-cons-eq (tail-eq-of-cons-eq (five (k .0) h))))));
-      }
+-- what a run begins with is of the one list
+pub apart : (l : Listing) → Apart (l ∷ [])
+apart l = record { one = go }
+  where
+    go : (m n : Listing) → Among m (l ∷ []) → Among n (l ∷ []) → (h g u v : List ℕ) → Front m h → Front n g → h ++ u ≡ g ++ v → (m ≡ n) × (h ≡ g) × (u ≡ v)
+    go m n (inl a) (inl b) h g u v x y e =
+        let w : h ≡ g = front-is m h x ∙ sym (front-is n g y) in
+        (a ∙ sym b, w, cancel g u v (ap (λ (z : List ℕ). z ++ u) (sym w) ∙ e))
+    go m n (inl a) (inr b) h g u v x y e = absurd b
+    go m n (inr a) b h g u v x y e = absurd a

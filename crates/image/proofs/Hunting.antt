@@ -12,30 +12,30 @@ use Rattle.image.specs.Run.{stop, next, Comes, halts, moves, headOf, hun
 use Rattle.list.specs.Table.{cell}
 use Rattle.image.proofs.Choose.{hunt-out, hunt-over, hunt-bad, hunt-here, hunt-past, hunt-other}
 
-module _ (t : List ℕ) (fin : ℕ → ℕ → ℕ) (s : List ℕ) (r n : ℕ) where
+module _ (t : List ℕ) (fin : ℕ → ℕ → ℕ) (s : List ℕ) (from r n : ℕ) where
   -- what is found from here is found from the start
   pub record Sought (left i : ℕ) : Type 0 where
-    pub on : (p : ℕ) → Comes (hunt t fin s r) p left i → Comes (hunt t fin s r) p n 5
+    pub on : (p : ℕ) → Comes (hunt t fin s r) p left i → Comes (hunt t fin s r) p n from
 
-  pub seeks : Sought n 5
+  pub seeks : Sought n from
   seeks = record { on = λ p g. g }
 
   module _ (left i : ℕ) (h : Sought left i) where
-    stops : (p : ℕ) → hunt t fin s r left i ≡ stop p → Comes (hunt t fin s r) p n 5
+    stops : (p : ℕ) → hunt t fin s r left i ≡ stop p → Comes (hunt t fin s r) p n from
     stops p e = h .on p (halts e)
 
-    pub seek-over : length s ≤ i → Comes (hunt t fin s r) 0 n 5
+    pub seek-over : length s ≤ i → Comes (hunt t fin s r) 0 n from
     seek-over g = stops 0 (hunt-over t fin s r left i g)
 
     module _ (x : ℕ) (g : i < length s) (ex : x ≡ getD s i 0) where
-      pub seek-end : x ≡ 0 → Comes (hunt t fin s r) 0 n 5
+      pub seek-end : x ≡ 0 → Comes (hunt t fin s r) 0 n from
       seek-end z = stops 0 (hunt-out t fin s r left i (sym ex ∙ z))
 
       module _ (j : ℕ) (z : x ≢ 0) (ej : j ≡ fin x (i + 1)) where
-        pub seek-bad : j ≡ 0 → Comes (hunt t fin s r) 0 n 5
+        pub seek-bad : j ≡ 0 → Comes (hunt t fin s r) 0 n from
         seek-bad y = stops 0 (hunt-bad t fin s r left i x j g ex z ej y)
 
-        pub seek-here : j ≢ 0 → x ≡ r → left ≡ 0 → Comes (hunt t fin s r) (i + 1) n 5
+        pub seek-here : j ≢ 0 → x ≡ r → left ≡ 0 → Comes (hunt t fin s r) (i + 1) n from
         seek-here y e f = stops (i + 1) (hunt-here t fin s r left i x j g ex z ej y e f)
 
         pub seek-past : j ≢ 0 → x ≡ r → left ≢ 0 → Sought (left - 1) j
@@ -64,9 +64,9 @@ module _ (t : List ℕ) (fin : ℕ → ℕ → ℕ) (s : List ℕ) (r : ℕ) whe
   come-within {p} {n} {i} (halts e) = halt-within n i p e
   come-within (moves x j e g) = come-within g
 
-  pub find-within : (n p : ℕ) → Finds t fin s r n p → p ≤ length s
-  find-within n p (groups e f) = omega arith
-  find-within n p (leaves e g) = come-within g
+  pub find-within : (from n p : ℕ) → Finds t fin s from r n p → p ≤ length s
+  find-within from n p (groups e f) = omega arith
+  find-within from n p (leaves e g) = come-within g
 
 pub head-small : (t : List ℕ) (r : ℕ) → headOf t r ≤ 2
 unfolding headOf

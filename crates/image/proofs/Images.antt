@@ -10,17 +10,16 @@ use Rattle.text.specs.Lists.{Each}
 use Rattle.list.specs.Listing.{Listing}
 use Rattle.list.specs.WellFormed.{WellFormed}
 use Rattle.list.specs.Content.{Content, items, Meets}
-use Rattle.image.specs.Image.{Values, Lawful, header, bytes, image, images}
+use Rattle.image.specs.Image.{Values, Lawful, header, bytes, body, image, images}
 use Rattle.image.proofs.Prefix.{image-prefix}
-use Rattle.image.proofs.Stops.{header-length}
+use Rattle.image.proofs.Heads.{header-length}
 
 module _ (vs : Values) (l : Listing) where
   -- an image has its header
   pub image-long : (c : Content (vs .Value)) → 5 < length (image vs l c)
   unfolding image
   image-long c =
-      let b = bytes vs l (items c) in
-      omega (arith, length-append header (b ++ (0 ∷ [])), length-append b (0 ∷ []), header-length)
+      omega (arith, length-append (header l) (body vs l c), length-append (bytes vs l (items c)) (0 ∷ []), header-length l)
 
   module _ (lw : Lawful vs) (wf : WellFormed l) where
     -- the one lemma: where the image of a followed by u is the image of b followed by v, a is b and u is v

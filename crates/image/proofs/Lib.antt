@@ -17,13 +17,15 @@ pub mod Stops
 pub mod Images
 -- one answer only; bytes after the first image
 pub mod Answers
+-- where a picked part stands
+pub mod There
 -- what the code finds in sound tables
 pub mod Step
 -- one turn of the loops that go up from a row
 pub mod Turns
 -- what sound tables say is the list's
 pub mod Lines
--- the first bytes against the header
+-- how images begin
 pub mod Heads
 -- where an item ends
 pub mod Ends
@@ -45,5 +47,3 @@ pub mod Sizes
 pub mod Example
 -- what the promises mean in sound tables
 pub mod Meaning
--- and over the house list
-pub mod House

@@ -17,20 +17,20 @@ use Rattle.list.proofs.Rows.{size-is, kind-is}
 use Rattle.types.specs.Value.{Value, IsValue, bytes}
 use Rattle.image.specs.Image.{valueBytes}
 use Rattle.image.specs.Kinds.{lengthBytes, values}
-use Rattle.image.specs.Place.{Reads}
-use Rattle.image.specs.Pick.{Picks}
+use Rattle.image.specs.Place.{Holds, Tells}
+use Rattle.image.specs.Pick.{Selects}
 use Rattle.image.specs.Follow.{OfKind, ItemOk}
 use Rattle.image.specs.Step.{isLeaf}
 use Rattle.stored.specs.Ends.{valueEnd}
 use Rattle.stored.proofs.Numbered.{by-kind}
 use Rattle.stored.proofs.Meaning.{end-none, end-some}
 use Rattle.image.specs.Ends.{itemEnd}
-use Rattle.image.specs.Run.{Runs, headOf, Chooses}
+use Rattle.image.specs.Run.{Behind, headOf, Chooses}
 use Rattle.image.proofs.Rows.{well}
 use Rattle.image.proofs.Lines.{lines}
 use Rattle.image.proofs.Lawful.{lawful}
-use Rattle.image.proofs.Run.{Ending, runs-reads}
-use Rattle.image.proofs.Choose.{chooses-picks}
+use Rattle.image.proofs.Run.{Ending, behind-tells}
+use Rattle.image.proofs.Choose.{chooses-selects}
 
 -- two bytes stand before a text, by the number of its kind
 head-code : (k : ℕ) (ws : List (List ℕ)) (f : Leaf) (c : ℕ) → kindOf c k ws ≡ leaf f → cond (leb c 5) 2 0 ≡ lengthBytes f
@@ -117,13 +117,13 @@ module _ (t pool : List ℕ) (so : Sound t pool) (s : List ℕ) where
           )
 
   -- the reader's promise, in sound tables
-  pub read-means : (a : Answer) → Runs t (itemEnd t s) s a → Reads values l s a
-  read-means a h = runs-reads t (itemEnd t s) s values lawful l (so .well) (lines t pool so) ending a h
+  pub body-means : (from : ℕ) (a : Answer) → Behind t (itemEnd t s) s from a → Tells values l (drop from s) from a
+  body-means from a h = behind-tells t (itemEnd t s) s values lawful l (so .well) (lines t pool so) ending from a h
 
   head-is : (r : ℕ) (f : Leaf) → 0 < r → r ≤ size l → rowAt l r .kind ≡ leaf f → headOf t r ≡ lengthBytes f
   unfolding headOf
   head-is r f a b e = head-code (cell t r 3) (wordsIn t pool r) f (cell t r 2) (sym (row r a b) ∙ e)
 
   -- the picker's promise, in sound tables
-  pub pick-means : (r n : ℕ) (a : Answer) (part : List ℕ) → Chooses t (itemEnd t s) s r n a part → Picks values l s r n a part
-  pick-means r n a part h = chooses-picks t (itemEnd t s) s values lawful l (so .well) (lines t pool so) ending head-is r n a part h
+  pub pick-means : (from k : ℕ) (w : Holds values l (drop from s) k) (r n : ℕ) (a : Answer) (part : List ℕ) → Chooses t (itemEnd t s) s from r n a part → Selects values l from (w .content) r n a part
+  pick-means from k w r n a part h = chooses-selects t (itemEnd t s) s values lawful l (so .well) (lines t pool so) ending head-is from k w r n a part h

@@ -9,7 +9,7 @@ use lib.ListN.{length}
 use Rattle.list.specs.Listing.{Kind, group, choice, leaf, Listing, rowAt, Child}
 use Rattle.list.specs.WellFormed.{KindOk, WellFormed}
 use Rattle.list.specs.Content.{Content, end, value, node, rows, items, Meets}
-use Rattle.image.specs.Image.{Values, Lawful, Item, header, valueBytes, itemBytes, bytes, image}
+use Rattle.image.specs.Image.{Values, Lawful, Item, header, valueBytes, itemBytes, bytes, body, image}
 use Rattle.image.specs.Follow.{parentOf, Compound, OfKind, ItemOk, Trail, Whole}
 use Rattle.image.proofs.Rows.{clash, is-group, value-is, next-in, well}
 use Rattle.image.proofs.Derive.{After, above}
@@ -142,13 +142,17 @@ module _ (vs : Values) (lw : Lawful vs) (l : Listing) (wf : WellFormed l) where
   pub whole-oks : (t : List (Item vs)) → Whole vs l t → Oks t
   whole-oks t h = subst Oks (sym (h .is)) (root-oks (h .inside) (h .trail))
 
-  -- images that begin one run are equal, and so are their contents
+  -- bodies that begin one run are equal, and so are their contents
+  pub body-prefix : (a b : Content (vs .Value)) (u v : List ℕ) → Meets (vs .Is) l a → Meets (vs .Is) l b → body vs l a ++ u ≡ body vs l b ++ v → (a ≡ b) × (u ≡ v)
+  body-prefix a b u v ma mb e =
+      let x = bytes vs l (items a) in
+      let y = bytes vs l (items b) in
+      let t : x ++ (0 ∷ u) ≡ y ++ (0 ∷ v) = sym (append-assoc x (0 ∷ []) u) ∙ e ∙ append-assoc y (0 ∷ []) v in
+      let z = bytes-whole (items a) (items b) u v (whole-oks (items a) (content-whole vs lw l wf a ma)) (whole-oks (items b) (content-whole vs lw l wf b mb)) t in
+      (items-tell a b ma mb (z .0), z .1)
+
+  -- and so are images
   pub image-prefix : (a b : Content (vs .Value)) (u v : List ℕ) → Meets (vs .Is) l a → Meets (vs .Is) l b → image vs l a ++ u ≡ image vs l b ++ v → (a ≡ b) × (u ≡ v)
   unfolding image
   image-prefix a b u v ma mb e =
-      let x = bytes vs l (items a) in
-      let y = bytes vs l (items b) in
-      let five = cancel header ((x ++ (0 ∷ [])) ++ u) ((y ++ (0 ∷ [])) ++ v) (sym (append-assoc header (x ++ (0 ∷ [])) u) ∙ e ∙ append-assoc header (y ++ (0 ∷ [])) v) in
-      let t : x ++ (0 ∷ u) ≡ y ++ (0 ∷ v) = sym (append-assoc x (0 ∷ []) u) ∙ five ∙ append-assoc y (0 ∷ []) v in
-      let z = bytes-whole (items a) (items b) u v (whole-oks (items a) (content-whole vs lw l wf a ma)) (whole-oks (items b) (content-whole vs lw l wf b mb)) t in
-      (items-tell a b ma mb (z .0), z .1)
+      body-prefix a b u v ma mb (cancel (header l) (body vs l a ++ u) (body vs l b ++ v) (sym (append-assoc (header l) (body vs l a) u) ∙ e ∙ append-assoc (header l) (body vs l b) v))

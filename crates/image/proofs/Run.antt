@@ -9,22 +9,21 @@ use native.Mathlib.Omega.{arith}
 use native.Mathlib.Numerals.{add-one}
 use native.Mathlib.Decide.{decLt}
 use lib.Dec.{leb, eqb}
-use lib.ListN.{length, getD, take, drop, take-append-drop, drop-of-length-le}
+use lib.ListN.{length, getD, drop, drop-of-length-le}
 use lib.Seq.{drop-cons}
 use borrow.Author.Tests.{eqb-true, eqb-false, leb-true, leb-false}
 use Rattle.answer.specs.declared.Answer.{Answer}
-use Rattle.answer.specs.Table.{limit, accepted, brokenImage}
-use Rattle.text.specs.Bytes.{ascii}
+use Rattle.answer.specs.Table.{accepted, brokenImage}
 use Rattle.list.specs.Listing.{Listing, size, rowAt}
 use Rattle.list.specs.WellFormed.{WellFormed}
-use Rattle.image.specs.Image.{Values, Lawful, header, valueBytes}
-use Rattle.image.specs.Place.{Accepts, Reads, over, foreign, version, broken, whole}
+use Rattle.image.specs.Image.{Values, Lawful, valueBytes}
+use Rattle.image.specs.Place.{Holds, Breaks, Tells, held, broke}
 use Rattle.image.specs.Follow.{Next, ItemOk}
 use Rattle.image.specs.Reader.{Stuck, Open, Stops, Ends}
 use Rattle.image.specs.Step.{follows, ended}
-use Rattle.image.specs.Run.{Turn, stop, next, Comes, halts, moves, turn, Goes, Runs, over as runs-over, foreign as runs-foreign, version as runs-version, rootless, rooted}
+use Rattle.image.specs.Run.{Turn, stop, next, Comes, halts, moves, turn, Goes, Behind, rootless, rooted}
 use Rattle.image.proofs.Rows.{next-in, well}
-use Rattle.image.proofs.Stops.{header-is, stops-on, stops-here, ends-on, ends-here, accepts, refuses, refuses-root}
+use Rattle.image.proofs.Stops.{stops-on, stops-here, ends-on, ends-here, holds, breaks, breaks-root}
 use Rattle.image.proofs.Step.{Lines, follows-is, ended-is}
 
 -- turn by turn there is one result only
@@ -38,49 +37,15 @@ comes-one {f = f} {b = b} (moves x j e g) (moves y k d h) =
     comes-one g (subst (λ (z : ℕ). Comes f b z j) ex (subst (λ (z : ℕ). Comes f b y z) ek h))
 
 module _ (t : List ℕ) (fin : ℕ → ℕ → ℕ) (s : List ℕ) where
-  three : take 5 s ≡ header → take 3 s ≡ ascii "KTO"
-  three e = sym (go s) ∙ ap (take 3) e ∙ ap (take 3) header-is
-    where
-      go : (s : List ℕ) → take 3 (take 5 s) ≡ take 3 s
-      go [] = refl
-      go (a ∷ []) = refl
-      go (a ∷ b ∷ []) = refl
-      go (a ∷ b ∷ c ∷ s) = refl
+  not-rooted : (from : ℕ) → (length s ≤ from) ⊎ (getD s from 0 ≢ 1) → from < length s → getD s from 0 ≡ 1 → ⊥
+  not-rooted from (inl h) g e = omega arith
+  not-rooted from (inr h) g e = h e
 
-  not-foreign : (length s < 5) ⊎ (take 3 s ≢ ascii "KTO") → 5 ≤ length s → take 3 s ≡ ascii "KTO" → ⊥
-  not-foreign (inl h) g e = omega arith
-  not-foreign (inr h) g e = h e
-
-  not-rooted : (length s ≤ 5) ⊎ (getD s 5 0 ≢ 1) → 5 < length s → getD s 5 0 ≡ 1 → ⊥
-  not-rooted (inl h) g e = omega arith
-  not-rooted (inr h) g e = h e
-
-  pub runs-one : (a b : Answer) → Runs t fin s a → Runs t fin s b → a ≡ b
-  runs-one a b (runs-over h e) (runs-over g f) = e ∙ sym f
-  runs-one a b (runs-over h e) (runs-foreign i x f) = absurd (omega arith)
-  runs-one a b (runs-over h e) (runs-version i x y z f) = absurd (omega arith)
-  runs-one a b (runs-over h e) (rootless i x y z f) = absurd (omega arith)
-  runs-one a b (runs-over h e) (rooted i x y z f) = absurd (omega arith)
-  runs-one a b (runs-foreign i x e) (runs-over g f) = absurd (omega arith)
-  runs-one a b (runs-foreign i x e) (runs-foreign j y f) = e ∙ sym f
-  runs-one a b (runs-foreign i x e) (runs-version j y z u f) = absurd (not-foreign x y z)
-  runs-one a b (runs-foreign i x e) (rootless j y z u f) = absurd (not-foreign x y (three z))
-  runs-one a b (runs-foreign i x e) (rooted j y z u f) = absurd (not-foreign x (omega arith) (three y))
-  runs-one a b (runs-version i x y z e) (runs-over g f) = absurd (omega arith)
-  runs-one a b (runs-version i x y z e) (runs-foreign j u f) = absurd (not-foreign u x y)
-  runs-one a b (runs-version i x y z e) (runs-version j u v w f) = e ∙ sym f
-  runs-one a b (runs-version i x y z e) (rootless j u v w f) = absurd (z v)
-  runs-one a b (runs-version i x y z e) (rooted j u v w f) = absurd (z u)
-  runs-one a b (rootless i x y z e) (runs-over g f) = absurd (omega arith)
-  runs-one a b (rootless i x y z e) (runs-foreign j u f) = absurd (not-foreign u x (three y))
-  runs-one a b (rootless i x y z e) (runs-version j u v w f) = absurd (w y)
-  runs-one a b (rootless i x y z e) (rootless j u v w f) = e ∙ sym f
-  runs-one a b (rootless i x y z e) (rooted j u v w f) = absurd (not-rooted z v w)
-  runs-one a b (rooted i x y z e) (runs-over g f) = absurd (omega arith)
-  runs-one a b (rooted i x y z e) (runs-foreign j u f) = absurd (not-foreign u (omega arith) (three x))
-  runs-one a b (rooted i x y z e) (runs-version j u v w f) = absurd (w x)
-  runs-one a b (rooted i x y z e) (rootless j u v w f) = absurd (not-rooted w y z)
-  runs-one a b (rooted i x y z e) (rooted j u v w f) = comes-one e f
+  pub behind-one : (from : ℕ) (a b : Answer) → Behind t fin s from a → Behind t fin s from b → a ≡ b
+  behind-one from a b (rootless x e) (rootless y f) = e ∙ sym f
+  behind-one from a b (rootless x e) (rooted y z f) = absurd (not-rooted from x y z)
+  behind-one from a b (rooted x y e) (rootless z f) = absurd (not-rooted from z x y)
+  behind-one from a b (rooted x y e) (rooted z w f) = comes-one e f
 
   -- what is asked of `fin`: it finds the value that stands there, or says that none does
   pub record Ending (vs : Values) (l : Listing) : Type 0 where
@@ -209,31 +174,27 @@ module _ (t : List ℕ) (fin : ℕ → ℕ → ℕ) (s : List ℕ) where
         here i (o .here′) ∙ ap₂ _∷_ (sym (o .row)) (v .2 ∙ ap (λ (y : ℕ). vb x (v .0) ++ drop y s) (sym (o .place))) in
         carry a q i x j (v .0) n (v .1) d (o .place ∙ v .3) (goes-halt (r .0) (r .1) (o .some) g)
 
-    -- behind the header
-    split : take 5 s ≡ header → s ≡ header ++ drop 5 s
-    split e = sym (take-append-drop 5 s) ∙ ap (λ (z : List ℕ). z ++ drop 5 s) e
+    -- from a place on
+    rooted-at : (from : ℕ) → from < length s → getD s from 0 ≡ 1 → drop from s ≡ 1 ∷ drop (from + 1) s
+    rooted-at from h e = here from h ∙ ap (λ (z : ℕ). z ∷ drop (from + 1) s) e
 
-    rooted-at : 5 < length s → getD s 5 0 ≡ 1 → drop 5 s ≡ 1 ∷ drop 6 s
-    rooted-at h e = drop-cons s 5 0 h ∙ ap (λ (z : ℕ). z ∷ drop 6 s) e
+    halt-tells : (from : ℕ) (a : Answer) → from < length s → getD s from 0 ≡ 1 → Halt a 1 (from + 1) → Tells vs l (drop from s) from a
+    halt-tells from a g r (refused n k f) =
+        broke (1 + n) (subst (λ (z : List ℕ). Breaks vs l z (1 + n)) (sym (rooted-at from g r)) (breaks vs lw l wf (drop (from + 1) s) n k)) (f ∙ ap brokenImage (omega arith))
+    halt-tells from a g r (ended′ n k f) =
+        held (1 + n) (subst (λ (z : List ℕ). Holds vs l z (1 + n)) (sym (rooted-at from g r)) (holds vs lw l wf (drop (from + 1) s) n k)) (f ∙ ap accepted (omega arith))
 
-    halt-reads : (a : Answer) → length s ≤ limit → take 5 s ≡ header → 5 < length s → getD s 5 0 ≡ 1 → Halt a 1 6 → Reads vs l s a
-    halt-reads a h e g r (refused n k f) =
-        broken h (1 ∷ drop 6 s) (split e ∙ ap (λ (z : List ℕ). header ++ z) (rooted-at g r)) (6 + n) (refuses vs lw l wf (drop 6 s) n k) f
-    halt-reads a h e g r (ended′ n k f) =
-        whole h (6 + n) (subst (λ (z : List ℕ). Accepts vs l z (6 + n)) (sym (split e ∙ ap (λ (z : List ℕ). header ++ z) (rooted-at g r))) (accepts vs lw l wf (drop 6 s) n k)) f
-
-    not-root : (length s ≤ 5) ⊎ (getD s 5 0 ≢ 1) → (u : List ℕ) → drop 5 s ≡ 1 ∷ u → ⊥
-    not-root (inl h) u e = nil≢cons (sym (nothing 5 h) ∙ e)
-    not-root (inr h) u e = h (first (decLt 5 (length s)))
+    not-root : (from : ℕ) → (length s ≤ from) ⊎ (getD s from 0 ≢ 1) → (u : List ℕ) → drop from s ≡ 1 ∷ u → ⊥
+    not-root from (inl h) u e = nil≢cons (sym (nothing from h) ∙ e)
+    not-root from (inr h) u e = h (first (decLt from (length s)))
       where
-        first : Dec (5 < length s) → getD s 5 0 ≡ 1
-        first (yes g) = head-eq-of-cons-eq (sym (drop-cons s 5 0 g) ∙ e)
-        first (no g) = absurd (nil≢cons (sym (nothing 5 (omega arith)) ∙ e))
+        first : Dec (from < length s) → getD s from 0 ≡ 1
+        first (yes g) = head-eq-of-cons-eq (sym (drop-cons s from 0 g) ∙ e)
+        first (no g) = absurd (nil≢cons (sym (nothing from (omega arith)) ∙ e))
 
     -- in sound tables the reader answers as defined
-    pub runs-reads : (a : Answer) → Runs t fin s a → Reads vs l s a
-    runs-reads a (runs-over h e) = over h e
-    runs-reads a (runs-foreign h x e) = foreign h x e
-    runs-reads a (runs-version h x y z e) = version h x y z e
-    runs-reads a (rootless h x y z e) = broken h (drop 5 s) (split y) 5 (refuses-root vs lw l wf (drop 5 s) (not-root z)) e
-    runs-reads a (rooted h x y z g) = halt-reads a h x y z (goes-halt (omega arith) (well l wf .rows) (omega arith) g)
+    pub behind-tells : (from : ℕ) (a : Answer) → Behind t fin s from a → Tells vs l (drop from s) from a
+    behind-tells from a (rootless z e) =
+        let n : from + 0 ≡ from = omega arith in
+        broke 0 (breaks-root vs lw l wf (drop from s) (not-root from z)) (e ∙ ap brokenImage (sym n))
+    behind-tells from a (rooted y z g) = halt-tells from a y z (goes-halt (omega arith) (well l wf .rows) (omega arith) g)

@@ -6,25 +6,16 @@ use Prim.Native.Nat.{ℕ, zero, suc, _+_, _≤_, _<_}
 use native.Mathlib.Omega.{arith}
 use native.Mathlib.Decide.{decLt}
 use lib.ListN.{length, length-append}
-use Rattle.text.specs.Numbers.{bigEndian}
 use Rattle.list.specs.Listing.{Listing, rowAt}
 use Rattle.list.specs.WellFormed.{WellFormed}
 use Rattle.list.specs.Content.{Content, items}
-use Rattle.image.specs.Image.{Values, Lawful, Item, header, valueBytes, bytes, image}
-use Rattle.image.specs.Place.{Accepts, Begins, Most, Refuses}
+use Rattle.image.specs.Image.{Values, Lawful, Item, valueBytes, bytes, body}
+use Rattle.image.specs.Place.{Holds, Begins, Most, Breaks}
 use Rattle.image.specs.Follow.{Simple, Next, Over, ItemOk, Trail, Trace, lastRow}
 use Rattle.image.specs.Reader.{Stuck, Open, Stops, Ends}
 use Rattle.image.proofs.Rows.{well}
 use Rattle.image.proofs.Theorem.{content-whole, whole-content, begins-trace, trace-begins}
-use Rattle.image.proofs.Prefix.{cancel, Oks, trail-oks, root-oks, bytes-first, image-prefix}
-
--- the header's bytes
-pub header-is : header ≡ 75 ∷ 84 ∷ 79 ∷ 0 ∷ 1 ∷ []
-unfolding header bigEndian
-header-is = refl
-
-pub header-length : length header ≡ 5
-header-length = ap length header-is
+use Rattle.image.proofs.Prefix.{Oks, trail-oks, root-oks, bytes-first, body-prefix}
 
 module _ (vs : Values) (lw : Lawful vs) (l : Listing) (wf : WellFormed l) where
   -- the root's item is its row byte
@@ -107,9 +98,8 @@ module _ (vs : Values) (lw : Lawful vs) (l : Listing) (wf : WellFormed l) where
       r .open′ (d .rest) g (subst (λ (k : List (Item vs)). Simple l (lastRow vs l q k)) (sym e) (d .leaf)) (subst (λ (k : List (Item vs)). Over l (lastRow vs l q k)) (sym e) (d .over))
 
   -- from the root on
-  pub accepts : (s : List ℕ) (n : ℕ) → Ends vs l 1 s n → Accepts vs l (header ++ (1 ∷ s)) (6 + n)
-  unfolding image
-  accepts s n d =
+  pub holds : (s : List ℕ) (n : ℕ) → Ends vs l 1 s n → Holds vs l (1 ∷ s) (1 + n)
+  holds s n d =
       let m = whole-content vs lw l wf ((1, none) ∷ d .whole) (record { inside = d .whole; is = refl; trail = d .trail; leaf = d .leaf; over = d .over }) in
       let x = bytes vs l (items (m .content)) in
       let root : bytes vs l ((1, none) ∷ d .whole) ≡ 1 ∷ bytes vs l (d .whole) = root-bytes (d .whole) in
@@ -120,19 +110,17 @@ module _ (vs : Values) (lw : Lawful vs) (l : Listing) (wf : WellFormed l) where
         content = m .content;
         meets = m .meets;
         rest = d .rest;
-        at = ap (λ (z : List ℕ). header ++ z) e ∙ sym (append-assoc header (x ++ (0 ∷ [])) (d .rest));
-        long = omega (arith, h, d .long, length-append x (0 ∷ []), length-append header (x ++ (0 ∷ [])), header-length);
+        at = e;
+        long = omega (arith, h, d .long, length-append x (0 ∷ []));
       }
 
-  -- an image behind the header
-  image-behind : (s : List ℕ) (n : ℕ) → Accepts vs l (header ++ s) n → (t : List ℕ) × (s ≡ 1 ∷ t) × ((m : ℕ) × Ends vs l 1 t m)
-  unfolding image
-  image-behind s n a =
+  -- a body has the root's row first
+  body-behind : (s : List ℕ) (n : ℕ) → Holds vs l s n → (t : List ℕ) × (s ≡ 1 ∷ t) × ((m : ℕ) × Ends vs l 1 t m)
+  body-behind s n a =
       let h = content-whole vs lw l wf (a .content) (a .meets) in
       let x = bytes vs l (items (a .content)) in
-      let five : s ≡ (x ++ (0 ∷ [])) ++ a .rest = cancel header s ((x ++ (0 ∷ [])) ++ a .rest) (a .at ∙ append-assoc header (x ++ (0 ∷ [])) (a .rest)) in
       let e : s ≡ 1 ∷ (bytes vs l (h .inside) ++ (0 ∷ a .rest)) =
-      five ∙ append-assoc x (0 ∷ []) (a .rest) ∙ ap (λ (z : List (Item vs)). bytes vs l z ++ (0 ∷ a .rest)) (h .is) ∙ ap (λ (z : List ℕ). z ++ (0 ∷ a .rest)) (root-bytes (h .inside)) in
+      a .at ∙ append-assoc x (0 ∷ []) (a .rest) ∙ ap (λ (z : List (Item vs)). bytes vs l z ++ (0 ∷ a .rest)) (h .is) ∙ ap (λ (z : List ℕ). z ++ (0 ∷ a .rest)) (root-bytes (h .inside)) in
       (bytes vs l (h .inside) ++ (0 ∷ a .rest), e, (length (bytes vs l (h .inside)) + 1, record { whole = h .inside; rest = a .rest; at = refl; trail = h .trail; leaf = h .leaf; over = h .over; long = refl }))
 
   most-root : (is : List (Item vs)) (s u : List ℕ) (n : ℕ) (r : Stops vs l 1 s n) → 1 ∷ s ≡ bytes vs l is ++ u → Begins vs l is → length is ≤ suc (length (r .whole))
@@ -142,10 +130,9 @@ module _ (vs : Values) (lw : Lawful vs) (l : Listing) (wf : WellFormed l) where
       let f : 1 ∷ s ≡ 1 ∷ (bytes vs l is ++ u) = e ∙ ap (λ (z : Item vs). bytes vs l (z ∷ is) ++ u) (t .0) ∙ ap (λ (z : List ℕ). z ++ u) (root-bytes is) in
       let k = no-longer 1 s n r is u (t .1) (tail-eq-of-cons-eq f) in omega arith
 
-  pub refuses : (s : List ℕ) (n : ℕ) → Stops vs l 1 s n → Refuses vs l (1 ∷ s) (6 + n)
-  refuses s n r = record {
-    none = λ m a. let i = image-behind (1 ∷ s) m a in not-ends 1 s n (i .2 .0) r (subst (λ (z : List ℕ). Ends vs l 1 z (i .2 .0)) (sym (tail-eq-of-cons-eq (i .1))) (i .2 .1));
-    items = 1 + n;
+  pub breaks : (s : List ℕ) (n : ℕ) → Stops vs l 1 s n → Breaks vs l (1 ∷ s) (1 + n)
+  breaks s n r = record {
+    none = λ m a. let i = body-behind (1 ∷ s) m a in not-ends 1 s n (i .2 .0) r (subst (λ (z : List ℕ). Ends vs l 1 z (i .2 .0)) (sym (tail-eq-of-cons-eq (i .1))) (i .2 .1));
     most = record {
       whole = (1, none) ∷ r .whole;
       rest = r .rest;
@@ -154,7 +141,6 @@ module _ (vs : Values) (lw : Lawful vs) (l : Listing) (wf : WellFormed l) where
       long = omega (arith, r .long, ap length (root-bytes (r .whole)));
       most = λ is u e b. most-root is s u n r e b;
     };
-    at = omega arith;
   }
 
   -- a run that does not go on with the root's row
@@ -162,10 +148,9 @@ module _ (vs : Values) (lw : Lawful vs) (l : Listing) (wf : WellFormed l) where
   no-root s h [] u e t = refl
   no-root s h (i ∷ is) u e t = absurd (h (bytes vs l is ++ u) (e ∙ ap (λ (z : Item vs). bytes vs l (z ∷ is) ++ u) (t .0) ∙ ap (λ (z : List ℕ). z ++ u) (root-bytes is)))
 
-  pub refuses-root : (s : List ℕ) → ((t : List ℕ) → s ≡ 1 ∷ t → ⊥) → Refuses vs l s 5
-  refuses-root s h = record {
-    none = λ m a. let i = image-behind s m a in h (i .0) (i .1);
-    items = 0;
+  pub breaks-root : (s : List ℕ) → ((t : List ℕ) → s ≡ 1 ∷ t → ⊥) → Breaks vs l s 0
+  breaks-root s h = record {
+    none = λ m a. let i = body-behind s m a in h (i .0) (i .1);
     most = record {
       whole = [];
       rest = s;
@@ -174,7 +159,6 @@ module _ (vs : Values) (lw : Lawful vs) (l : Listing) (wf : WellFormed l) where
       long = refl;
       most = λ is u e b. omega (arith, ap length (no-root s h is u e (begins-trace vs lw l wf is b)));
     };
-    at = refl;
   }
 
   -- only one answer
@@ -198,10 +182,11 @@ module _ (vs : Values) (lw : Lawful vs) (l : Listing) (wf : WellFormed l) where
       oks : (is : List (Item vs)) → Begins vs l is → Oks vs lw l wf is
       oks is b = trace-oks is (begins-trace vs lw l wf is b)
 
-  pub accepts-one : (run : List ℕ) (m n : ℕ) → Accepts vs l run m → Accepts vs l run n → m ≡ n
-  accepts-one run m n a b =
-      let c = image-prefix vs lw l wf (a .content) (b .content) (a .rest) (b .rest) (a .meets) (b .meets) (sym (a .at) ∙ b .at) .0 in
-      a .long ∙ ap (λ (z : Content (vs .Value)). length (image vs l z)) c ∙ sym (b .long)
+  pub holds-content : (s : List ℕ) (m n : ℕ) (a : Holds vs l s m) (b : Holds vs l s n) → a .content ≡ b .content
+  holds-content s m n a b = body-prefix vs lw l wf (a .content) (b .content) (a .rest) (b .rest) (a .meets) (b .meets) (sym (a .at) ∙ b .at) .0
 
-  pub refuses-one : (s : List ℕ) (m n : ℕ) → Refuses vs l s m → Refuses vs l s n → m ≡ n
-  refuses-one s m n a b = let z = most-one s (a .items) (b .items) (a .most) (b .most) in omega (arith, a .at, b .at)
+  pub holds-one : (s : List ℕ) (m n : ℕ) → Holds vs l s m → Holds vs l s n → m ≡ n
+  holds-one s m n a b = a .long ∙ ap (λ (z : Content (vs .Value)). length (body vs l z)) (holds-content s m n a b) ∙ sym (b .long)
+
+  pub breaks-one : (s : List ℕ) (m n : ℕ) → Breaks vs l s m → Breaks vs l s n → m ≡ n
+  breaks-one s m n a b = most-one s m n (a .most) (b .most)

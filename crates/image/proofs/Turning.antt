@@ -12,37 +12,37 @@ use Rattle.answer.specs.Table.{accepted, brokenImage}
 use Rattle.image.specs.Step.{follows, ended}
 use Rattle.image.specs.Run.{stop, turn, Goes, halts, moves}
 
-module _ (t : List ℕ) (fin : ℕ → ℕ → ℕ) (s : List ℕ) where
+module _ (t : List ℕ) (fin : ℕ → ℕ → ℕ) (s : List ℕ) (from : ℕ) where
   -- the answer from here is the answer from the start
   pub record Here (q i : ℕ) : Type 0 where
-    pub on : (a : Answer) → Goes t fin s a q i → Goes t fin s a 1 6
+    pub on : (a : Answer) → Goes t fin s a q i → Goes t fin s a 1 from
 
-  pub begins : Here 1 6
+  pub begins : Here 1 from
   begins = record { on = λ a g. g }
 
   module _ (q i : ℕ) (h : Here q i) where
-    stops : (a : Answer) → turn t fin s q i ≡ stop a → Goes t fin s a 1 6
+    stops : (a : Answer) → turn t fin s q i ≡ stop a → Goes t fin s a 1 from
     stops a e = h .on a (halts e)
 
-    pub runs-out : (a : Answer) → a ≡ brokenImage i → length s ≤ i → Goes t fin s a 1 6
+    pub runs-out : (a : Answer) → a ≡ brokenImage i → length s ≤ i → Goes t fin s a 1 from
     unfolding turn
     runs-out a f g = stops a (rw (le-leb (length s) i g) (ap stop (sym f)))
 
     module _ (x : ℕ) (g : i < length s) (ex : x ≡ getD s i 0) where
-      pub closes : (a : Answer) (b : Bool) → a ≡ accepted (i + 1) → x ≡ 0 → b ≡ ended t q → b ≡ true → Goes t fin s a 1 6
+      pub closes : (a : Answer) (b : Bool) → a ≡ accepted (i + 1) → x ≡ 0 → b ≡ ended t q → b ≡ true → Goes t fin s a 1 from
       unfolding turn
       closes a b f z e o = stops a (rw (lt-leb (length s) i g, sym ex, eq-eqb x 0 z, sym e, o) (ap stop (sym f)))
 
-      pub too-soon : (a : Answer) (b : Bool) → a ≡ brokenImage i → x ≡ 0 → b ≡ ended t q → b ≡ false → Goes t fin s a 1 6
+      pub too-soon : (a : Answer) (b : Bool) → a ≡ brokenImage i → x ≡ 0 → b ≡ ended t q → b ≡ false → Goes t fin s a 1 from
       unfolding turn
       too-soon a b f z e o = stops a (rw (lt-leb (length s) i g, sym ex, eq-eqb x 0 z, sym e, o) (ap stop (sym f)))
 
       module _ (z : x ≢ 0) (b : Bool) (e : b ≡ follows t q x) where
-        pub strays : (a : Answer) → a ≡ brokenImage i → b ≡ false → Goes t fin s a 1 6
+        pub strays : (a : Answer) → a ≡ brokenImage i → b ≡ false → Goes t fin s a 1 from
         unfolding turn
         strays a f o = stops a (rw (lt-leb (length s) i g, sym ex, ne-eqb x 0 z, sym e, o) (ap stop (sym f)))
 
-        pub breaks : (a : Answer) (j : ℕ) → a ≡ brokenImage i → b ≡ true → j ≡ fin x (i + 1) → j ≡ 0 → Goes t fin s a 1 6
+        pub breaks : (a : Answer) (j : ℕ) → a ≡ brokenImage i → b ≡ true → j ≡ fin x (i + 1) → j ≡ 0 → Goes t fin s a 1 from
         unfolding turn
         breaks a j f o ej y = stops a (rw (lt-leb (length s) i g, sym ex, ne-eqb x 0 z, sym e, o, sym ej, eq-eqb j 0 y) (ap stop (sym f)))
 

@@ -25,9 +25,13 @@ pub record Lawful (vs : Values) : Type 0 where
   pub prefix : (k : Leaf) (v w : vs .Value) (a b : List ℕ) → LeafOk k → vs .Is k v → vs .Is k w → vs .bytes k v ++ a ≡ vs .bytes k w ++ b → (v ≡ w) × (a ≡ b)
   pub headed : (k : Leaf) (v : vs .Value) → vs .Is k v → vs .head k ≤ length (vs .bytes k v)
 
--- "`KTO`, version 1 in 16 bits"
-unfoldable pub header : List ℕ
-header = ascii "KTO" ++ bigEndian 2 1
+-- `KTO` and a version in 16 bits
+abbrev pub versioned : ℕ → List ℕ
+versioned n = ascii "KTO" ++ bigEndian 2 n
+
+-- how an image of a content of the list begins: "`KTO`, version 1 in 16 bits"
+unfoldable pub header : Listing → List ℕ
+header l = versioned 1
 
 module _ (vs : Values) where
   -- an element: its row and, of a leaf, its value
@@ -49,9 +53,13 @@ module _ (vs : Values) where
     bytes [] = []
     bytes (i ∷ is) = itemBytes i ++ bytes is
 
+    -- "one item per element in document order, one byte 0"
+    abbrev pub body : Content (vs .Value) → List ℕ
+    body c = bytes (items c) ++ (0 ∷ [])
+
     -- "Image: `KTO`, version 1 in 16 bits, one item per element in document order, one byte 0"
     unfoldable pub image : Content (vs .Value) → List ℕ
-    image c = header ++ (bytes (items c) ++ (0 ∷ []))
+    image c = header l ++ body c
 
     -- images laid end to end
     abbrev pub images : List (Content (vs .Value)) → List ℕ

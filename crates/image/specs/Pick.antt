@@ -21,8 +21,8 @@ module _ (vs : Values) where
 
   module _ (l : Listing) where
     -- "the n-th (from 0) leaf of a given row", the part of the image that holds its value, "the value bytes without row byte and length", and
-    -- where that part begins
-    pub record Picked (c : Content (vs .Value)) (r n place : ℕ) (part : List ℕ) : Type 0 where
+    -- where that part begins, when the items begin at `from`
+    pub record Picked (from : ℕ) (c : Content (vs .Value)) (r n place : ℕ) (part : List ℕ) : Type 0 where
       pub type : Leaf
       pub kind : rowAt l r .kind ≡ leaf type
       pub before : List (Item vs)
@@ -30,21 +30,27 @@ module _ (vs : Values) where
       pub behind : List (Item vs)
       pub at : items c ≡ before ++ ((r, some value) ∷ behind)
       pub nth : times r (rowsOf before) ≡ n
-      pub starts : place ≡ 5 + length (bytes vs l before) + 1 + vs .head type
+      pub starts : place ≡ from + length (bytes vs l before) + 1 + vs .head type
       pub holds : part ≡ drop (vs .head type) (vs .bytes type value)
 
     -- "if the row is no leaf or has no such item"
     abbrev pub Missing : Content (vs .Value) → ℕ → ℕ → Type 0
     Missing c r n = (isGroup (rowAt l r .kind) ≡ true) ⊎ (times r (rowsOf (items c)) ≤ n)
 
+    -- what is answered and handed back for a content whose items begin at `from`
+    pub data Selects (from : ℕ) (c : Content (vs .Value)) (r n : ℕ) (a : Answer) (part : List ℕ) : Type 0 where
+      none-such : Missing c r n → a ≡ noSuchLeaf → part ≡ [] → Selects from c r n a part
+      one-such : (place : ℕ) → Picked from c r n place part → a ≡ picked r place → Selects from c r n a part
+
+  module _ (ls : List Listing) where
     -- "A second call picks a value": the answer and the part
     pub data Picks (run : List ℕ) (r n : ℕ) (a : Answer) (part : List ℕ) : Type 0 where
       -- "after 1 and 15 to 17"; "every refusal hands back an empty part"
-      refused : Reads vs l run a → a .code ≢ 0 → part ≡ [] → Picks run r n a part
+      refused : Reads vs ls run a → a .code ≢ 0 → part ≡ [] → Picks run r n a part
       -- "code 18 .. if the row is no leaf or has no such item, row 0 and place 0"
-      missing : length run ≤ limit → (k : ℕ) (w : Accepts vs l run k) → Missing (w .content) r n → a ≡ noSuchLeaf → part ≡ [] → Picks run r n a part
+      missing : length run ≤ limit → (k : ℕ) (w : Accepts vs ls run k) → Missing (w .list) (w .holds .content) r n → a ≡ noSuchLeaf → part ≡ [] → Picks run r n a part
       -- "Acceptance is code 0, the asked row, and the place where the part begins"
-      found : length run ≤ limit → (k : ℕ) (w : Accepts vs l run k) → (place : ℕ) → Picked (w .content) r n place part → a ≡ picked r place → Picks run r n a part
+      found : length run ≤ limit → (k : ℕ) (w : Accepts vs ls run k) → (place : ℕ) → Picked (w .list) (length (w .head)) (w .holds .content) r n place part → a ≡ picked r place → Picks run r n a part
 
     -- the same, of the call that gives the answer: there is a part to it
     pub record Answers (run : List ℕ) (r n : ℕ) (a : Answer) : Type 0 where

@@ -1,7 +1,7 @@
 -- What a reader of images answers: the first image's length, or where it breaks. Assumes nothing.
 use mathlib.Core.Path.{_≡_}
 use mathlib.Core.Logic.{_≢_, _⊎_}
-use mathlib.Core.List.{List, _++_}
+use mathlib.Core.List.{List, [], _∷_, _++_}
 use Prim.Native.Nat.{ℕ, _+_, _≤_, _<_}
 use lib.ListN.{length, take}
 use Rattle.answer.specs.declared.Answer.{Answer}
@@ -9,16 +9,18 @@ use Rattle.answer.specs.Table.{accepted, limit, tooLong, noHeader, wrongVersion
 use Rattle.text.specs.Bytes.{ascii}
 use Rattle.list.specs.Listing.{Listing}
 use Rattle.list.specs.Content.{Content, items, Meets}
-use Rattle.image.specs.Image.{Values, Item, header, bytes, image}
+use Rattle.image.specs.Image.{Values, Item, versioned, header, bytes, body}
+
+-- ---- behind the header: items and the closing 0
 
 module _ (vs : Values) (l : Listing) where
-  -- the run begins with the image, n bytes long, of a content that meets the list
-  pub record Accepts (run : List ℕ) (n : ℕ) : Type 0 where
+  -- s begins with the body, n bytes long, of a content that meets the list
+  pub record Holds (s : List ℕ) (n : ℕ) : Type 0 where
     pub content : Content (vs .Value)
     pub meets : Meets (vs .Is) l content
     pub rest : List ℕ
-    pub at : run ≡ image vs l content ++ rest
-    pub long : n ≡ length (image vs l content)
+    pub at : s ≡ body vs l content ++ rest
+    pub long : n ≡ length (body vs l content)
 
   -- some content that meets the list begins with these items
   pub record Begins (is : List (Item vs)) : Type 0 where
@@ -36,12 +38,43 @@ module _ (vs : Values) (l : Listing) where
     pub long : n ≡ length (bytes vs l whole)
     pub most : (is : List (Item vs)) (u : List ℕ) → s ≡ bytes vs l is ++ u → Begins is → length is ≤ length whole
 
-  -- "no image of a rule-meeting content begins here, place 5 plus the bytes of the most whole items that begin some image"
-  pub record Refuses (s : List ℕ) (place : ℕ) : Type 0 where
-    pub none : (n : ℕ) → Accepts (header ++ s) n → ⊥
-    pub items : ℕ
-    pub most : Most s items
-    pub at : place ≡ 5 + items
+  -- s begins with no such body, and n bytes of it are the most whole items
+  pub record Breaks (s : List ℕ) (n : ℕ) : Type 0 where
+    pub none : (m : ℕ) → Holds s m → ⊥
+    pub most : Most s n
+
+  -- what is answered for a body, s, that stands at a place
+  pub data Tells (s : List ℕ) (from : ℕ) (a : Answer) : Type 0 where
+    held : (n : ℕ) → Holds s n → a ≡ accepted (from + n) → Tells s from a
+    broke : (n : ℕ) → Breaks s n → a ≡ brokenImage (from + n) → Tells s from a
+
+-- ---- the header, of one of several lists
+
+-- an image of a content of the list begins with h
+pub data Front (l : Listing) (h : List ℕ) : Type 0 where
+  now : h ≡ header l → Front l h
+
+-- l is one of the lists
+abbrev pub Among : Listing → List Listing → Type 0
+Among l [] = ⊥
+Among l (m ∷ ms) = (l ≡ m) ⊎ Among l ms
+
+-- what one run begins with is of one list, and ends at one place
+pub record Apart (ls : List Listing) : Type 0 where
+  pub one : (l m : Listing) → Among l ls → Among m ls → (h g u v : List ℕ) → Front l h → Front m g → h ++ u ≡ g ++ v → (l ≡ m) × (h ≡ g) × (u ≡ v)
+
+module _ (vs : Values) (ls : List Listing) where
+  -- the run begins with the image, n bytes long, of a content that meets one of the lists
+  pub record Accepts (run : List ℕ) (n : ℕ) : Type 0 where
+    pub list : Listing
+    pub among : Among list ls
+    pub head : List ℕ
+    pub front : Front list head
+    pub behind : List ℕ
+    pub at : run ≡ head ++ behind
+    pub size : ℕ
+    pub holds : Holds vs list behind size
+    pub long : n ≡ length head + size
 
   -- "Reader, over a run of bytes": what it answers; "Row 0"
   pub data Reads (run : List ℕ) (a : Answer) : Type 0 where
@@ -50,8 +83,8 @@ module _ (vs : Values) (l : Listing) where
     -- "15 fewer than five bytes or no `KTO`, place 0"
     foreign : length run ≤ limit → (length run < 5) ⊎ (take 3 run ≢ ascii "KTO") → a ≡ noHeader → Reads run a
     -- "16 version not 1, place 3"
-    version : length run ≤ limit → 5 ≤ length run → take 3 run ≡ ascii "KTO" → take 5 run ≢ header → a ≡ wrongVersion → Reads run a
+    version : length run ≤ limit → 5 ≤ length run → take 3 run ≡ ascii "KTO" → take 5 run ≢ versioned 1 → a ≡ wrongVersion → Reads run a
     -- "17 no image of a rule-meeting content begins here, place 5 plus the bytes of the most whole items that begin some image"
-    broken : length run ≤ limit → (s : List ℕ) → run ≡ header ++ s → (place : ℕ) → Refuses s place → a ≡ brokenImage place → Reads run a
+    broken : length run ≤ limit → (l : Listing) → Among l ls → (h : List ℕ) → Front l h → (s : List ℕ) → run ≡ h ++ s → (n : ℕ) → Breaks vs l s n → a ≡ brokenImage (length h + n) → Reads run a
     -- "it gives the length of the first image"
     whole : length run ≤ limit → (n : ℕ) → Accepts run n → a ≡ accepted n → Reads run a

@@ -1,17 +1,15 @@
 -- A mirror: how the reader and the picker go over a run, whatever the tables say. Assumes nothing.
 use mathlib.Core.Path.{_≡_}
 use mathlib.Core.Logic.{_≢_, _⊎_}
-use mathlib.Core.Bool.{Bool, true, false, cond}
+use mathlib.Core.Bool.{true, false, cond}
 use mathlib.Core.List.{List, []}
 use Prim.Native.Nat.{ℕ, _+_, _-_, _≤_, _<_}
 use lib.Dec.{leb, eqb}
-use lib.ListN.{length, getD, take}
+use lib.ListN.{length, getD}
 use lib.Seq.{slice}
 use Rattle.answer.specs.declared.Answer.{Answer}
-use Rattle.answer.specs.Table.{limit, accepted, picked, tooLong, noHeader, wrongVersion, brokenImage, noSuchLeaf}
-use Rattle.text.specs.Bytes.{ascii}
+use Rattle.answer.specs.Table.{accepted, picked, brokenImage, noSuchLeaf}
 use Rattle.list.specs.Table.{cell}
-use Rattle.image.specs.Image.{header}
 use Rattle.image.specs.Step.{isLeaf, follows, ended}
 
 -- a result, or on to other numbers
@@ -42,13 +40,10 @@ module _ (t : List ℕ) (fin : ℕ → ℕ → ℕ) (s : List ℕ) where
   abbrev pub Goes : Answer → ℕ → ℕ → Type 0
   Goes a q i = Comes turn a q i
 
-  -- the header, the root's row byte, and on from there
-  pub data Runs (a : Answer) : Type 0 where
-    over : limit < length s → a ≡ tooLong → Runs a
-    foreign : length s ≤ limit → (length s < 5) ⊎ (take 3 s ≢ ascii "KTO") → a ≡ noHeader → Runs a
-    version : length s ≤ limit → 5 ≤ length s → take 3 s ≡ ascii "KTO" → take 5 s ≢ header → a ≡ wrongVersion → Runs a
-    rootless : length s ≤ limit → 5 ≤ length s → take 5 s ≡ header → (length s ≤ 5) ⊎ (getD s 5 0 ≢ 1) → a ≡ brokenImage 5 → Runs a
-    rooted : length s ≤ limit → take 5 s ≡ header → 5 < length s → getD s 5 0 ≡ 1 → Goes a 1 6 → Runs a
+  -- from a place on: the root's row byte, and on from there
+  pub data Behind (from : ℕ) (a : Answer) : Type 0 where
+    rootless : (length s ≤ from) ⊎ (getD s from 0 ≢ 1) → a ≡ brokenImage from → Behind from a
+    rooted : from < length s → getD s from 0 ≡ 1 → Goes a 1 (from + 1) → Behind from a
 
   -- for a leaf of row r: at i, when n such leaves are to be passed; the place of the value, 0 where there is none
   unfoldable pub hunt : ℕ → ℕ → ℕ → Turn ℕ
@@ -59,33 +54,20 @@ module _ (t : List ℕ) (fin : ℕ → ℕ → ℕ) (s : List ℕ) where
       (cond (eqb (getD s i 0) r) (cond (eqb n 0) (stop (i + 1)) (next (n - 1) (fin (getD s i 0) (i + 1)))) (next n (fin (getD s i 0) (i + 1))))))
 
   -- from the root's row byte on
-  pub data Finds (r n p : ℕ) : Type 0 where
-    groups : isLeaf t r ≡ false → p ≡ 0 → Finds r n p
-    leaves : isLeaf t r ≡ true → Comes (hunt r) p n 5 → Finds r n p
+  pub data Finds (from r n p : ℕ) : Type 0 where
+    groups : isLeaf t r ≡ false → p ≡ 0 → Finds from r n p
+    leaves : isLeaf t r ≡ true → Comes (hunt r) p n from → Finds from r n p
 
   -- the picker's answer and its part
-  pub data Chooses (r n : ℕ) (a : Answer) (part : List ℕ) : Type 0 where
-    refused : Runs a → a .code ≢ 0 → part ≡ [] → Chooses r n a part
-    missing : (b : Answer) → Runs b → b .code ≡ 0 → Finds r n 0 → a ≡ noSuchLeaf → part ≡ [] → Chooses r n a part
-    found : (b : Answer) → Runs b → b .code ≡ 0 → (p : ℕ) → 0 < p → Finds r n p → a ≡ picked r (p + headOf t r) → part ≡ slice (p + headOf t r) (fin r p) s → Chooses r n a part
-
--- the header's tests: five bytes or more, of which the first three are `KTO`; and version 1 behind them
-abbrev pub Kto : List ℕ → Type 0
-Kto s = (5 ≤ length s) × (take 3 s ≡ ascii "KTO")
-
-pub record Named (s : List ℕ) (b : Bool) : Type 0 where
-  pub yes′ : b ≡ true → Kto s
-  pub no′ : b ≡ false → (length s < 5) ⊎ (take 3 s ≢ ascii "KTO")
-
-pub record First (s : List ℕ) (b : Bool) : Type 0 where
-  pub yes′ : b ≡ true → take 5 s ≡ header
-  pub no′ : b ≡ false → take 5 s ≢ header
+  pub data Chooses (from r n : ℕ) (a : Answer) (part : List ℕ) : Type 0 where
+    missing : Finds from r n 0 → a ≡ noSuchLeaf → part ≡ [] → Chooses from r n a part
+    found : (p : ℕ) → 0 < p → Finds from r n p → a ≡ picked r (p + headOf t r) → part ≡ slice (p + headOf t r) (fin r p) s → Chooses from r n a part
 
 -- what the two calls of the picker say: there is a part to the answer, an answer to the part
-pub record Answered (t : List ℕ) (fin : ℕ → ℕ → ℕ) (s : List ℕ) (r n : ℕ) (a : Answer) : Type 0 where
+pub record Answered (t : List ℕ) (fin : ℕ → ℕ → ℕ) (s : List ℕ) (from r n : ℕ) (a : Answer) : Type 0 where
   pub part : List ℕ
-  pub chooses : Chooses t fin s r n a part
+  pub chooses : Chooses t fin s from r n a part
 
-pub record Handed (t : List ℕ) (fin : ℕ → ℕ → ℕ) (s : List ℕ) (r n : ℕ) (part : List ℕ) : Type 0 where
+pub record Handed (t : List ℕ) (fin : ℕ → ℕ → ℕ) (s : List ℕ) (from r n : ℕ) (part : List ℕ) : Type 0 where
   pub answer : Answer
-  pub chooses : Chooses t fin s r n answer part
+  pub chooses : Chooses t fin s from r n answer part

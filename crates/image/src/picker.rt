@@ -1,7 +1,6 @@
-// The picker: the n-th leaf of a row in the image that a run begins with.
+// The picker: the n-th leaf of a row in an image whose items begin at a place of a run.
 use crate::order::is_leaf;
 use crate::reader::item_end;
-use crate::reader::read;
 use crate::reader::wide;
 use answer::Answer;
 use list::lookup::cell;
@@ -22,21 +21,21 @@ fn head(rows: &[u16], r: usize) -> usize
 }
 
 // Where the value of the n-th leaf of `row` stands, behind its row byte; 0 where there is none.
-fn find(rows: &[u16], run: &[u8], row: usize, n: usize) -> usize
-    ensures { λ p. ⌜ Finds (now (rows .entry)) (itemEnd (now (rows .entry)) (now (run .entry))) (now (run .entry)) row n p ⌝ }
+fn find(rows: &[u16], run: &[u8], from: usize, row: usize, n: usize) -> usize
+    ensures { λ p. ⌜ Finds (now (rows .entry)) (itemEnd (now (rows .entry)) (now (run .entry))) (now (run .entry)) from row n p ⌝ }
 {
     if is_leaf(rows, row) {
-        return find_leaf(rows, run, row, n);
+        return find_leaf(rows, run, from, row, n);
     }
     0
 }
 
 // The same for a row of a leaf.
-fn find_leaf(rows: &[u16], run: &[u8], row: usize, n: usize) -> usize
-    ensures { λ p. ⌜ Comes (hunt (now (rows .entry)) (itemEnd (now (rows .entry)) (now (run .entry))) (now (run .entry)) row) p n 5 ⌝ }
+fn find_leaf(rows: &[u16], run: &[u8], from: usize, row: usize, n: usize) -> usize
+    ensures { λ p. ⌜ Comes (hunt (now (rows .entry)) (itemEnd (now (rows .entry)) (now (run .entry))) (now (run .entry)) row) p n from ⌝ }
 {
     let mut left = n;
-    let mut i = 5;
+    let mut i = from;
     while i < run.len() {
         let at = i;
         let x = wide(run[at]);
@@ -58,29 +57,21 @@ fn find_leaf(rows: &[u16], run: &[u8], row: usize, n: usize) -> usize
 }
 
 // The answer for the n-th leaf, from 0, of `row`: its row, and where its part begins.
-pub fn pick(rows: &[u16], run: &[u8], row: usize, n: usize) -> Answer
-    ensures { λ a. ⌜ Answered (now (rows .entry)) (itemEnd (now (rows .entry)) (now (run .entry))) (now (run .entry)) row n a ⌝ }
+pub fn pick_from(rows: &[u16], run: &[u8], from: usize, row: usize, n: usize) -> Answer
+    ensures { λ a. ⌜ Answered (now (rows .entry)) (itemEnd (now (rows .entry)) (now (run .entry))) (now (run .entry)) from row n a ⌝ }
 {
-    let whole = read(rows, run);
-    if whole.code != Answer::ACCEPTED {
-        return whole;
-    }
-    let at = find(rows, run, row, n);
+    let at = find(rows, run, from, row, n);
     if at == 0 {
         return Answer::no_such_leaf();
     }
     Answer::picked(row, at + head(rows, row))
 }
 
-// Its part of the run: the value's bytes without row byte and length, empty where `pick` refuses.
-pub fn picked<'a>(rows: &[u16], run: &'a [u8], row: usize, n: usize) -> &'a [u8]
-    ensures { λ s. ⌜ Handed (now (rows .entry)) (itemEnd (now (rows .entry)) (now (run .entry))) (now (run .entry)) row n (now s) ⌝ }
+// Its part of the run: the value's bytes without row byte and length, empty where `pick_from` refuses.
+pub fn picked_from<'a>(rows: &[u16], run: &'a [u8], from: usize, row: usize, n: usize) -> &'a [u8]
+    ensures { λ s. ⌜ Handed (now (rows .entry)) (itemEnd (now (rows .entry)) (now (run .entry))) (now (run .entry)) from row n (now s) ⌝ }
 {
-    let whole = read(rows, run);
-    if whole.code != Answer::ACCEPTED {
-        return &run[0..0];
-    }
-    let value = find(rows, run, row, n);
+    let value = find(rows, run, from, row, n);
     if value == 0 {
         return &run[0..0];
     }

@@ -1,4 +1,4 @@
-// The reader: the image that a run begins with, item by item. No item is read twice, and the row of the last one is all that is kept.
+// The reader: the items of an image from a place of a run on, one by one. No item is read twice, and the row of the last one is all that is kept.
 use crate::order::ended;
 use crate::order::follows;
 use crate::order::is_leaf;
@@ -14,7 +14,7 @@ ghost use Prim.Native.Nat.{_+_, _≤_, _<_};
 ghost use lib.ListN.{length};
 ghost use Rattle.image.specs.Ends.{itemEnd};
 ghost use Rattle.image.specs.Laid.{Laid};
-ghost use Rattle.image.specs.Run.{Kto, Named, First, Goes, Runs};
+ghost use Rattle.image.specs.Run.{Goes, Behind};
 
 pub(crate) fn wide(x: u8) -> usize
     ensures { λ r. ⌜ r ≡ x ⌝ }
@@ -38,33 +38,6 @@ pub(crate) fn item_end(rows: &[u16], run: &[u8], x: usize, at: usize) -> usize
     at
 }
 
-// Five bytes or more, the first three `KTO`.
-fn named(run: &[u8]) -> bool
-    ensures { λ b. ⌜ Named (now (run .entry)) b ⌝ }
-{
-    if run.len() < 5 {
-        return false;
-    }
-    if run[0] != 75 {
-        return false;
-    }
-    if run[1] != 84 {
-        return false;
-    }
-    run[2] == 79
-}
-
-// Version 1 behind the name.
-fn first_version(run: &[u8]) -> bool
-    requires { ⌜ Kto (now run) ⌝ }
-    ensures { λ b. ⌜ First (now (run .entry)) b ⌝ }
-{
-    if run[3] != 0 {
-        return false;
-    }
-    run[4] == 1
-}
-
 // A table's beginning over another's.
 fn lay(rows: &[u16], table: &mut [u16; 4096])
     requires { ⌜ length (now table) ≡ 4096 ⌝ }
@@ -79,11 +52,11 @@ fn lay(rows: &[u16], table: &mut [u16; 4096])
 }
 
 // From behind the root's row byte on. Most items are groups, so that only a leaf's costs a call.
-fn items(rows: &[u16], run: &[u8]) -> Answer
-    ensures { λ a. ⌜ Goes (now (rows .entry)) (itemEnd (now (rows .entry)) (now (run .entry))) (now (run .entry)) a 1 6 ⌝ }
+fn items(rows: &[u16], run: &[u8], from: usize) -> Answer
+    ensures { λ a. ⌜ Goes (now (rows .entry)) (itemEnd (now (rows .entry)) (now (run .entry))) (now (run .entry)) a 1 from ⌝ }
 {
     let mut q = 1;
-    let mut i = 6;
+    let mut i = from;
     while i < run.len() {
         let at = i;
         let x = wide(run[at]);
@@ -116,27 +89,18 @@ fn items(rows: &[u16], run: &[u8]) -> Answer
     Answer::broken_image(i)
 }
 
-// The answer for a run: the length of the image that it begins with, or why it begins with none. The items are read over a table of 256
-// rows, zeros behind the last: the compiler knows its length, so that no lookup in it asks for its end.
-pub fn read(rows: &[u16], run: &[u8]) -> Answer
-    ensures { λ a. ⌜ Runs (now (rows .entry)) (itemEnd (now (rows .entry)) (now (run .entry))) (now (run .entry)) a ⌝ }
+// The answer for the items from a place of a run on: where they end, or where they break. They are read over a table of 256 rows, zeros
+// behind the last: the compiler knows its length, so that no lookup in it asks for its end.
+pub fn body(rows: &[u16], run: &[u8], from: usize) -> Answer
+    ensures { λ a. ⌜ Behind (now (rows .entry)) (itemEnd (now (rows .entry)) (now (run .entry))) (now (run .entry)) from a ⌝ }
 {
-    if Answer::LIMIT < run.len() {
-        return Answer::too_long();
+    if run.len() <= from {
+        return Answer::broken_image(from);
     }
-    if !named(run) {
-        return Answer::no_header();
-    }
-    if !first_version(run) {
-        return Answer::wrong_version();
-    }
-    if run.len() == 5 {
-        return Answer::broken_image(5);
-    }
-    if run[5] != 1 {
-        return Answer::broken_image(5);
+    if run[from] != 1 {
+        return Answer::broken_image(from);
     }
     let mut table = [0u16; 4096];
     lay(rows, &mut table);
-    items(&table, run)
+    items(&table, run, from + 1)
 }

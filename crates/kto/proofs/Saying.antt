@@ -11,9 +11,7 @@ use Rattle.text.proofs.Pasting.{length-pasted}
 use Rattle.answer.specs.declared.Answer.{Answer}
 use Rattle.line.specs.Line.{refusal}
 use Rattle.line.proofs.Lines.{taken-out, counts}
-use Rattle.house.specs.House.{house}
-use Rattle.image.specs.Kinds.{values}
-use Rattle.image.specs.Place.{Reads}
+use Rattle.reading.specs.Reads.{HouseReads}
 use Rattle.demands.specs.Checks.{Checks}
 use Rattle.unit.proofs.Programs.{place-fits, reads-back, rooms-alike}
 use Rattle.kto.specs.Says.{most, Says, longer, refused, written}
@@ -29,10 +27,10 @@ line-counts a d d′ r h f = counts r d′ (omega (arith, ap length f, length-pa
 
 module _ (input d : List ℕ) where
   -- the reader gives the answer that check gave
-  pub read-again : length input ≤ most → (a : Answer) (d′ : List ℕ) → Checks input d a d′ → a .code ≡ 0 → (b : Answer) → Reads values house (take (a .place) d′) b → Answered input d b d′
+  pub read-again : length input ≤ most → (a : Answer) (d′ : List ℕ) → Checks input d a d′ → a .code ≡ 0 → (b : Answer) → HouseReads (take (a .place) d′) b → Answered input d b d′
   read-again h a d′ p z b q =
       let e : b ≡ a = reads-back input d a d′ p z b q in
-      subst (λ (x : Answer). Answered input d x d′) (sym e) (within h p (λ _. subst (λ (x : Answer). Reads values house (take (a .place) d′) x) e q))
+      subst (λ (x : Answer). Answered input d x d′) (sym e) (within h p (λ _. subst (λ (x : Answer). HouseReads (take (a .place) d′) x) e q))
 
   module _ (n : length d ≡ most) (a : Answer) (d′ : List ℕ) where
     -- longer input, or a refusal

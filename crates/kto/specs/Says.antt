@@ -7,9 +7,7 @@ use lib.ListN.{length, take}
 use Rattle.answer.specs.declared.Answer.{Answer}
 use Rattle.answer.specs.Table.{answer}
 use Rattle.line.specs.Line.{refusal}
-use Rattle.house.specs.House.{house}
-use Rattle.image.specs.Kinds.{values}
-use Rattle.image.specs.Place.{Reads}
+use Rattle.reading.specs.Reads.{HouseReads}
 use Rattle.demands.specs.Checks.{Checks}
 
 -- "The program reads at most 65,536 bytes"
@@ -22,4 +20,4 @@ pub data Says (input said : List ℕ) : Type 0 where
   longer : most < length input → said ≡ refusal (answer 1 0 most) → Says input said
   refused : length input ≤ most → (a : Answer) (d d′ : List ℕ) → length d ≡ most → Checks input d a d′ → a .code ≢ 0 → said ≡ refusal a → Says input said
   -- the image, which the reader takes for one of the same length
-  written : length input ≤ most → (a : Answer) (d d′ : List ℕ) → length d ≡ most → Checks input d a d′ → a .code ≡ 0 → said ≡ take (a .place) d′ → Reads values house said a → Says input said
+  written : length input ≤ most → (a : Answer) (d d′ : List ℕ) → length d ≡ most → Checks input d a d′ → a .code ≡ 0 → said ≡ take (a .place) d′ → HouseReads said a → Says input said

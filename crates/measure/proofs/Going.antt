@@ -152,7 +152,7 @@ module _ (k : Kinds) (t pool s : List ℕ) (sd : Sound t pool) where
         | starts v ↦ v
       ]
 
-    head-length : length (header ++ (1 ∷ [])) ≡ 6
+    head-length : length (header l ++ (1 ∷ [])) ≡ 6
     unfolding header bigEndian
     head-length = refl
 
@@ -173,7 +173,7 @@ module _ (k : Kinds) (t pool s : List ℕ) (sd : Sound t pool) where
         -- no step adds more than this, and each goes on
         pub most : at ≤ 6 + 65538 * here .at
 
-      pub goes-first : (d₀ : List ℕ) (turn : Turn) → Starts T t pool s sd (x .tree) turn → (st : List ℕ) → length st ≡ 80 → Puts d₀ 0 (header ++ (1 ∷ [])) a₁ d₁ → Going d₁ st (turn .here) a₁
+      pub goes-first : (d₀ : List ℕ) (turn : Turn) → Starts T t pool s sd (x .tree) turn → (st : List ℕ) → length st ≡ 80 → Puts d₀ 0 (header l ++ (1 ∷ [])) a₁ d₁ → Going d₁ st (turn .here) a₁
       goes-first d₀ turn w st h p = record {
         below = [];
         ats = [];
@@ -347,7 +347,7 @@ module _ (k : Kinds) (t pool s : List ℕ) (sd : Sound t pool) where
                 (λ f e. bad-leaf d₀ n f e (spelt f) refl)
 
         -- the end of the root
-        pub ends-in : Spelling T → (d₀ : List ℕ) → Puts d₀ 0 (header ++ (1 ∷ [])) a₁ d₁ → (st′ : List ℕ) (turn : Turn) → Ends T t pool s sd here (g .below) (g .ats) (g .rest) st′ turn → (d′ : List ℕ) → d′ ≡ pasted d at (0 ∷ [])
+        pub ends-in : Spelling T → (d₀ : List ℕ) → Puts d₀ 0 (header l ++ (1 ∷ [])) a₁ d₁ → (st′ : List ℕ) (turn : Turn) → Ends T t pool s sd here (g .below) (g .ats) (g .rest) st′ turn → (d′ : List ℕ) → d′ ≡ pasted d at (0 ∷ [])
             → Goal d₀ (verdict 0 0 (at + 1)) d′
         unfolding image
         ends-in y d₀ p st′ turn w d′ e = holds none c has (ap (λ n. verdict 0 0 n) length-is) (λ h. image-put .is (omega (arith, h)))
@@ -370,15 +370,15 @@ module _ (k : Kinds) (t pool s : List ℕ) (sd : Sound t pool) where
             root-bytes : itemsOf ((1, Option.none) ∷ g .done) ≡ 1 ∷ itemsOf (g .done)
             root-bytes = items-append ((1, Option.none) ∷ []) (g .done) ∙ ap (λ (z : List ℕ). z ++ itemsOf (g .done)) (group-item 1 (ap isGroup (sd .well .root .1)))
 
-            image-bytes : header ++ (1 ∷ []) ++ itemsOf (g .done) ++ (0 ∷ []) ≡ imageOf k l c
+            image-bytes : header l ++ (1 ∷ []) ++ itemsOf (g .done) ++ (0 ∷ []) ≡ imageOf k l c
             image-bytes =
-                append-assoc (header ++ (1 ∷ [])) (itemsOf (g .done)) (0 ∷ []) ∙ append-assoc header (1 ∷ []) (itemsOf (g .done) ++ (0 ∷ []))
-                ∙ ap (λ (z : List ℕ). header ++ (z ++ (0 ∷ []))) (sym root-bytes ∙ ap itemsOf all-done)
+                append-assoc (header l ++ (1 ∷ [])) (itemsOf (g .done)) (0 ∷ []) ∙ append-assoc (header l) (1 ∷ []) (itemsOf (g .done) ++ (0 ∷ []))
+                ∙ ap (λ (z : List ℕ). header l ++ (z ++ (0 ∷ []))) (sym root-bytes ∙ ap itemsOf all-done)
 
             image-put : Puts d₀ 0 (imageOf k l c) (at + 1) d′
-            image-put = puts-as d₀ 0 (header ++ (1 ∷ []) ++ itemsOf (g .done) ++ (0 ∷ [])) (imageOf k l c) (at + 1) d′ image-bytes
-                (puts-then d₀ 0 (header ++ (1 ∷ []) ++ itemsOf (g .done)) at d (0 ∷ []) (at + 1) d′
-                (puts-then d₀ 0 (header ++ (1 ∷ [])) a₁ d₁ (itemsOf (g .done)) at d p (g .put)) (puts-pasted d at (0 ∷ []) 1 d′ refl e))
+            image-put = puts-as d₀ 0 (header l ++ (1 ∷ []) ++ itemsOf (g .done) ++ (0 ∷ [])) (imageOf k l c) (at + 1) d′ image-bytes
+                (puts-then d₀ 0 (header l ++ (1 ∷ []) ++ itemsOf (g .done)) at d (0 ∷ []) (at + 1) d′
+                (puts-then d₀ 0 (header l ++ (1 ∷ [])) a₁ d₁ (itemsOf (g .done)) at d p (g .put)) (puts-pasted d at (0 ∷ []) 1 d′ refl e))
 
             length-is : at + 1 ≡ length (imageOf k l c)
             length-is = image-put .behind ∙ plainly (length (imageOf k l c))

@@ -44,7 +44,7 @@ module _ (t pool s : List ℕ) where
       pub begins-closed : (d₀ d : List ℕ) → turn .met ≡ Closed → Says d₀ (turn .verdict) d
       begins-closed d₀ d m x = absurd (begin-closed houseKinds t pool s (pre .sound) x turn (begun houseKinds t pool s (pre .sound) x turn e) m)
 
-      pub begins : turn .met ≡ Opened → (st : List ℕ) → length st ≡ 80 → (d₀ d₁ : List ℕ) (a₁ : ℕ) → Puts d₀ 0 (header ++ (1 ∷ [])) a₁ d₁ → GoingOn d₁ a₁ d₁ st (turn .here) a₁
+      pub begins : turn .met ≡ Opened → (st : List ℕ) → length st ≡ 80 → (d₀ d₁ : List ℕ) (a₁ : ℕ) → Puts d₀ 0 (header (listOf t pool) ++ (1 ∷ [])) a₁ d₁ → GoingOn d₁ a₁ d₁ st (turn .here) a₁
       begins m st h d₀ d₁ a₁ p sd x =
           goes-first houseKinds t pool s sd x d₁ a₁ d₀ turn (begin-opened houseKinds t pool s sd x turn (begun houseKinds t pool s sd x turn e) m) st h p
 
@@ -73,7 +73,7 @@ module _ (t pool s : List ℕ) where
               (step-enters houseKinds t pool s sd x d₁ a₁ d st here at (g sd x) coins turn st′ e f m) r d′ o
 
         module _ (m : turn .met ≡ Closed) where
-          pub root-end : here .depth ≡ 0 → (d₀ : List ℕ) → Puts d₀ 0 (header ++ (1 ∷ [])) a₁ d₁ → (d′ : List ℕ) → d′ ≡ pasted d at (0 ∷ [])
+          pub root-end : here .depth ≡ 0 → (d₀ : List ℕ) → Puts d₀ 0 (header (listOf t pool) ++ (1 ∷ [])) a₁ d₁ → (d′ : List ℕ) → d′ ≡ pasted d at (0 ∷ [])
               → (v : Verdict) → v ≡ verdict 0 0 (at + 1) → Says d₀ v d′
           root-end z d₀ p d′ i v q x =
               subst (λ (u : Verdict). Passes houseKinds (listOf t pool) (messageOf (x .tree)) d₀ u d′) (sym q)

@@ -6,6 +6,7 @@ use native.Mathlib.Omega.{arith}
 use lib.ListN.{length, length-append}
 use Rattle.text.specs.Pasting.{pasted}
 use Rattle.text.specs.Numbers.{bigEndian}
+use Rattle.list.specs.Listing.{Listing}
 use Rattle.image.specs.Image.{header}
 use Rattle.text.proofs.Pasting.{pasted-none, pasted-then, length-pasted}
 use Rattle.measure.specs.Pass.{Puts}
@@ -44,10 +45,10 @@ empty-of (x ∷ d) e = absurd (omega arith)
 pub pasted-nowhere : (at : ℕ) (bs : List ℕ) → [] ≡ pasted [] at bs
 pasted-nowhere at bs = empty-of (pasted [] at bs) (length-pasted [] at bs)
 
-head-long : 6 ≡ length (header ++ (1 ∷ []))
+head-long : (l : Listing) → 6 ≡ length (header l ++ (1 ∷ []))
 unfolding header bigEndian
-head-long = refl
+head-long l = refl
 
 -- the header and the root's row byte
-pub head-nowhere : Puts [] 0 (header ++ (1 ∷ [])) 6 []
-head-nowhere = record { behind = omega (arith, head-long); long = refl; is = λ h. pasted-nowhere 0 (header ++ (1 ∷ [])) }
+pub head-nowhere : (l : Listing) → Puts [] 0 (header l ++ (1 ∷ [])) 6 []
+head-nowhere l = record { behind = omega (arith, head-long l); long = refl; is = λ h. pasted-nowhere 0 (header l ++ (1 ∷ [])) }

@@ -10,8 +10,7 @@ use lib.ListN.{length, take, drop, length-take}
 use borrow.Author.Tests.{le-leb, eq-eqb, ne-eqb, eqb-true}
 use Rattle.answer.specs.declared.Answer.{Answer}
 use Rattle.answer.specs.Table.{limit}
-use Rattle.house.specs.House.{house}
-use Rattle.image.proofs.House.{house-reads-one, house-picks-one}
+use Rattle.reading.proofs.House.{house-reads-one, house-picks-one}
 use Rattle.demands.specs.Checks.{Checks}
 use Rattle.unit.proofs.Programs.{rooms-alike}
 use Rattle.feed.specs.declared.case.Case.{Case}

@@ -6,10 +6,7 @@ use Prim.Native.Nat.{ℕ}
 use lib.Dec.{eqb}
 use lib.ListN.{length, take}
 use Rattle.answer.specs.declared.Answer.{Answer}
-use Rattle.house.specs.House.{house}
-use Rattle.image.specs.Kinds.{values}
-use Rattle.image.specs.Place.{Reads}
-use Rattle.image.specs.Pick.{Picks}
+use Rattle.reading.specs.Reads.{HouseReads, HousePicks}
 use Rattle.demands.specs.Checks.{Checks}
 use Rattle.feed.specs.declared.case.Case.{Case}
 use Rattle.feed.specs.declared.case.Case.the-variants.{Check, Read, Pick, Broken}
@@ -29,14 +26,14 @@ pub record Checked (s d d′ l : List ℕ) : Type 0 where
 -- "1 read"
 pub record Measured (s l : List ℕ) : Type 0 where
   pub answer : Answer
-  pub reads : Reads values house s answer
+  pub reads : HouseReads s answer
   pub line : l ≡ answerLine answer []
 
 -- "2 pick": "the part of an accepted pick", of a refused one the empty part
 pub record Picked (s : List ℕ) (row n : ℕ) (l : List ℕ) : Type 0 where
   pub answer : Answer
   pub part : List ℕ
-  pub picks : Picks values house s row n answer part
+  pub picks : HousePicks s row n answer part
   pub line : l ≡ answerLine answer part
 
 -- s is the feed from the case on, as far as it was read; k is the case's number; l the line

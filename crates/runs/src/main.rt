@@ -2,12 +2,11 @@
 // picked, in hexadecimal. A run stands behind 13 bytes: 1 for a read or 2 for a pick, then the row, the n and the run's length, each
 // in 32 bits, little-endian. The answers that it is held to were computed by another program.
 use answer::Answer;
-use house::tables::rows;
-use image::picker::pick;
-use image::picker::picked;
-use image::reader::read;
 use libc::STDIN_FILENO;
 use libc::STDOUT_FILENO;
+use reading::first::pick;
+use reading::first::picked;
+use reading::first::read;
 ghost use Prim.Native.Nat.{_<_};
 
 fn wide(x: u8) -> usize
@@ -41,15 +40,15 @@ fn write_part(part: &[u8]) {
 }
 
 // One run's line; false where it is to be neither read nor picked from.
-fn answer_run(rows: &[u16], what: u8, row: usize, n: usize, run: &[u8]) -> bool {
+fn answer_run(what: u8, row: usize, n: usize, run: &[u8]) -> bool {
     if what == 1 {
-        write_answer(read(rows, run));
+        write_answer(read(run));
         io::write_all(STDOUT_FILENO, b"\n");
         return true;
     }
     if what == 2 {
-        write_answer(pick(rows, run, row, n));
-        write_part(picked(rows, run, row, n));
+        write_answer(pick(run, row, n));
+        write_part(picked(run, row, n));
         io::write_all(STDOUT_FILENO, b"\n");
         return true;
     }
@@ -57,15 +56,15 @@ fn answer_run(rows: &[u16], what: u8, row: usize, n: usize, run: &[u8]) -> bool 
 }
 
 // Fills `run` from the input and answers for it; false where the input ends before.
-fn fill_run(rows: &[u16], what: u8, row: usize, n: usize, run: &mut [u8]) -> bool {
+fn fill_run(what: u8, row: usize, n: usize, run: &mut [u8]) -> bool {
     if io::read_full(STDIN_FILENO, run) < run.len() {
         return false;
     }
-    answer_run(rows, what, row, n, run)
+    answer_run(what, row, n, run)
 }
 
 // The next run; false where there is none, or a longer one than the buffer.
-fn next_run(rows: &[u16]) -> bool {
+fn next_run() -> bool {
     let mut head = [0u8; 13];
     if io::read_full(STDIN_FILENO, &mut head) < 13 {
         return false;
@@ -78,18 +77,17 @@ fn next_run(rows: &[u16]) -> bool {
     if room < length {
         return false;
     }
-    fill_run(rows, head[0], row, n, &mut space[..room])
+    fill_run(head[0], row, n, &mut space[..room])
 }
 
 // A proved loop has to end, and nothing says that an input does: it counts down from a number that no input uses up.
-fn answer_all(rows: &[u16]) {
+fn answer_all() {
     let mut turns = u64::MAX;
-    while turns > 0 && next_run(rows) {
+    while turns > 0 && next_run() {
         turns -= 1;
     }
 }
 
 fn main() {
-    let rows = rows();
-    answer_all(&rows);
+    answer_all();
 }

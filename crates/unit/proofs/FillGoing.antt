@@ -150,7 +150,7 @@ module _ (k : Kinds) (t pool s : List ℕ) (sd : Sound t pool) (x : HouseXml s) 
 
       -- ---- the beginning
 
-      pub first-spot : (d₀ : List ℕ) → Puts d₀ 0 (header ++ (1 ∷ [])) a₁ d₁ → (first : Turn) → first ≡ beginIn t pool s → Writing d₁ (spotAt 1 0 (first .here .at)) a₁
+      pub first-spot : (d₀ : List ℕ) → Puts d₀ 0 (header l ++ (1 ∷ [])) a₁ d₁ → (first : Turn) → first ≡ beginIn t pool s → Writing d₁ (spotAt 1 0 (first .here .at)) a₁
       first-spot d₀ p first e = record {
         st = room;
         full = first .here;
@@ -212,7 +212,7 @@ module _ (k : Kinds) (t pool s : List ℕ) (sd : Sound t pool) (x : HouseXml s) 
           shut : step .met ≡ Closed
           shut = by-close t pool s (w .st) full step gone o at-less b
 
-          pub spot-ends : here .row ≡ 1 → Spelling T → (d₀ : List ℕ) → Puts d₀ 0 (header ++ (1 ∷ [])) a₁ d₁ → (d′ : List ℕ) → d′ ≡ pasted d at (0 ∷ [])
+          pub spot-ends : here .row ≡ 1 → Spelling T → (d₀ : List ℕ) → Puts d₀ 0 (header l ++ (1 ∷ [])) a₁ d₁ → (d′ : List ℕ) → d′ ≡ pasted d at (0 ∷ [])
               → Passes k l (messageOf (x .tree)) d₀ (verdict 0 0 (at + 1)) d′
           spot-ends r y d₀ p d′ f =
               let n = is-root d (w .st) full at g (w .row ∙ r) shut in

@@ -41,7 +41,7 @@ module _ (t pool s : List ℕ) where
 
   module _ (pre : Ready t pool s × Faultless houseKinds (listOf t pool) s) where
     pub fill-first : (first : Turn) → first ≡ beginIn t pool s → (here : Spot) → here ≡ spotAt 1 0 (first .here .at)
-        → (d₀ : List ℕ) (a₁ : ℕ) (d₁ : List ℕ) → Puts d₀ 0 (header ++ (1 ∷ [])) a₁ d₁ → WritingOn d₁ a₁ d₁ here a₁
+        → (d₀ : List ℕ) (a₁ : ℕ) (d₁ : List ℕ) → Puts d₀ 0 (header (listOf t pool) ++ (1 ∷ [])) a₁ d₁ → WritingOn d₁ a₁ d₁ here a₁
     fill-first first e here h d₀ a₁ d₁ p sd x =
         subst (λ (u : Spot). Writing houseKinds t pool s sd x d₁ a₁ d₁ u a₁) (sym h) (first-spot houseKinds t pool s sd x d₁ a₁ coins (pre .1 x) d₀ p first e)
 
@@ -64,7 +64,7 @@ module _ (t pool s : List ℕ) where
       module _ (c : Bool) (is : c ≡ headIs solidus (drop (o + 1) s)) where
         -- a closing tag
         module _ (y : c ≡ true) where
-          pub fill-ends : here .row ≡ 1 → (d₀ : List ℕ) → Puts d₀ 0 (header ++ (1 ∷ [])) a₁ d₁ → (d′ : List ℕ) → d′ ≡ pasted d at (0 ∷ [])
+          pub fill-ends : here .row ≡ 1 → (d₀ : List ℕ) → Puts d₀ 0 (header (listOf t pool) ++ (1 ∷ [])) a₁ d₁ → (d′ : List ℕ) → d′ ≡ pasted d at (0 ∷ [])
               → FilledIn houseKinds (listOf t pool) s d₀ d′
           fill-ends r d₀ p d′ f q m h =
               filled-of houseKinds (listOf t pool) spelling (sd .well) s q m d₀ (verdict 0 0 (at + 1)) d′

@@ -10,9 +10,8 @@ use Rattle.answer.specs.Table.{accepted}
 use Rattle.list.specs.Content.{Content}
 use Rattle.house.specs.House.{house}
 use Rattle.types.specs.Value.{Value}
-use Rattle.image.specs.Kinds.{values}
-use Rattle.image.specs.Place.{Reads}
-use Rattle.image.proofs.House.{house-reads-one}
+use Rattle.reading.specs.Reads.{HouseReads}
+use Rattle.reading.proofs.House.{house-reads-one}
 use Rattle.demands.specs.Instance.{houseKinds}
 use Rattle.demands.specs.File.{imageOf}
 use Rattle.demands.specs.Checks.{long, bytes, markup, violation, room, image, Checks}
@@ -25,7 +24,7 @@ module _ (s d : List ℕ) (a : Answer) (d′ : List ℕ) where
       let i = accepted-image s d a d′ p (t .0) (t .1) (t .2) in
       omega (arith, t .2, ap (λ (x : Answer). x .place) (i .0))
 
-  pub reads-back : Checks s d a d′ → a .code ≡ 0 → (b : Answer) → Reads values house (take (a .place) d′) b → b ≡ a
+  pub reads-back : Checks s d a d′ → a .code ≡ 0 → (b : Answer) → HouseReads (take (a .place) d′) b → b ≡ a
   reads-back p z b r = house-reads-one (take (a .place) d′) b a r (read-back s d a d′ p z)
 
 -- ---- another buffer of the same length: the same answer and the same image

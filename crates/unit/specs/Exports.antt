@@ -5,13 +5,11 @@ use Prim.Native.Nat.{ℕ, _+_}
 use lib.ListN.{length}
 use lib.Seq.{slice}
 use Rattle.answer.specs.Table.{answer}
-use Rattle.house.specs.House.{house}
-use Rattle.image.specs.Kinds.{values}
-use Rattle.image.specs.Pick.{Picks}
+use Rattle.reading.specs.Reads.{HousePicks}
 
 -- a pick without its row, which is the asked one or 0: "It hands back that part of the lent image itself", `size` bytes of the run from `place` on.
 -- "every refusal hands back an empty part": then `size` is 0
 pub record PicksAt (run : List ℕ) (r n code place size : ℕ) : Type 0 where
   pub row : ℕ
-  pub picks : Picks values house run r n (answer code row place) (slice place (place + size) run)
+  pub picks : HousePicks run r n (answer code row place) (slice place (place + size) run)
   pub long : length (slice place (place + size) run) ≡ size

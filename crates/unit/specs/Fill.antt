@@ -2,7 +2,7 @@
 use mathlib.Core.Path.{_≡_}
 use mathlib.Core.Bool.{cond}
 use mathlib.Core.Logic.{_⊎_}
-use mathlib.Core.List.{List}
+use mathlib.Core.List.{List, [], _∷_, _++_}
 use Prim.Native.Nat.{ℕ, _≤_}
 use lib.Dec.{eqb}
 use lib.ListN.{length}
@@ -11,10 +11,16 @@ use Rattle.list.specs.Listing.{Listing, size, Child, child}
 use Rattle.list.specs.Content.{Content}
 use Rattle.list.specs.Table.{cell, listOf}
 use Rattle.list.specs.Sound.{Sound}
+use Rattle.image.specs.Image.{header}
 use Rattle.demands.specs.Instance.{Kinds}
 use Rattle.demands.specs.File.{imageOf}
 use Rattle.measure.specs.Measured.{Message}
+use Rattle.measure.specs.Pass.{Puts}
 use Rattle.unit.specs.declared.fill.Spot.{Spot}
+
+-- the header of an image, whatever its list, and the root's row byte, at the start of a buffer
+abbrev pub Headed : List ℕ → ℕ → List ℕ → Type 0
+Headed d r d′ = (l : Listing) → Puts d 0 (header l ++ (1 ∷ [])) r d′
 
 -- where the pass stands that writes
 abbrev pub spotAt : ℕ → ℕ → ℕ → Spot

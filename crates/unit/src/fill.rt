@@ -22,23 +22,21 @@ use written::place::place;
 use written::write::write;
 ghost use mathlib.Core.Path.{_≡_};
 ghost use mathlib.Core.Bool.{false};
-ghost use mathlib.Core.List.{[], _∷_, _++_};
 ghost use Prim.Native.Nat.{_≤_};
 ghost use lib.Seq.{slice};
-ghost use Rattle.image.specs.Image.{header};
 ghost use Rattle.list.specs.Listing.{child};
 ghost use Rattle.list.specs.Table.{cell, wordsIn, listOf};
 ghost use Rattle.walk.specs.Tables.{isGroupIn};
 ghost use Rattle.demands.specs.Instance.{houseKinds};
 ghost use Rattle.measure.specs.Measured.{Faultless};
-ghost use Rattle.measure.specs.Pass.{Puts, Worded, Valued, Shuts, Ready};
-ghost use Rattle.unit.specs.Fill.{spotAt, roundIn, Comes, FilledIn};
+ghost use Rattle.measure.specs.Pass.{Worded, Valued, Shuts, Ready};
+ghost use Rattle.unit.specs.Fill.{Headed, spotAt, roundIn, Comes, FilledIn};
 
 // `KTO`, version 1 in 16 bits, and the root's row byte.
 const HEAD: [u8; 6] = [75, 84, 79, 0, 1, 1];
 
 fn put_head(out: &mut [u8]) -> usize
-    ensures { λ r. ⌜ Puts (now (out .entry)) 0 (header ++ (1 ∷ [])) r (now (out .exit)) ⌝ }
+    ensures { λ r. ⌜ Headed (now (out .entry)) r (now (out .exit)) ⌝ }
 {
     let head = HEAD;
     copy(&head, 0, 6, out, 0);

@@ -4,10 +4,10 @@ use Rattle.runs.proofs.answer_all.Statement.{statement}
 use Rattle.runs.proofs.answer_all.Tie as tie
 
 abbrev Inv-loop : tie.InvT-loop
-Inv-loop rows turns₀ turns = Unit {0}
+Inv-loop turns₀ turns = Unit {0}
 
 abbrev μ-loop : tie.MeasureT-loop
-μ-loop rows turns₀ turns = turns
+μ-loop turns₀ turns = turns
 
 loop-holds : tie.Need-loop-holds Inv-loop μ-loop
 loop-holds c = search needs

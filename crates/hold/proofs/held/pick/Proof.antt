@@ -8,9 +8,7 @@ use denote.RattleType.{RattleType}
 use denote.Struct.Laws as LL
 use denote.Triple.Spec.{tripleOf}
 use denote.Triple.Table.{entered, cited}
-use Rattle.house.specs.House.{house}
-use Rattle.image.specs.Kinds.{values}
-use Rattle.image.specs.Pick.{Answers}
+use Rattle.reading.specs.Reads.{HouseAnswers}
 use Rattle.answer.specs.declared.Answer.{Answer}
 use Rattle.answer.proofs.Answer as S
 use Rattle.answer.proofs.Answer.Laws as S′
@@ -27,7 +25,7 @@ abbrev R : Lfts 1 → RattleType
 R κs = S.the-row
 
 abbrev Claim : Lfts 1 → List ℕ → ℕ → ℕ → Answer → Type 0
-Claim κs = Answers values house
+Claim κs = HouseAnswers
 
 pub pick-spec : {M : Type 1} → stated.statement M
 unfolding code.routine tablesOf

@@ -12,9 +12,7 @@ use denote.Signature.{shrSlice, typeAt}
 use denote.Slice.{sliceTy, shr-slice-lawful}
 use denote.Triple.Spec.{tripleOf}
 use denote.Triple.Table.{entered, cited}
-use Rattle.house.specs.House.{house}
-use Rattle.image.specs.Kinds.{values}
-use Rattle.image.specs.Pick.{Hands}
+use Rattle.reading.specs.Reads.{HouseHands}
 use Rattle.hold.proofs.Apart.{Told, meets}
 use Rattle.hold.proofs.held.picked_at.Symbol as step-def
 use Rattle.hold.proofs.held.picked_at.Symbol.{name as #hold·held·picked-at}
@@ -28,7 +26,7 @@ abbrev R : Lfts 1 → RattleType
 R κs = typeAt {n = 1} (shrSlice 0 tt (λ _. u8)) κs
 
 abbrev Claim : Lfts 1 → List ℕ → ℕ → ℕ → RefT (List ℕ) → Type 0
-Claim κs s row n r = Hands values house s row n (now r)
+Claim κs s row n r = HouseHands s row n (now r)
 
 pub picked-spec : {M : Type 1} → stated.statement M
 unfolding code.routine tablesOf

@@ -4,14 +4,7 @@ use Rattle.hold.proofs.held.read_at.Statement.{statement}
 use Rattle.hold.proofs.held.read_at.Tie as tie
 use mathlib.Core.Path.{sym}
 use native.Mathlib.Omega.{arith}
-use Rattle.image.proofs.House.{house-reads}
 use Rattle.hold.proofs.Holding.{step-stays, step-on, step-room}
-
-rows-requires : tie.Need-rows-requires
-rows-requires c κs = search needs
-
-slice-aggregate-read : tie.Need-slice-aggregate-read
-slice-aggregate-read c = search needs
 
 rest-requires : tie.Need-rest-requires
 rest-requires c κs = search needs
@@ -21,24 +14,15 @@ read-requires c κs = search needs
 
 returns : tie.Need-returns
 returns c =
-    step-stays _ _ _ (house-reads _ _ (rw (sym (c .before .before .before .before .before .rows .ensures), sym (c .before .before .before .rest .ensures)) (c .before .before .read .ensures))) (c .if1 .taken)
+    step-stays _ _ _ (rw (sym (c .before .before .before .rest .ensures)) (c .before .before .read .ensures)) (c .if1 .taken)
 
-add-t10 : tie.Need-add-t10
-add-t10 c =
-    omega (arith, step-room (c .before .before .before .before .before .before .before .before .args .run .now) (c .before .before .before .before .before .before .before .before .args .at) (c .before .before .before .read .result) (house-reads _ _ (rw (sym (c .before .before .before .before .before .before .rows .ensures), sym (c .before .before .before .before .rest .ensures)) (c .before .before .before .read .ensures))) (omega (arith, c .before .if1 .left)))
+add-t6 : tie.Need-add-t6
+add-t6 c =
+    omega (arith, step-room (c .before .before .before .before .before .before .args .run .now) (c .before .before .before .before .before .before .args .at) (c .before .before .before .read .result) (rw (sym (c .before .before .before .before .rest .ensures)) (c .before .before .before .read .ensures)) (omega (arith, c .before .if1 .left)))
 
 returns-2 : tie.Need-returns-2
 returns-2 c =
-    step-on _ _ _ (house-reads _ _ (rw (sym (c .before .before .before .before .before .before .rows .ensures), sym (c .before .before .before .before .rest .ensures)) (c .before .before .before .read .ensures))) (omega (arith, c .before .if1 .left))
+    step-on _ _ _ (rw (sym (c .before .before .before .before .rest .ensures)) (c .before .before .before .read .ensures)) (omega (arith, c .before .if1 .left))
 
 pub read-at-spec : {M : Type 1} → statement M
-read-at-spec =
-    tie.close
-    (tie.spec
-    rows-requires
-    slice-aggregate-read
-    rest-requires
-    read-requires
-    returns
-    add-t10
-    returns-2)
+read-at-spec = tie.close (tie.spec rest-requires read-requires returns add-t6 returns-2)

@@ -11,15 +11,15 @@ use Rattle.image.proofs.Ends.{item-on}
 use Rattle.image.proofs.Hunting.{Sought, seeks, seek-over, seek-end, seek-bad, seek-here, seek-past, seek-on}
 
 abbrev Inv-loop : tie.InvT-loop
-Inv-loop rows run row n left₀ i₀ left i = Sought rows (itemEnd rows run) run row n left i
+Inv-loop rows run from row n left₀ i₀ left i = Sought rows (itemEnd rows run) run from row n left i
 
 abbrev μ-loop : tie.MeasureT-loop
-μ-loop rows run row n left₀ i₀ left i = length run - i
+μ-loop rows run from row n left₀ i₀ left i = length run - i
 
 loop-holds : tie.Need-loop-holds Inv-loop μ-loop
 loop-holds c =
     let g = c .before .before .args in
-    seeks (g .rows .now) (itemEnd (g .rows .now) (g .run .now)) (g .run .now) (g .row) (g .n)
+    seeks (g .rows .now) (itemEnd (g .rows .now) (g .run .now)) (g .run .now) (g .from) (g .row) (g .n)
 
 shared-slice-read-wide : tie.Need-shared-slice-read-wide Inv-loop μ-loop
 shared-slice-read-wide c =
@@ -32,7 +32,7 @@ wide-requires c κs =
 returns : tie.Need-returns Inv-loop μ-loop
 returns c =
     let g = c .before .before .before .before .before .before .before .args in
-    seek-end (g .rows .now) (itemEnd (g .rows .now) (g .run .now)) (g .run .now) (g .row) (g .n) (c .before .before .before .before .loop .left) (c .before .before .before .before .loop .i) (c .before .before .before .before .loop .inv) (c .before .wide .result) (c .before .before .before .loop-test .taken) (c .before .wide .ensures) (c .if1 .taken)
+    seek-end (g .rows .now) (itemEnd (g .rows .now) (g .run .now)) (g .run .now) (g .from) (g .row) (g .n) (c .before .before .before .before .loop .left) (c .before .before .before .before .loop .i) (c .before .before .before .before .loop .inv) (c .before .wide .result) (c .before .before .before .loop-test .taken) (c .before .wide .ensures) (c .if1 .taken)
 
 add-item-end : tie.Need-add-item-end Inv-loop μ-loop
 add-item-end c =
@@ -45,7 +45,7 @@ item-end-requires c κs =
 returns-2 : tie.Need-returns-2 Inv-loop μ-loop
 returns-2 c =
     let g = c .before .before .before .before .before .before .before .before .before .args in
-    seek-bad (g .rows .now) (itemEnd (g .rows .now) (g .run .now)) (g .run .now) (g .row) (g .n) (c .before .before .before .before .before .before .loop .left) (c .before .before .before .before .before .before .loop .i) (c .before .before .before .before .before .before .loop .inv) (c .before .before .before .wide .result) (c .before .before .before .before .before .loop-test .taken) (c .before .before .before .wide .ensures) (c .before .item-end .result) (c .before .before .if1 .left) (c .before .item-end .ensures) (c .if2 .taken)
+    seek-bad (g .rows .now) (itemEnd (g .rows .now) (g .run .now)) (g .run .now) (g .from) (g .row) (g .n) (c .before .before .before .before .before .before .loop .left) (c .before .before .before .before .before .before .loop .i) (c .before .before .before .before .before .before .loop .inv) (c .before .before .before .wide .result) (c .before .before .before .before .before .loop-test .taken) (c .before .before .before .wide .ensures) (c .before .item-end .result) (c .before .before .if1 .left) (c .before .item-end .ensures) (c .if2 .taken)
 
 add-result : tie.Need-add-result Inv-loop μ-loop
 add-result c =
@@ -54,7 +54,7 @@ add-result c =
 returns-3 : tie.Need-returns-3 Inv-loop μ-loop
 returns-3 c =
     let g = c .before .before .before .before .before .before .before .before .before .before .before .args in
-    seek-here (g .rows .now) (itemEnd (g .rows .now) (g .run .now)) (g .run .now) (g .row) (g .n) (c .before .before .before .before .before .before .before .before .loop .left) (c .before .before .before .before .before .before .before .before .loop .i) (c .before .before .before .before .before .before .before .before .loop .inv) (c .before .before .before .before .before .wide .result) (c .before .before .before .before .before .before .before .loop-test .taken) (c .before .before .before .before .before .wide .ensures) (c .before .before .before .item-end .result) (c .before .before .before .before .if1 .left) (c .before .before .before .item-end .ensures) (c .before .before .if2 .left) (c .before .if3 .taken) (c .if4 .taken)
+    seek-here (g .rows .now) (itemEnd (g .rows .now) (g .run .now)) (g .run .now) (g .from) (g .row) (g .n) (c .before .before .before .before .before .before .before .before .loop .left) (c .before .before .before .before .before .before .before .before .loop .i) (c .before .before .before .before .before .before .before .before .loop .inv) (c .before .before .before .before .before .wide .result) (c .before .before .before .before .before .before .before .loop-test .taken) (c .before .before .before .before .before .wide .ensures) (c .before .before .before .item-end .result) (c .before .before .before .before .if1 .left) (c .before .before .before .item-end .ensures) (c .before .before .if2 .left) (c .before .if3 .taken) (c .if4 .taken)
 
 sub-left : tie.Need-sub-left Inv-loop μ-loop
 sub-left c =
@@ -67,7 +67,7 @@ loop-less c =
 loop-again : tie.Need-loop-again Inv-loop μ-loop
 loop-again c =
     let g = c .before .before .before .before .before .before .before .before .before .before .before .args in
-    seek-past (g .rows .now) (itemEnd (g .rows .now) (g .run .now)) (g .run .now) (g .row) (g .n) (c .before .before .before .before .before .before .before .before .loop .left) (c .before .before .before .before .before .before .before .before .loop .i) (c .before .before .before .before .before .before .before .before .loop .inv) (c .before .before .before .before .before .wide .result) (c .before .before .before .before .before .before .before .loop-test .taken) (c .before .before .before .before .before .wide .ensures) (c .before .before .before .item-end .result) (c .before .before .before .before .if1 .left) (c .before .before .before .item-end .ensures) (c .before .before .if2 .left) (c .before .if3 .taken) (c .if4 .left)
+    seek-past (g .rows .now) (itemEnd (g .rows .now) (g .run .now)) (g .run .now) (g .from) (g .row) (g .n) (c .before .before .before .before .before .before .before .before .loop .left) (c .before .before .before .before .before .before .before .before .loop .i) (c .before .before .before .before .before .before .before .before .loop .inv) (c .before .before .before .before .before .wide .result) (c .before .before .before .before .before .before .before .loop-test .taken) (c .before .before .before .before .before .wide .ensures) (c .before .before .before .item-end .result) (c .before .before .before .before .if1 .left) (c .before .before .before .item-end .ensures) (c .before .before .if2 .left) (c .before .if3 .taken) (c .if4 .left)
 
 loop-less-2 : tie.Need-loop-less-2 Inv-loop μ-loop
 loop-less-2 c =
@@ -76,12 +76,12 @@ loop-less-2 c =
 loop-again-2 : tie.Need-loop-again-2 Inv-loop μ-loop
 loop-again-2 c =
     let g = c .before .before .before .before .before .before .before .before .before .before .args in
-    seek-on (g .rows .now) (itemEnd (g .rows .now) (g .run .now)) (g .run .now) (g .row) (g .n) (c .before .before .before .before .before .before .before .loop .left) (c .before .before .before .before .before .before .before .loop .i) (c .before .before .before .before .before .before .before .loop .inv) (c .before .before .before .before .wide .result) (c .before .before .before .before .before .before .loop-test .taken) (c .before .before .before .before .wide .ensures) (c .before .before .item-end .result) (c .before .before .before .if1 .left) (c .before .before .item-end .ensures) (c .before .if2 .left) (c .if3 .left)
+    seek-on (g .rows .now) (itemEnd (g .rows .now) (g .run .now)) (g .run .now) (g .from) (g .row) (g .n) (c .before .before .before .before .before .before .before .loop .left) (c .before .before .before .before .before .before .before .loop .i) (c .before .before .before .before .before .before .before .loop .inv) (c .before .before .before .before .wide .result) (c .before .before .before .before .before .before .loop-test .taken) (c .before .before .before .before .wide .ensures) (c .before .before .item-end .result) (c .before .before .before .if1 .left) (c .before .before .item-end .ensures) (c .before .if2 .left) (c .if3 .left)
 
 returns-4 : tie.Need-returns-4 Inv-loop μ-loop
 returns-4 c =
     let g = c .before .before .before .before .args in
-    seek-over (g .rows .now) (itemEnd (g .rows .now) (g .run .now)) (g .run .now) (g .row) (g .n) (c .before .loop .left) (c .before .loop .i) (c .before .loop .inv) (c .loop-test .left)
+    seek-over (g .rows .now) (itemEnd (g .rows .now) (g .run .now)) (g .run .now) (g .from) (g .row) (g .n) (c .before .loop .left) (c .before .loop .i) (c .before .loop .inv) (c .loop-test .left)
 
 pub find-leaf-spec : {M : Type 1} → statement M
 find-leaf-spec =

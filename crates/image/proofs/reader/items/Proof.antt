@@ -11,15 +11,15 @@ use Rattle.image.proofs.Ends.{item-on, item-leaf, item-group}
 use Rattle.image.proofs.Turning.{Here, begins, runs-out, closes, too-soon, strays, breaks, goes-on}
 
 abbrev Inv-loop : tie.InvT-loop
-Inv-loop rows run q₀ i₀ q i = Here rows (itemEnd rows run) run q i
+Inv-loop rows run from q₀ i₀ q i = Here rows (itemEnd rows run) run from q i
 
 abbrev μ-loop : tie.MeasureT-loop
-μ-loop rows run q₀ i₀ q i = length run - i
+μ-loop rows run from q₀ i₀ q i = length run - i
 
 loop-holds : tie.Need-loop-holds Inv-loop μ-loop
 loop-holds c =
     let g = c .before .before .args in
-    begins (g .rows .now) (itemEnd (g .rows .now) (g .run .now)) (g .run .now)
+    begins (g .rows .now) (itemEnd (g .rows .now) (g .run .now)) (g .run .now) (g .from)
 
 shared-slice-read-wide : tie.Need-shared-slice-read-wide Inv-loop μ-loop
 shared-slice-read-wide c =
@@ -44,7 +44,7 @@ accepted-requires c κs =
 returns : tie.Need-returns Inv-loop μ-loop
 returns c =
     let g = c .before .before .before .before .before .before .before .before .before .before .args in
-    closes (g .rows .now) (itemEnd (g .rows .now) (g .run .now)) (g .run .now) (c .before .before .before .before .before .before .before .loop .q) (c .before .before .before .before .before .before .before .loop .i) (c .before .before .before .before .before .before .before .loop .inv) (c .before .before .before .before .wide .result) (c .before .before .before .before .before .before .loop-test .taken) (c .before .before .before .before .wide .ensures) (c .accepted .result) (c .before .before .ended .result) (c .accepted .ensures) (c .before .before .before .if1 .taken) (c .before .before .ended .ensures) (c .before .if2 .taken)
+    closes (g .rows .now) (itemEnd (g .rows .now) (g .run .now)) (g .run .now) (g .from) (c .before .before .before .before .before .before .before .loop .q) (c .before .before .before .before .before .before .before .loop .i) (c .before .before .before .before .before .before .before .loop .inv) (c .before .before .before .before .wide .result) (c .before .before .before .before .before .before .loop-test .taken) (c .before .before .before .before .wide .ensures) (c .accepted .result) (c .before .before .ended .result) (c .accepted .ensures) (c .before .before .before .if1 .taken) (c .before .before .ended .ensures) (c .before .if2 .taken)
 
 broken-image-requires : tie.Need-broken-image-requires Inv-loop μ-loop
 broken-image-requires c κs =
@@ -53,7 +53,7 @@ broken-image-requires c κs =
 returns-2 : tie.Need-returns-2 Inv-loop μ-loop
 returns-2 c =
     let g = c .before .before .before .before .before .before .before .before .before .before .args in
-    too-soon (g .rows .now) (itemEnd (g .rows .now) (g .run .now)) (g .run .now) (c .before .before .before .before .before .before .before .loop .q) (c .before .before .before .before .before .before .before .loop .i) (c .before .before .before .before .before .before .before .loop .inv) (c .before .before .before .before .wide .result) (c .before .before .before .before .before .before .loop-test .taken) (c .before .before .before .before .wide .ensures) (c .broken-image .result) (c .before .before .ended .result) (c .broken-image .ensures) (c .before .before .before .if1 .taken) (c .before .before .ended .ensures) (c .before .if2 .left)
+    too-soon (g .rows .now) (itemEnd (g .rows .now) (g .run .now)) (g .run .now) (g .from) (c .before .before .before .before .before .before .before .loop .q) (c .before .before .before .before .before .before .before .loop .i) (c .before .before .before .before .before .before .before .loop .inv) (c .before .before .before .before .wide .result) (c .before .before .before .before .before .before .loop-test .taken) (c .before .before .before .before .wide .ensures) (c .broken-image .result) (c .before .before .ended .result) (c .broken-image .ensures) (c .before .before .before .if1 .taken) (c .before .before .ended .ensures) (c .before .if2 .left)
 
 follows-requires : tie.Need-follows-requires Inv-loop μ-loop
 follows-requires c κs =
@@ -90,7 +90,7 @@ broken-image-requires-2 c κs =
 returns-3 : tie.Need-returns-3 Inv-loop μ-loop
 returns-3 c =
     let g = c .before .before .before .before .before .before .before .before .before .before .before .before .before .before .before .before .before .args in
-    breaks (g .rows .now) (itemEnd (g .rows .now) (g .run .now)) (g .run .now) (c .before .before .before .before .before .before .before .before .before .before .before .before .before .before .loop .q) (c .before .before .before .before .before .before .before .before .before .before .before .before .before .before .loop .i) (c .before .before .before .before .before .before .before .before .before .before .before .before .before .before .loop .inv) (c .before .before .before .before .before .before .before .before .before .before .before .wide .result) (c .before .before .before .before .before .before .before .before .before .before .before .before .before .loop-test .taken) (c .before .before .before .before .before .before .before .before .before .before .before .wide .ensures) (c .before .before .before .before .before .before .before .before .before .before .if1 .left) (c .before .before .before .before .before .before .before .before .before .follows .result) (c .before .before .before .before .before .before .before .before .before .follows .ensures) (c .broken-image2 .result) (c .before .before .value-end .result) (c .broken-image2 .ensures) (c .before .before .before .before .before .before .before .before .if3 .taken) (item-leaf _ _ _ _ _ (c .before .before .before .before .before .before .before .is-leaf .ensures) (c .before .before .before .before .before .before .if4 .taken) _ _ _ _ (c .before .before .before .before .before .cell .ensures) (c .before .before .before .before .cell2 .ensures) (c .before .before .before .cell3 .ensures) (c .before .before .value-end .ensures)) (c .before .if5 .taken)
+    breaks (g .rows .now) (itemEnd (g .rows .now) (g .run .now)) (g .run .now) (g .from) (c .before .before .before .before .before .before .before .before .before .before .before .before .before .before .loop .q) (c .before .before .before .before .before .before .before .before .before .before .before .before .before .before .loop .i) (c .before .before .before .before .before .before .before .before .before .before .before .before .before .before .loop .inv) (c .before .before .before .before .before .before .before .before .before .before .before .wide .result) (c .before .before .before .before .before .before .before .before .before .before .before .before .before .loop-test .taken) (c .before .before .before .before .before .before .before .before .before .before .before .wide .ensures) (c .before .before .before .before .before .before .before .before .before .before .if1 .left) (c .before .before .before .before .before .before .before .before .before .follows .result) (c .before .before .before .before .before .before .before .before .before .follows .ensures) (c .broken-image2 .result) (c .before .before .value-end .result) (c .broken-image2 .ensures) (c .before .before .before .before .before .before .before .before .if3 .taken) (item-leaf _ _ _ _ _ (c .before .before .before .before .before .before .before .is-leaf .ensures) (c .before .before .before .before .before .before .if4 .taken) _ _ _ _ (c .before .before .before .before .before .cell .ensures) (c .before .before .before .before .cell2 .ensures) (c .before .before .before .cell3 .ensures) (c .before .before .value-end .ensures)) (c .before .if5 .taken)
 
 loop-less : tie.Need-loop-less Inv-loop μ-loop
 loop-less c =
@@ -101,7 +101,7 @@ loop-less c =
 loop-again : tie.Need-loop-again Inv-loop μ-loop
 loop-again c =
     let g = c .before .before .before .before .before .before .before .before .before .before .before .before .before .before .before .before .args in
-    goes-on (g .rows .now) (itemEnd (g .rows .now) (g .run .now)) (g .run .now) (c .before .before .before .before .before .before .before .before .before .before .before .before .before .loop .q) (c .before .before .before .before .before .before .before .before .before .before .before .before .before .loop .i) (c .before .before .before .before .before .before .before .before .before .before .before .before .before .loop .inv) (c .before .before .before .before .before .before .before .before .before .before .wide .result) (c .before .before .before .before .before .before .before .before .before .before .before .before .loop-test .taken) (c .before .before .before .before .before .before .before .before .before .before .wide .ensures) (c .before .before .before .before .before .before .before .before .before .if1 .left) (c .before .before .before .before .before .before .before .before .follows .result) (c .before .before .before .before .before .before .before .before .follows .ensures) (c .before .value-end .result) (c .before .before .before .before .before .before .before .if3 .taken) (item-leaf _ _ _ _ _ (c .before .before .before .before .before .before .is-leaf .ensures) (c .before .before .before .before .before .if4 .taken) _ _ _ _ (c .before .before .before .before .cell .ensures) (c .before .before .before .cell2 .ensures) (c .before .before .cell3 .ensures) (c .before .value-end .ensures)) (c .if5 .left)
+    goes-on (g .rows .now) (itemEnd (g .rows .now) (g .run .now)) (g .run .now) (g .from) (c .before .before .before .before .before .before .before .before .before .before .before .before .before .loop .q) (c .before .before .before .before .before .before .before .before .before .before .before .before .before .loop .i) (c .before .before .before .before .before .before .before .before .before .before .before .before .before .loop .inv) (c .before .before .before .before .before .before .before .before .before .before .wide .result) (c .before .before .before .before .before .before .before .before .before .before .before .before .loop-test .taken) (c .before .before .before .before .before .before .before .before .before .before .wide .ensures) (c .before .before .before .before .before .before .before .before .before .if1 .left) (c .before .before .before .before .before .before .before .before .follows .result) (c .before .before .before .before .before .before .before .before .follows .ensures) (c .before .value-end .result) (c .before .before .before .before .before .before .before .if3 .taken) (item-leaf _ _ _ _ _ (c .before .before .before .before .before .before .is-leaf .ensures) (c .before .before .before .before .before .if4 .taken) _ _ _ _ (c .before .before .before .before .cell .ensures) (c .before .before .before .cell2 .ensures) (c .before .before .cell3 .ensures) (c .before .value-end .ensures)) (c .if5 .left)
 
 add-i : tie.Need-add-i Inv-loop μ-loop
 add-i c =
@@ -114,7 +114,7 @@ loop-less-2 c =
 loop-again-2 : tie.Need-loop-again-2 Inv-loop μ-loop
 loop-again-2 c =
     let g = c .before .before .before .before .before .before .before .before .before .before .before .args in
-    goes-on (g .rows .now) (itemEnd (g .rows .now) (g .run .now)) (g .run .now) (c .before .before .before .before .before .before .before .before .loop .q) (c .before .before .before .before .before .before .before .before .loop .i) (c .before .before .before .before .before .before .before .before .loop .inv) (c .before .before .before .before .before .wide .result) (c .before .before .before .before .before .before .before .loop-test .taken) (c .before .before .before .before .before .wide .ensures) (c .before .before .before .before .if1 .left) (c .before .before .before .follows .result) (c .before .before .before .follows .ensures) (c .before .before .before .before .before .before .before .before .loop .i + 1) (c .before .before .if3 .taken) (item-group _ _ _ _ _ (c .before .is-leaf .ensures) (c .if4 .left)) (omega arith)
+    goes-on (g .rows .now) (itemEnd (g .rows .now) (g .run .now)) (g .run .now) (g .from) (c .before .before .before .before .before .before .before .before .loop .q) (c .before .before .before .before .before .before .before .before .loop .i) (c .before .before .before .before .before .before .before .before .loop .inv) (c .before .before .before .before .before .wide .result) (c .before .before .before .before .before .before .before .loop-test .taken) (c .before .before .before .before .before .wide .ensures) (c .before .before .before .before .if1 .left) (c .before .before .before .follows .result) (c .before .before .before .follows .ensures) (c .before .before .before .before .before .before .before .before .loop .i + 1) (c .before .before .if3 .taken) (item-group _ _ _ _ _ (c .before .is-leaf .ensures) (c .if4 .left)) (omega arith)
 
 broken-image-requires-3 : tie.Need-broken-image-requires-3 Inv-loop μ-loop
 broken-image-requires-3 c κs =
@@ -123,7 +123,7 @@ broken-image-requires-3 c κs =
 returns-4 : tie.Need-returns-4 Inv-loop μ-loop
 returns-4 c =
     let g = c .before .before .before .before .before .before .before .before .before .before .args in
-    strays (g .rows .now) (itemEnd (g .rows .now) (g .run .now)) (g .run .now) (c .before .before .before .before .before .before .before .loop .q) (c .before .before .before .before .before .before .before .loop .i) (c .before .before .before .before .before .before .before .loop .inv) (c .before .before .before .before .wide .result) (c .before .before .before .before .before .before .loop-test .taken) (c .before .before .before .before .wide .ensures) (c .before .before .before .if1 .left) (c .before .before .follows .result) (c .before .before .follows .ensures) (c .broken-image3 .result) (c .broken-image3 .ensures) (c .before .if3 .left)
+    strays (g .rows .now) (itemEnd (g .rows .now) (g .run .now)) (g .run .now) (g .from) (c .before .before .before .before .before .before .before .loop .q) (c .before .before .before .before .before .before .before .loop .i) (c .before .before .before .before .before .before .before .loop .inv) (c .before .before .before .before .wide .result) (c .before .before .before .before .before .before .loop-test .taken) (c .before .before .before .before .wide .ensures) (c .before .before .before .if1 .left) (c .before .before .follows .result) (c .before .before .follows .ensures) (c .broken-image3 .result) (c .broken-image3 .ensures) (c .before .if3 .left)
 
 broken-image-requires-4 : tie.Need-broken-image-requires-4 Inv-loop μ-loop
 broken-image-requires-4 c κs =
@@ -132,7 +132,7 @@ broken-image-requires-4 c κs =
 returns-5 : tie.Need-returns-5 Inv-loop μ-loop
 returns-5 c =
     let g = c .before .before .before .before .before .args in
-    runs-out (g .rows .now) (itemEnd (g .rows .now) (g .run .now)) (g .run .now) (c .before .before .loop .q) (c .before .before .loop .i) (c .before .before .loop .inv) (c .broken-image4 .result) (c .broken-image4 .ensures) (c .before .loop-test .left)
+    runs-out (g .rows .now) (itemEnd (g .rows .now) (g .run .now)) (g .run .now) (g .from) (c .before .before .loop .q) (c .before .before .loop .i) (c .before .before .loop .inv) (c .broken-image4 .result) (c .broken-image4 .ensures) (c .before .loop-test .left)
 
 pub items-spec : {M : Type 1} → statement M
 items-spec =

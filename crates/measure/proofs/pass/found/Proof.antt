@@ -42,7 +42,7 @@ enum-told-3 c =
 
 loop-holds : tie.Need-loop-holds Inv-loop μ-loop
 loop-holds c =
-    begins _ _ _ (c .before .before .before .before .before .before .before .pre) _ (c .before .before .before .begin .ensures) (c .before .enum-told3 .given .1) _ refl _ _ _ head-nowhere
+    begins _ _ _ (c .before .before .before .before .before .before .before .pre) _ (c .before .before .before .begin .ensures) (c .before .enum-told3 .given .1) _ refl _ _ _ (head-nowhere _)
 
 step-requires : tie.Need-step-requires Inv-loop μ-loop
 step-requires c κs =
@@ -86,7 +86,7 @@ says-requires c κs =
 
 returns-4 : tie.Need-returns-4 Inv-loop μ-loop
 returns-4 c =
-    measures _ _ _ _ _ _ (root-end _ _ _ (c .before .before .before .before .before .before .before .before .before .before .before .before .before .before .before .before .before .before .pre) _ _ _ _ _ _ (c .before .before .before .before .before .before .before .before .before .before .loop .inv) _ (c .before .before .before .before .before .before .step .ensures .0) _ (c .before .before .before .before .before .before .step .ensures .1) (c .before .before .before .enum-told6 .given .1) (c .before .if1 .taken) _ head-nowhere _ (pasted-nowhere _ _) _ (c .says .ensures))
+    measures _ _ _ _ _ _ (root-end _ _ _ (c .before .before .before .before .before .before .before .before .before .before .before .before .before .before .before .before .before .before .pre) _ _ _ _ _ _ (c .before .before .before .before .before .before .before .before .before .before .loop .inv) _ (c .before .before .before .before .before .before .step .ensures .0) _ (c .before .before .before .before .before .before .step .ensures .1) (c .before .before .before .enum-told6 .given .1) (c .before .if1 .taken) _ (head-nowhere _) _ (pasted-nowhere _ _) _ (c .says .ensures))
 
 leaf-end-requires : tie.Need-leaf-end-requires Inv-loop μ-loop
 leaf-end-requires c κs =

@@ -4,8 +4,6 @@ use native.Mathlib.Omega.{arith}
 use lib.ListN.{length}
 use lib.Seq.{take-all}
 use borrow.Author.Needs.{needs}
-use Rattle.house.specs.House.{house}
-use Rattle.image.specs.Kinds.{values}
 use Rattle.feed.specs.Reply.{answerLine}
 use Rattle.unit.proofs.Picking.{part-within, picks-both}
 use Rattle.replay.proofs.reply.part_picked.Statement.{statement}
@@ -20,7 +18,7 @@ picked-requires c κs = search needs
 put-line-requires : tie.Need-put-line-requires
 put-line-requires c κs =
     let o = c .before .before .before .before .before in
-    let q = part-within values house (o .args .run .now) (o .args .row) (o .args .nth) (c .before .before .pick .result) (c .before .picked .result .now) (picks-both _ _ _ _ _ (c .before .before .pick .ensures) (c .before .picked .ensures)) in
+    let q = part-within (o .args .run .now) (o .args .row) (o .args .nth) (c .before .before .pick .result) (c .before .picked .result .now) (picks-both _ _ _ _ _ (c .before .before .pick .ensures) (c .before .picked .ensures)) in
     omega (arith, o .pre .0, o .pre .1)
 
 same-length : tie.Need-same-length

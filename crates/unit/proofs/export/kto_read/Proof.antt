@@ -3,9 +3,7 @@ use mathlib.Core.Path.{subst}
 use Prim.Native.Nat.{ℕ}
 use borrow.Author.Needs.{needs}
 use Rattle.answer.specs.Table.{answer}
-use Rattle.house.specs.House.{house}
-use Rattle.image.specs.Kinds.{values}
-use Rattle.image.specs.Place.{Reads}
+use Rattle.reading.specs.Reads.{HouseReads}
 use Rattle.unit.proofs.Exporting.{read-row}
 use Rattle.unit.proofs.export.kto_read.Statement.{statement}
 use Rattle.unit.proofs.export.kto_read.Tie as tie
@@ -20,7 +18,7 @@ returns : tie.Need-returns
 returns c =
     let run = c .before .before .before .args .run .now in
     let a = c .before .read .result in
-    subst (λ (r : ℕ). Reads values house run (answer (a .code) r (a .place))) (read-row run a (c .before .read .ensures)) (c .before .read .ensures)
+    subst (λ (r : ℕ). HouseReads run (answer (a .code) r (a .place))) (read-row run a (c .before .read .ensures)) (c .before .read .ensures)
 
 pub kto-read-spec : {M : Type 1} → statement M
 kto-read-spec = tie.close (tie.spec read-requires cast-result returns)

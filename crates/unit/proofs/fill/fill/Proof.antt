@@ -1,4 +1,5 @@
 -- `fill::fill` meets its contract. Assumes nothing.
+use Rattle.house.specs.House.{house}
 use Rattle.unit.proofs.fill.fill.Statement.{statement}
 use Rattle.unit.proofs.fill.fill.Tie as tie
 use borrow.Author.Needs.{needs}
@@ -29,7 +30,7 @@ put-head-requires c κs =
 
 loop-holds : tie.Need-loop-holds Inv-loop μ-loop
 loop-holds c =
-    fill-first _ _ _ (c .before .before .before .before .before .before .before .before .before .before .pre) _ (c .before .before .before .before .before .begin .ensures) _ (c .before .before .before .before .stand .ensures) _ _ _ (c .before .before .put-head .ensures)
+    fill-first _ _ _ (c .before .before .before .before .before .before .before .before .before .before .pre) _ (c .before .before .before .before .before .begin .ensures) _ (c .before .before .before .before .stand .ensures) _ _ _ (c .before .before .put-head .ensures _)
 
 blanks-end-requires : tie.Need-blanks-end-requires Inv-loop μ-loop
 blanks-end-requires c κs =
@@ -49,11 +50,11 @@ place-requires c κs =
 
 same-length : tie.Need-same-length Inv-loop μ-loop
 same-length c =
-    kept _ _ _ _ (c .before .before .place .ensures) ∙ fill-room _ _ _ (c .before .before .before .before .before .before .before .before .before .before .before .before .before .before .before .before .before .before .before .pre) _ _ _ _ _ (c .before .before .before .before .before .before .before .before .loop .inv) _ (c .before .before .before .before .before .before .before .blanks-end .ensures) ∙ c .before .before .before .before .before .before .before .before .before .before .before .put-head .ensures .long
+    kept _ _ _ _ (c .before .before .place .ensures) ∙ fill-room _ _ _ (c .before .before .before .before .before .before .before .before .before .before .before .before .before .before .before .before .before .before .before .pre) _ _ _ _ _ (c .before .before .before .before .before .before .before .before .loop .inv) _ (c .before .before .before .before .before .before .before .blanks-end .ensures) ∙ c .before .before .before .before .before .before .before .before .before .before .before .put-head .ensures house .long
 
 returns : tie.Need-returns Inv-loop μ-loop
 returns c =
-    fill-ends _ _ _ (c .before .before .before .before .before .before .before .before .before .before .before .before .before .before .before .before .before .before .before .pre) _ _ _ _ _ (c .before .before .before .before .before .before .before .before .loop .inv) _ (c .before .before .before .before .before .before .before .blanks-end .ensures) _ (c .before .before .before .before .before .before .is-close .ensures) (c .before .before .before .before .before .if1 .taken) (c .before .before .before .before .if2 .taken) _ (c .before .before .before .before .before .before .before .before .before .before .before .put-head .ensures) _ (c .before .before .place .ensures)
+    fill-ends _ _ _ (c .before .before .before .before .before .before .before .before .before .before .before .before .before .before .before .before .before .before .before .pre) _ _ _ _ _ (c .before .before .before .before .before .before .before .before .loop .inv) _ (c .before .before .before .before .before .before .before .blanks-end .ensures) _ (c .before .before .before .before .before .before .is-close .ensures) (c .before .before .before .before .before .if1 .taken) (c .before .before .before .before .if2 .taken) _ (c .before .before .before .before .before .before .before .before .before .before .before .put-head .ensures _) _ (c .before .before .place .ensures)
 
 cell-requires : tie.Need-cell-requires Inv-loop μ-loop
 cell-requires c κs =

@@ -18,7 +18,7 @@ same-length c = search needs
 
 returns : tie.Need-returns
 unfolding header bigEndian
-returns c = puts-pasted _ 0 _ 6 _ refl (c .before .before .copy .ensures)
+returns c = λ l. puts-pasted _ 0 _ 6 _ refl (c .before .before .copy .ensures)
 
 pub put-head-spec : {M : Type 1} → statement M
 put-head-spec = tie.close (tie.spec slice-aggregate-copy copy-requires same-length returns)

@@ -1,10 +1,10 @@
--- `reader::named` meets its contract. Assumes nothing.
+-- `front::named` meets its contract. Assumes nothing.
 use borrow.Author.Needs.{needs}
-use Rattle.image.proofs.reader.named.Statement.{statement}
-use Rattle.image.proofs.reader.named.Tie as tie
+use Rattle.reading.proofs.front.named.Statement.{statement}
+use Rattle.reading.proofs.front.named.Tie as tie
 use native.Mathlib.Omega.{arith}
 use borrow.Author.Needs.{needs}
-use Rattle.image.proofs.Heads.{short, not-k, not-t, last-letter}
+use Rattle.reading.proofs.Heads.{short, not-k, not-t, last-letter}
 
 returns : tie.Need-returns
 returns c =
