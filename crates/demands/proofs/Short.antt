@@ -20,6 +20,7 @@ use Rattle.xml.specs.Message.{Attrs, Parts, attrsOf, partsOf, rootAt}
 use Rattle.types.specs.Laws.{extra}
 use Rattle.walk.specs.Types.{Spelling}
 use Rattle.walk.specs.First.{textOf, currency, leafAttrs, isNone}
+use Rattle.walk.proofs.Attrs.{leaf-mean}
 use Rattle.walk.specs.Denotes.{plain, Spells as Holds, Denotes, Has}
 use Rattle.image.specs.Image.{Item, header, valueBytes, itemBytes, bytes, image}
 use Rattle.image.proofs.Heads.{header-length}
@@ -141,7 +142,7 @@ module _ (k : Kinds) (y : Spelling (k .types)) (l : Listing) (wf : WellFormed l)
   leaf-short (leaf f) t i m o v ok n g h s =
       omega (
         arith,
-        covered f t (λ e. n (ap leaf e)) g (s .1),
+        covered f t (λ e. n (ap leaf e)) g (leaf-mean (k .types) y f (attrsOf (t .attributes)) .1 (s .1)),
         short f (currency (attrsOf (t .attributes))) (render i) (textOf (partsOf o i)) v ok (leaf-text i m o h (s .0)) (s .2),
       )
 

@@ -7,7 +7,7 @@ use native.Mathlib.Decide.{ℕ-discrete}
 use Rattle.list.specs.Listing.{Listing, Child}
 use Rattle.list.specs.WellFormed.{WellFormed}
 use Rattle.list.specs.EachRow.{EachRow}
-use Rattle.list.proofs.Levels.{level-child, level-bound}
+use Rattle.list.proofs.Levels.{level-child}
 
 module _ (l : Listing) (w : WellFormed l) (p r : ℕ) (c : Child l p r) where
   pub each-row : EachRow l p r
@@ -19,8 +19,8 @@ module _ (l : Listing) (w : WellFormed l) (p r : ℕ) (c : Child l p r) where
     before = w .before p r c;
     filled = w .filled p r c;
     byte = omega (arith, c .last, w .bytes);
+    levels = w .levels r (c .last);
     deeper = level-child l w p r c;
-    levels = level-bound l w p r c .1;
     name = w .names p r c;
     apart = λ q d e. w .apart p r q c d e;
     counted = w .counted p r c;

@@ -5,7 +5,7 @@ use mathlib.Core.Logic.{_≢_, _⊎_}
 use Prim.Native.Nat.{ℕ, suc, _≤_, _<_}
 use Rattle.text.specs.Bytes.{isNameStart, isNamePart}
 use Rattle.text.specs.Lists.{Begins}
-use Rattle.list.specs.Listing.{group, choice, alternative, Listing, rowAt, Child, isGroup}
+use Rattle.list.specs.Listing.{group, choice, alternative, Listing, rowAt, Child, isGroup, up}
 use Rattle.list.specs.WellFormed.{KindOk}
 use Rattle.list.specs.Sound.{level}
 
@@ -17,8 +17,8 @@ pub record EachRow (l : Listing) (p r : ℕ) : Type 0 where
   pub filled : isGroup (rowAt l r .kind) ≡ true → (q : ℕ) × Child l r q
   -- "at most 255 rows and 16 levels"
   pub byte : r ≤ 255
+  pub levels : up l 16 r ≡ 0
   pub deeper : level l r ≡ suc (level l p)
-  pub levels : level l r ≤ 16
   -- "names by the XML rules below, different among siblings"
   pub name : Begins isNameStart isNamePart (rowAt l r .name)
   pub apart : (q : ℕ) → Child l p q → rowAt l r .name ≡ rowAt l q .name → r ≡ q

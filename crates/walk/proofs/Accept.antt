@@ -20,6 +20,7 @@ use Rattle.text.proofs.Classes.{and-is}
 use Rattle.list.proofs.Tests.{clash}
 use Rattle.list.proofs.Words.{same-eq, same-of}
 use Rattle.walk.proofs.Answers.{or-fine, if-no, only-yes, yes-only, group-attrs, attrs-group, kinds, some-of}
+use Rattle.walk.proofs.Attrs.{leaf-mean}
 use Rattle.list.proofs.Child.{child-found, child-is}
 use Rattle.walk.proofs.Tests.{no-child}
 use Rattle.walk.proofs.Steps.{Fits, Steps}
@@ -67,7 +68,7 @@ module _ (t : Types) (y : Spelling t) (l : Listing) (w : WellFormed l) where
   spells (leaf g) f ats i v e a b c =
       let z : g ≡ f = cc in
       let d : t .Spelt g (currency ats) (textOf i) v = y .sound g (currency ats) (textOf i) v (subst (λ x. t .spell x (currency ats) (textOf i) ≡ Option.some v) (sym z) c) in
-      ((a, b, d), y .is g (currency ats) (textOf i) v d)
+      ((a, leaf-mean t y g ats .0 b, d), y .is g (currency ats) (textOf i) v d)
 
   -- one element of row r, found good, and what follows it
   module _ (p : ℕ) (seen : List ℕ) (o : ℕ) (n : List ℕ) (ats : Attrs) (i k : Parts) (c : Child l p (child l p n)) (nm : rowAt l (child l p n) .name ≡ n)
@@ -150,7 +151,7 @@ module _ (t : Types) (y : Spelling t) (l : Listing) (w : WellFormed l) where
   leafy group r o ats rs i v h s = absurd s
   leafy choice r o ats rs i v h s = absurd s
   leafy (leaf f) r o ats rs i v h s =
-      record { attrs = s .1; plainly = s .0; noGroup = refl; shuts = rw (some-text f (currency ats) (textOf i) v h (s .2), y .complete f (currency ats) (textOf i) v h (s .2)) }
+      record { attrs = leaf-mean t y f ats .1 (s .1); plainly = s .0; noGroup = refl; shuts = rw (some-text f (currency ats) (textOf i) v h (s .2), y .complete f (currency ats) (textOf i) v h (s .2)) }
 
   record Back (p : ℕ) (seen : List ℕ) (i : Parts) (rs : List ℕ) : Type 0 where
     passes : inside t l p seen i ≡ fine

@@ -5,6 +5,8 @@ pub mod Answers
 pub mod Steps
 -- what it means that the tests of a tag find nothing
 pub mod Tests
+-- a leaf's attributes
+pub mod Attrs
 -- a flag for rules
 pub mod Rules
 -- no violation exactly when some content meets the list; one content

@@ -4,11 +4,11 @@ use mathlib.Core.Bool.{Bool, true, false}
 use mathlib.Core.List.{List, [], _∷_}
 use Prim.Native.Nat.{ℕ}
 use Rattle.text.specs.Bytes.{ascii, isBlank}
-use Rattle.list.specs.Listing.{Kind, group, choice, leaf, Listing, rowAt, Child, isGroup}
+use Rattle.list.specs.Listing.{Leaf, ref, iban, ccy, bool, num, amt, date, dtm, txt, enum, Kind, group, choice, leaf, Listing, rowAt, Child, isGroup}
 use Rattle.list.specs.Content.{Content, end, value, node}
 use Rattle.xml.specs.Message.{Attrs, Parts, none, char, element}
 use Rattle.walk.specs.Types.{Types}
-use Rattle.walk.specs.First.{textOf, currency, leafAttrs}
+use Rattle.walk.specs.First.{textOf, currency}
 
 -- no element stands in it
 abbrev pub plain : Parts → Bool
@@ -22,12 +22,26 @@ OneElement none = ⊥
 OneElement (char o x k) = ⊥
 OneElement (element o n ats i k) = k ≡ none
 
+-- "attributes .. exactly the type's": of an amount one, `Ccy`, "of type CCY"; of another leaf none
+module _ (t : Types) where
+  abbrev pub LeafAttrs : Leaf → Attrs → Type 0
+  LeafAttrs amt ats = (w : List ℕ) × (v : t .A) × (ats ≡ (ascii "Ccy", w) ∷ []) × t .Spelt ccy [] w v
+  LeafAttrs ref ats = ats ≡ []
+  LeafAttrs iban ats = ats ≡ []
+  LeafAttrs ccy ats = ats ≡ []
+  LeafAttrs bool ats = ats ≡ []
+  LeafAttrs num ats = ats ≡ []
+  LeafAttrs date ats = ats ≡ []
+  LeafAttrs dtm ats = ats ≡ []
+  LeafAttrs (txt k) ats = ats ≡ []
+  LeafAttrs (enum ws) ats = ats ≡ []
+
 module _ (t : Types) (l : Listing) where
   -- an element with these attributes and parts spells a leaf's value
   abbrev pub Spells : Kind → Attrs → Parts → t .A → Type 0
   Spells group ats i v = ⊥
   Spells choice ats i v = ⊥
-  Spells (leaf k) ats i v = (plain i ≡ true) × (leafAttrs t k ats ≡ true) × t .Spelt k (currency ats) (textOf i) v
+  Spells (leaf k) ats i v = (plain i ≡ true) × LeafAttrs t k ats × t .Spelt k (currency ats) (textOf i) v
 
   -- what stands in an element of row p, and the content that it is: blanks aside, elements that are children of p by their names
   abbrev pub Denotes : ℕ → Parts → Content (t .A) → Type 0

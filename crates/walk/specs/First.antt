@@ -4,6 +4,8 @@ use mathlib.Core.List.{List, [], _∷_}
 use mathlib.Core.Option.{Option}
 use Prim.Native.Nat.{ℕ}
 use lib.Dec.{eqb, ltb}
+use Rattle.answer.specs.declared.Answer.{Answer}
+use Rattle.answer.specs.Table as table
 use Rattle.text.specs.Bytes.{ascii, isBlank}
 use Rattle.text.specs.Lists.{same}
 use Rattle.list.specs.Words.{has, firstFrom}
@@ -20,6 +22,10 @@ pub data Found : Type 0 where
 abbrev pub if : Bool → ℕ → ℕ → ℕ → Found
 if true c r o = found c r o
 if false c r o = fine
+
+-- a line of document 01's table, where the test says so
+abbrev pub refuse : Bool → Answer → Found
+refuse b a = if b (a .code) (a .row) (a .place)
 
 -- "the first violation is the answer"
 abbrev pub orElse : Found → Found → Found
@@ -123,22 +129,22 @@ module _ (t : Types) (l : Listing) where
   -- being r (0: "not a child of its parent")
   abbrev pub opening : ℕ → List ℕ → ℕ → Attrs → ℕ → Found
   opening p seen r ats o = firstOf (
-      if (eqb r 0) 5 p o ∷
-      if (not (isChoice (kindOf l p)) && passed r seen) 6 r o ∷
-      if (over l (kindOf l p) seen r) 7 r o ∷
-      if (not (attrsOk t (kindOf l r) ats)) 9 r o ∷ [])
+      refuse (eqb r 0) (table.noChild p o) ∷
+      refuse (not (isChoice (kindOf l p)) && passed r seen) (table.outOfOrder r o) ∷
+      refuse (over l (kindOf l p) seen r) (table.tooMany r o) ∷
+      refuse (not (attrsOk t (kindOf l r) ats)) (table.wrongAttributes r o) ∷ [])
 
   -- "a closing tag 11, 8, 12, 13": of a group with children of the rows rs; of a leaf with the characters cs
   abbrev pub groupEnd : ℕ → ℕ → List ℕ → Found
   groupEnd r o rs = firstOf (
-      if (empty rs) 11 r o ∷
-      if (ltb 0 (absent l r rs)) 8 (absent l r rs) o ∷
-      if (breaks r rs (l .rules)) 13 r o ∷ [])
+      refuse (empty rs) (table.empty r o) ∷
+      refuse (ltb 0 (absent l r rs)) (table.absent (absent l r rs) o) ∷
+      refuse (breaks r rs (l .rules)) (table.ruleBroken r o) ∷ [])
 
   abbrev pub leafEnd : Leaf → ℕ → ℕ → Attrs → List ℕ → Found
   leafEnd k r o ats cs = firstOf (
-      if (empty cs) 11 r o ∷
-      if (isNone (t .spell k (currency ats) cs)) 12 r o ∷ [])
+      refuse (empty cs) (table.empty r o) ∷
+      refuse (isNone (t .spell k (currency ats) cs)) (table.badValue r o) ∷ [])
 
   abbrev pub closing : Kind → ℕ → ℕ → Attrs → List ℕ → List ℕ → Found
   closing group r o ats rs cs = groupEnd r o rs
@@ -148,7 +154,7 @@ module _ (t : Types) (l : Listing) where
   -- "the message is walked in document order": what stands in an element of row p, one part after the other; 10 is "non-blank text in a group"
   unfoldable pub inside : ℕ → List ℕ → Parts → Found
   inside p seen none = fine
-  inside p seen (char o x k) = firstOf (if (isGroup (kindOf l p) && not (isBlank x)) 10 p o ∷ inside p seen k ∷ [])
+  inside p seen (char o x k) = firstOf (refuse (isGroup (kindOf l p) && not (isBlank x)) (table.textInGroup p o) ∷ inside p seen k ∷ [])
   inside p seen (element o n ats i k) =
       let r = child l p n in firstOf (
       opening p seen r ats o ∷
@@ -161,6 +167,6 @@ module _ (t : Types) (l : Listing) where
   firstViolation none = fine
   firstViolation (char o x k) = fine
   firstViolation (element o n ats i k) = firstOf (
-      if (not (isRoot l n ats)) 4 1 o ∷
+      refuse (not (isRoot l n ats)) (table.wrongRoot o) ∷
       inside 1 [] i ∷
       closing (kindOf l 1) 1 o ats (childRows l 1 i) (textOf i) ∷ [])

@@ -1,0 +1,1 @@
+// For each value a text that spells it.
