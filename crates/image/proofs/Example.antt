@@ -2,9 +2,9 @@
 use mathlib.Core.Path.{_≡_, refl}
 use lib.ListN.{length}
 use Rattle.text.specs.Numbers.{bigEndian}
-use Rattle.characters.specs.Utf8.{encode}
+use Rattle.text_characters.specs.Utf8.{encode}
 use Rattle.list.specs.Listing.{rowAt}
-use Rattle.house.specs.House.{house}
+use Rattle.list_house.specs.House.{house}
 use Rattle.list.specs.Content.{items}
 use Rattle.image.specs.Image.{header, image}
 use Rattle.image.specs.Kinds.{values}

@@ -4,10 +4,10 @@ use Prim.Native.Nat.{ℕ, _≤_}
 use native.Mathlib.Omega.{arith}
 use lib.ListN.{length, length-append}
 use Rattle.text.specs.Numbers.{bigEndian}
-use Rattle.characters.specs.Utf8.{encodeAll}
+use Rattle.text_characters.specs.Utf8.{encodeAll}
 use Rattle.list.specs.Listing.{Leaf, ref, iban, ccy, bool, num, amt, date, dtm, txt, enum}
-use Rattle.types.specs.Value.{Value, text, IsValue, reference, writing, account, currency, bytes}
-use Rattle.types.proofs.Values.{value-laws}
+use Rattle.value.specs.Value.{Value, text, IsValue, reference, writing, account, currency, bytes}
+use Rattle.value.proofs.Values.{value-laws}
 use Rattle.image.specs.Image.{Lawful}
 use Rattle.image.specs.Kinds.{lengthBytes, values}
 

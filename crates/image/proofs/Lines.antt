@@ -11,7 +11,7 @@ use Rattle.list.specs.Table.{cell, countOf, kindOf, wordsIn, listOf}
 use Rattle.list.specs.Sound.{Sound}
 use Rattle.list.proofs.Codes.{choice-is}
 use Rattle.list.proofs.Rows.{size-is, parent-is, count-is, kind-is}
-use Rattle.stored.proofs.Numbered.{by-kind}
+use Rattle.value_from_bytes.proofs.Numbered.{by-kind}
 use Rattle.image.specs.Follow.{repeats}
 use Rattle.image.specs.Step.{isLeaf, again}
 use Rattle.image.proofs.Step.{Lines}

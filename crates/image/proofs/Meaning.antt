@@ -14,16 +14,16 @@ use Rattle.list.specs.WellFormed.{LeafOk, KindOk}
 use Rattle.list.specs.Table.{cell, kindOf, wordsIn, listOf}
 use Rattle.list.specs.Sound.{wordCount, Sound}
 use Rattle.list.proofs.Rows.{size-is, kind-is}
-use Rattle.types.specs.Value.{Value, IsValue, bytes}
+use Rattle.value.specs.Value.{Value, IsValue, bytes}
 use Rattle.image.specs.Image.{valueBytes}
 use Rattle.image.specs.Kinds.{lengthBytes, values}
 use Rattle.image.specs.Place.{Holds, Tells}
 use Rattle.image.specs.Pick.{Selects}
 use Rattle.image.specs.Follow.{OfKind, ItemOk}
 use Rattle.image.specs.Step.{isLeaf}
-use Rattle.stored.specs.Ends.{valueEnd}
-use Rattle.stored.proofs.Numbered.{by-kind}
-use Rattle.stored.proofs.Meaning.{end-none, end-some}
+use Rattle.value_from_bytes.specs.Ends.{valueEnd}
+use Rattle.value_from_bytes.proofs.Numbered.{by-kind}
+use Rattle.value_from_bytes.proofs.Meaning.{end-none, end-some}
 use Rattle.image.specs.Ends.{itemEnd}
 use Rattle.image.specs.Run.{Behind, headOf, Chooses}
 use Rattle.image.proofs.Rows.{well}

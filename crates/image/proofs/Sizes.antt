@@ -5,10 +5,10 @@ use mathlib.Core.List.{List}
 use Prim.Native.Nat.{ℕ, _+_}
 use lib.ListN.{length}
 use Rattle.text.specs.Numbers.{bigEndian}
-use Rattle.characters.specs.Utf8.{encodeAll}
+use Rattle.text_characters.specs.Utf8.{encodeAll}
 use Rattle.list.specs.Listing.{amt}
-use Rattle.types.proofs.Values.{text-bytes, money-bytes, day-bytes, moment-bytes}
-use Rattle.types.specs.Value.{Value, text, place, truth, natural, day, moment, IsValue, money, bytes}
+use Rattle.value.proofs.Values.{text-bytes, money-bytes, day-bytes, moment-bytes}
+use Rattle.value.specs.Value.{Value, text, place, truth, natural, day, moment, IsValue, money, bytes}
 
 -- a text's own bytes stand behind the two of its length; the other kinds have as many bytes as docs/IMAGE.md says, whatever the value
 pub record Sizes : Type 0 where

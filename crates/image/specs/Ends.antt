@@ -3,7 +3,7 @@ use mathlib.Core.Bool.{cond}
 use mathlib.Core.List.{List}
 use Prim.Native.Nat.{ℕ}
 use Rattle.list.specs.Table.{cell}
-use Rattle.stored.specs.Ends.{valueEnd}
+use Rattle.value_from_bytes.specs.Ends.{valueEnd}
 use Rattle.image.specs.Step.{isLeaf}
 
 -- behind the row byte of row x, at i: a group's item ends there, a leaf's behind its value; 0 where no value stands there

@@ -5,7 +5,7 @@ use lib.ListN.{length}
 use Rattle.text.specs.Bytes.{ascii}
 use Rattle.list.specs.Listing.{Listing}
 use Rattle.list.specs.Content.{Content, end, value, node}
-use Rattle.types.specs.Value.{Value, text, place, amount, day, moment}
+use Rattle.value.specs.Value.{Value, text, place, amount, day, moment}
 use Rattle.image.specs.Image.{Item, itemBytes}
 use Rattle.image.specs.Kinds.{values}
 

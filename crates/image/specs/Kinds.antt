@@ -1,7 +1,7 @@
 -- The values of document 01's types, as images have them. Assumes nothing.
 use Prim.Native.Nat.{ℕ}
 use Rattle.list.specs.Listing.{Leaf, ref, iban, ccy, bool, num, amt, date, dtm, txt, enum}
-use Rattle.types.specs.Value.{Value, IsValue, bytes}
+use Rattle.value.specs.Value.{Value, IsValue, bytes}
 use Rattle.image.specs.Image.{Values}
 
 -- "REF, TXT, IBAN, CCY: 16-bit byte length": two bytes before the value's own

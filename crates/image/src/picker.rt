@@ -5,7 +5,7 @@ use crate::reader::wide;
 use answer::Answer;
 use list::lookup::cell;
 use list::table::KIND;
-use types::blanks::part_of;
+use value::blanks::part_of;
 ghost use mathlib.Core.Path.{_≡_};
 ghost use Rattle.image.specs.Ends.{itemEnd};
 ghost use Rattle.image.specs.Run.{Comes, headOf, hunt, Finds, Answered, Handed};

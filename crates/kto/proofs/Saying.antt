@@ -9,10 +9,10 @@ use Rattle.io.specs.Counts.{Counts}
 use Rattle.text.specs.Pasting.{pasted}
 use Rattle.text.proofs.Pasting.{length-pasted}
 use Rattle.answer.specs.declared.Answer.{Answer}
-use Rattle.line.specs.Line.{refusal}
-use Rattle.line.proofs.Lines.{taken-out, counts}
-use Rattle.reading.specs.Reads.{HouseReads}
-use Rattle.demands.specs.Checks.{Checks}
+use Rattle.program_line.specs.Line.{refusal}
+use Rattle.program_line.proofs.Lines.{taken-out, counts}
+use Rattle.image_reading.specs.Reads.{HouseReads}
+use Rattle.file.specs.Checks.{Checks}
 use Rattle.unit.proofs.Programs.{place-fits, reads-back, rooms-alike}
 use Rattle.kto.specs.Says.{most, Says, longer, refused, written}
 use Rattle.kto.specs.Answered.{Answered, over, within}

@@ -5,8 +5,8 @@ use Prim.Native.Nat.{ℕ, _≤_, _<_}
 use lib.ListN.{length, take}
 use Rattle.answer.specs.declared.Answer.{Answer}
 use Rattle.answer.specs.Table.{answer}
-use Rattle.reading.specs.Reads.{HouseReads}
-use Rattle.demands.specs.Checks.{Checks}
+use Rattle.image_reading.specs.Reads.{HouseReads}
+use Rattle.file.specs.Checks.{Checks}
 use Rattle.kto.specs.Says.{most}
 
 -- the buffer d before and d′ after

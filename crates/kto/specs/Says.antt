@@ -6,9 +6,9 @@ use Prim.Native.Nat.{ℕ, _≤_, _<_}
 use lib.ListN.{length, take}
 use Rattle.answer.specs.declared.Answer.{Answer}
 use Rattle.answer.specs.Table.{answer}
-use Rattle.line.specs.Line.{refusal}
-use Rattle.reading.specs.Reads.{HouseReads}
-use Rattle.demands.specs.Checks.{Checks}
+use Rattle.program_line.specs.Line.{refusal}
+use Rattle.image_reading.specs.Reads.{HouseReads}
+use Rattle.file.specs.Checks.{Checks}
 
 -- "The program reads at most 65,536 bytes"
 abbrev pub most : ℕ

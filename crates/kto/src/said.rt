@@ -1,6 +1,6 @@
 // What the program writes: the image of a good file, read back before it is written, or one line.
 use answer::Answer;
-use line::answer_line::put_refusal;
+use program_line::answer_line::put_refusal;
 use unit::check::check;
 use unit::read::read;
 ghost use mathlib.Core.Path.{_≡_};

@@ -10,14 +10,14 @@ use lib.ListN.{length, take, drop, length-take}
 use borrow.Author.Tests.{le-leb, eq-eqb, ne-eqb, eqb-true}
 use Rattle.answer.specs.declared.Answer.{Answer}
 use Rattle.answer.specs.Table.{limit}
-use Rattle.reading.proofs.House.{house-reads-one, house-picks-one}
-use Rattle.demands.specs.Checks.{Checks}
+use Rattle.image_reading.proofs.House.{house-reads-one, house-picks-one}
+use Rattle.file.specs.Checks.{Checks}
 use Rattle.unit.proofs.Programs.{rooms-alike}
-use Rattle.feed.specs.declared.case.Case.{Case}
-use Rattle.feed.specs.declared.case.Case.the-variants.{Check, Read, Pick, Broken}
-use Rattle.feed.specs.Cases.{longest, caseOf, sizeOf, caseIn, bytesIn}
-use Rattle.feed.specs.Reply.{answerLine, Put}
-use Rattle.feed.proofs.Heads.{whole, Kept, kept}
+use Rattle.program_feed.specs.declared.case.Case.{Case}
+use Rattle.program_feed.specs.declared.case.Case.the-variants.{Check, Read, Pick, Broken}
+use Rattle.program_feed.specs.Cases.{longest, caseOf, sizeOf, caseIn, bytesIn}
+use Rattle.program_feed.specs.Reply.{answerLine, Put}
+use Rattle.program_feed.proofs.Heads.{whole, Kept, kept}
 use Rattle.replay.specs.Replies.{imageIn, Checked, Measured, Picked, Replies, checked, measured, picked, broken}
 
 -- ---- a check

@@ -6,12 +6,12 @@ use Prim.Native.Nat.{ℕ}
 use lib.Dec.{eqb}
 use lib.ListN.{length, take}
 use Rattle.answer.specs.declared.Answer.{Answer}
-use Rattle.reading.specs.Reads.{HouseReads, HousePicks}
-use Rattle.demands.specs.Checks.{Checks}
-use Rattle.feed.specs.declared.case.Case.{Case}
-use Rattle.feed.specs.declared.case.Case.the-variants.{Check, Read, Pick, Broken}
-use Rattle.feed.specs.Cases.{caseIn, bytesIn}
-use Rattle.feed.specs.Reply.{answerLine, brokenLine}
+use Rattle.image_reading.specs.Reads.{HouseReads, HousePicks}
+use Rattle.file.specs.Checks.{Checks}
+use Rattle.program_feed.specs.declared.case.Case.{Case}
+use Rattle.program_feed.specs.declared.case.Case.the-variants.{Check, Read, Pick, Broken}
+use Rattle.program_feed.specs.Cases.{caseIn, bytesIn}
+use Rattle.program_feed.specs.Reply.{answerLine, brokenLine}
 
 -- "HEX is the image of an accepted check .. else nothing": the buffer's first bytes, as many as the answer says
 abbrev pub imageIn : Answer → List ℕ → List ℕ

@@ -1,12 +1,12 @@
 // Answers a feed of cases from standard input, with a line for each to standard output.
 mod reply; // reply.rt: the line for a case, computed on slices
 
-use feed::case::Case;
-use feed::case::case_in;
-use feed::case::case_of;
-use feed::case::size_of;
 use libc::STDIN_FILENO;
 use libc::STDOUT_FILENO;
+use program_feed::case::Case;
+use program_feed::case::case_in;
+use program_feed::case::case_of;
+use program_feed::case::size_of;
 use reply::reply;
 ghost use mathlib.Core.Path.{_≡_};
 ghost use Prim.Native.Nat.{_+_, _≤_};

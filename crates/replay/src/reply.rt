@@ -1,10 +1,10 @@
 // The line for a case, computed on slices.
 use answer::Answer;
-use feed::case::Case;
-use feed::case::HEAD;
-use feed::case::case_in;
-use feed::reply::put_answer;
-use feed::reply::put_broken;
+use program_feed::case::Case;
+use program_feed::case::HEAD;
+use program_feed::case::case_in;
+use program_feed::reply::put_answer;
+use program_feed::reply::put_broken;
 use unit::check::check;
 use unit::pick::pick;
 use unit::pick::picked;
@@ -13,8 +13,8 @@ ghost use mathlib.Core.Path.{_≡_};
 ghost use Prim.Native.Nat.{_+_, _≤_};
 ghost use lib.ListN.{length, take};
 ghost use Rattle.io.specs.Counts.{Counts};
-ghost use Rattle.feed.specs.Cases.{bytesIn};
-ghost use Rattle.feed.specs.Reply.{answerLine};
+ghost use Rattle.program_feed.specs.Cases.{bytesIn};
+ghost use Rattle.program_feed.specs.Reply.{answerLine};
 ghost use Rattle.replay.specs.Replies.{Checked, Measured, Picked, Replies};
 
 // The line of an answer and the first n bytes of s, put to the start of a buffer that holds any such; how many bytes it is.

@@ -12,19 +12,19 @@ use Rattle.text.proofs.Pasting.{pasted-yes}
 use Rattle.list.specs.Listing.{Listing}
 use Rattle.list.specs.Table.{listOf}
 use Rattle.list.specs.Content.{Content}
-use Rattle.house.specs.House.{house}
-use Rattle.house.specs.HouseTable.{houseRows, housePool}
-use Rattle.house.proofs.HouseSound.{house-well}
-use Rattle.types.specs.Value.{Value}
-use Rattle.demands.specs.Instance.{houseKinds}
-use Rattle.demands.specs.File.{File, imageOf}
-use Rattle.demands.specs.Checks.{Checks, Finds, long, bytes, markup, violation, room, image}
-use Rattle.demands.proofs.One.{file-fine}
-use Rattle.demands.proofs.House.{spelling, image-no-longer}
-use Rattle.demands.proofs.Accepted.{Taken, taken}
-use Rattle.measure.specs.Measured.{Faultless}
-use Rattle.measure.specs.Pass.{Ready}
-use Rattle.measure.proofs.Saying.{list-is, house-ready}
+use Rattle.list_house.specs.House.{house}
+use Rattle.list_house.specs.HouseTable.{houseRows, housePool}
+use Rattle.list_house.proofs.HouseSound.{house-well}
+use Rattle.value.specs.Value.{Value}
+use Rattle.file.specs.Instance.{houseKinds}
+use Rattle.file.specs.File.{File, imageOf}
+use Rattle.file.specs.Checks.{Checks, Finds, long, bytes, markup, violation, room, image}
+use Rattle.file.proofs.One.{file-fine}
+use Rattle.file.proofs.House.{spelling, image-no-longer}
+use Rattle.file.proofs.Accepted.{Taken, taken}
+use Rattle.file_measure.specs.Measured.{Faultless}
+use Rattle.file_measure.specs.Pass.{Ready}
+use Rattle.file_measure.proofs.Saying.{list-is, house-ready}
 use Rattle.unit.specs.Fill.{FilledIn}
 
 -- a list written at the start of a buffer that it fits in

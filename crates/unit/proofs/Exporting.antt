@@ -7,8 +7,8 @@ use lib.Seq.{slice}
 use Rattle.answer.specs.declared.Answer.{Answer}
 use Rattle.answer.specs.Table.{answer}
 use Rattle.image.specs.Place.{over, foreign, version, broken, whole}
-use Rattle.reading.specs.Reads.{HouseReads, HousePicks, HouseAnswers, HouseHands}
-use Rattle.reading.proofs.House.{house-picks-one}
+use Rattle.image_reading.specs.Reads.{HouseReads, HousePicks, HouseAnswers, HouseHands}
+use Rattle.image_reading.proofs.House.{house-picks-one}
 use Rattle.unit.specs.Exports.{PicksAt}
 use Rattle.unit.proofs.Picking.{part-there, picks-both}
 

@@ -12,7 +12,7 @@ use borrow.Author.Tests.{lt-ltb}
 use Rattle.text.specs.Bytes.{isBlank}
 use Rattle.text.specs.Lists.{span}
 use Rattle.text.specs.Pasting.{pasted}
-use Rattle.characters.specs.Pieces.{less, greater, solidus}
+use Rattle.text_characters.specs.Pieces.{less, greater, solidus}
 use Rattle.list.specs.Listing.{Listing, rowAt, size, Child, child, isGroup}
 use Rattle.list.specs.Table.{cell, listOf}
 use Rattle.list.specs.Sound.{Sound}
@@ -20,35 +20,35 @@ use Rattle.list.proofs.Along.{child-along}
 use Rattle.list.proofs.Rows.{size-is, parent-is}
 use Rattle.xml.specs.House.{HouseXml}
 use Rattle.xml.specs.Message.{messageOf}
-use Rattle.tags.specs.declared.token.Kind.the-variants.{Close}
-use Rattle.tags.specs.declared.token.Token.{Token}
-use Rattle.tags.specs.Passing.{but, headIs, behind}
-use Rattle.tags.specs.Tokens.{openAt}
-use Rattle.tags.specs.Story.{tokenIn}
-use Rattle.walk.specs.declared.verdict.Verdict.{Verdict}
-use Rattle.walk.specs.declared.step.Here.{Here}
-use Rattle.walk.specs.declared.step.Met.the-variants.{Opened, Closed, Refused}
-use Rattle.walk.specs.declared.step.Turn.{Turn}
-use Rattle.walk.specs.Types.{Types, Spelling}
-use Rattle.walk.specs.First.{fine, found, firstViolation}
-use Rattle.walk.specs.Machine.{advance}
-use Rattle.walk.specs.Tables.{isGroupIn, levels}
-use Rattle.walk.specs.Stride.{rowIn, inner, stepIn, stackIn}
-use Rattle.walk.specs.Begin.{beginIn}
-use Rattle.walk.proofs.Sound.{Placed, group-in}
-use Rattle.walk.proofs.Own.{Coins}
-use Rattle.walk.proofs.Beginning.{first-is}
-use Rattle.walk.proofs.Turned.{Nested, Enters, Leaves, refused, opened, closed, whole, Starts, denied, starts, finds}
-use Rattle.walk.proofs.Known.{less-is, is-open, close-end, blanks-less, Went, known, there, by-close, by-open, opened-here, closed-here}
+use Rattle.xml_tags.specs.declared.token.Kind.the-variants.{Close}
+use Rattle.xml_tags.specs.declared.token.Token.{Token}
+use Rattle.xml_tags.specs.Passing.{but, headIs, behind}
+use Rattle.xml_tags.specs.Tokens.{openAt}
+use Rattle.xml_tags.specs.Story.{tokenIn}
+use Rattle.file_walk.specs.declared.verdict.Verdict.{Verdict}
+use Rattle.file_walk.specs.declared.step.Here.{Here}
+use Rattle.file_walk.specs.declared.step.Met.the-variants.{Opened, Closed, Refused}
+use Rattle.file_walk.specs.declared.step.Turn.{Turn}
+use Rattle.file_walk.specs.Types.{Types, Spelling}
+use Rattle.file_walk.specs.First.{fine, found, firstViolation}
+use Rattle.file_walk.specs.Machine.{advance}
+use Rattle.file_walk.specs.Tables.{isGroupIn, levels}
+use Rattle.file_walk.specs.Stride.{rowIn, inner, stepIn, stackIn}
+use Rattle.file_walk.specs.Begin.{beginIn}
+use Rattle.file_walk.proofs.Sound.{Placed, group-in}
+use Rattle.file_walk.proofs.Own.{Coins}
+use Rattle.file_walk.proofs.Beginning.{first-is}
+use Rattle.file_walk.proofs.Turned.{Nested, Enters, Leaves, refused, opened, closed, whole, Starts, denied, starts, finds}
+use Rattle.file_walk.proofs.Known.{less-is, is-open, close-end, blanks-less, Went, known, there, by-close, by-open, opened-here, closed-here}
 use Rattle.image.specs.Image.{header}
-use Rattle.demands.specs.Instance.{Kinds}
+use Rattle.file.specs.Instance.{Kinds}
 use Rattle.unit.specs.declared.fill.Spot.{Spot}
-use Rattle.measure.specs.Measured.{verdict}
-use Rattle.measure.specs.Pass.{Puts, Shuts, Passes, violates, holds}
+use Rattle.file_measure.specs.Measured.{verdict}
+use Rattle.file_measure.specs.Pass.{Puts, Shuts, Passes, violates, holds}
 use Rattle.unit.specs.Fill.{spotAt, Comes}
-use Rattle.measure.proofs.Leaf.{opens-group, opens-leaf, shuts-group}
-use Rattle.demands.proofs.One.{fine-found}
-use Rattle.measure.proofs.Going.{isRefused, apart, Going, begun, goes-first, at-most, steps, step-enters, step-leaves, step-ends, goes-in, goes-out, bad-value, ends-in}
+use Rattle.file_measure.proofs.Leaf.{opens-group, opens-leaf, shuts-group}
+use Rattle.file.proofs.One.{fine-found}
+use Rattle.file_measure.proofs.Going.{isRefused, apart, Going, begun, goes-first, at-most, steps, step-enters, step-leaves, step-ends, goes-in, goes-out, bad-value, ends-in}
 
 -- a stack to begin with: the walk asks of it only that it has room
 room : List ℕ

@@ -10,28 +10,28 @@ use lib.Seq.{slice}
 use Rattle.text.specs.Bytes.{isBlank}
 use Rattle.text.specs.Lists.{span}
 use Rattle.text.specs.Pasting.{pasted}
-use Rattle.characters.specs.Pieces.{less, greater, solidus}
+use Rattle.text_characters.specs.Pieces.{less, greater, solidus}
 use Rattle.list.specs.Table.{cell, listOf}
 use Rattle.list.specs.Listing.{child}
 use Rattle.list.specs.Sound.{Sound}
 use Rattle.xml.specs.House.{HouseXml}
-use Rattle.tags.specs.declared.token.Token.{Token}
-use Rattle.tags.specs.Passing.{but, headIs, behind}
-use Rattle.tags.specs.Tokens.{openAt}
-use Rattle.walk.specs.declared.step.Turn.{Turn}
-use Rattle.tags.specs.declared.skim.Tag.{Tag}
-use Rattle.tags.specs.Skimmed.{tagOf}
-use Rattle.walk.specs.Tables.{isGroupIn}
-use Rattle.walk.specs.Begin.{beginIn}
+use Rattle.xml_tags.specs.declared.token.Token.{Token}
+use Rattle.xml_tags.specs.Passing.{but, headIs, behind}
+use Rattle.xml_tags.specs.Tokens.{openAt}
+use Rattle.file_walk.specs.declared.step.Turn.{Turn}
+use Rattle.xml_tags.specs.declared.skim.Tag.{Tag}
+use Rattle.xml_tags.specs.Skimmed.{tagOf}
+use Rattle.file_walk.specs.Tables.{isGroupIn}
+use Rattle.file_walk.specs.Begin.{beginIn}
 use Rattle.image.specs.Image.{header}
-use Rattle.demands.specs.Instance.{houseKinds}
-use Rattle.demands.proofs.House.{spelling}
+use Rattle.file.specs.Instance.{houseKinds}
+use Rattle.file.proofs.House.{spelling}
 use Rattle.unit.specs.declared.fill.Spot.{Spot}
-use Rattle.measure.specs.Measured.{verdict, Faultless}
-use Rattle.measure.specs.Pass.{Puts, Shuts, Ready}
+use Rattle.file_measure.specs.Measured.{verdict, Faultless}
+use Rattle.file_measure.specs.Pass.{Puts, Shuts, Ready}
 use Rattle.unit.specs.Fill.{spotAt, Comes, FilledIn}
-use Rattle.measure.proofs.Coin.{coins}
-use Rattle.measure.proofs.End.{filled-of}
+use Rattle.file_measure.proofs.Coin.{coins}
+use Rattle.file_measure.proofs.End.{filled-of}
 use Rattle.unit.proofs.FillGoing.{Writing, first-spot, tag-in, place-low, same-room, spot-ends, out-less, spot-out, comes, row-low, in-less, spot-in, close-in, leaf-less, spot-past}
 
 module _ (t pool s : List ℕ) where

@@ -9,8 +9,8 @@ use Rattle.answer.specs.declared.Answer.{Answer}
 use Rattle.text.proofs.Parts.{part-length}
 use Rattle.image.specs.Kinds.{values}
 use Rattle.image.proofs.There.{picks-there}
-use Rattle.reading.specs.Reads.{stored, HousePicks, HouseAnswers, HouseHands}
-use Rattle.reading.proofs.House.{house-picks-one}
+use Rattle.image_reading.specs.Reads.{stored, HousePicks, HouseAnswers, HouseHands}
+use Rattle.image_reading.proofs.House.{house-picks-one}
 
 module _ (run : List ℕ) (r n : ℕ) (a : Answer) (part : List ℕ) where
   -- the part stands where the answer says

@@ -8,14 +8,14 @@ use lib.Seq.{take-append-seam}
 use Rattle.answer.specs.declared.Answer.{Answer}
 use Rattle.answer.specs.Table.{accepted}
 use Rattle.list.specs.Content.{Content}
-use Rattle.house.specs.House.{house}
-use Rattle.types.specs.Value.{Value}
-use Rattle.reading.specs.Reads.{HouseReads}
-use Rattle.reading.proofs.House.{house-reads-one}
-use Rattle.demands.specs.Instance.{houseKinds}
-use Rattle.demands.specs.File.{imageOf}
-use Rattle.demands.specs.Checks.{long, bytes, markup, violation, room, image, Checks}
-use Rattle.demands.proofs.House.{checks-one, accepted-exactly, accepted-image, read-back}
+use Rattle.list_house.specs.House.{house}
+use Rattle.value.specs.Value.{Value}
+use Rattle.image_reading.specs.Reads.{HouseReads}
+use Rattle.image_reading.proofs.House.{house-reads-one}
+use Rattle.file.specs.Instance.{houseKinds}
+use Rattle.file.specs.File.{imageOf}
+use Rattle.file.specs.Checks.{long, bytes, markup, violation, room, image, Checks}
+use Rattle.file.proofs.House.{checks-one, accepted-exactly, accepted-image, read-back}
 
 module _ (s d : List ℕ) (a : Answer) (d′ : List ℕ) where
   pub place-fits : Checks s d a d′ → a .code ≡ 0 → a .place ≤ length d

@@ -5,7 +5,7 @@ use Prim.Native.Nat.{ℕ, _+_}
 use lib.ListN.{length}
 use lib.Seq.{slice}
 use Rattle.answer.specs.Table.{answer}
-use Rattle.reading.specs.Reads.{HousePicks}
+use Rattle.image_reading.specs.Reads.{HousePicks}
 
 -- a pick without its row, which is the asked one or 0: "It hands back that part of the lent image itself", `size` bytes of the run from `place` on.
 -- "every refusal hands back an empty part": then `size` is 0

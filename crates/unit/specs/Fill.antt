@@ -12,10 +12,10 @@ use Rattle.list.specs.Content.{Content}
 use Rattle.list.specs.Table.{cell, listOf}
 use Rattle.list.specs.Sound.{Sound}
 use Rattle.image.specs.Image.{header}
-use Rattle.demands.specs.Instance.{Kinds}
-use Rattle.demands.specs.File.{imageOf}
-use Rattle.measure.specs.Measured.{Message}
-use Rattle.measure.specs.Pass.{Puts}
+use Rattle.file.specs.Instance.{Kinds}
+use Rattle.file.specs.File.{imageOf}
+use Rattle.file_measure.specs.Measured.{Message}
+use Rattle.file_measure.specs.Pass.{Puts}
 use Rattle.unit.specs.declared.fill.Spot.{Spot}
 
 -- the header of an image, whatever its list, and the root's row byte, at the start of a buffer

@@ -1,10 +1,10 @@
 // The entry for files: a statement file in, its image out, or the one answer that says why there is none.
 use crate::fill::fill;
 use answer::Answer;
-use house::tables::pool;
-use house::tables::rows;
-use measure::measure;
-ghost use Rattle.demands.specs.Checks.{Checks};
+use file_measure::measure;
+use list_house::tables::pool;
+use list_house::tables::rows;
+ghost use Rattle.file.specs.Checks.{Checks};
 
 // A file is measured first, so that a byte is written only where the whole image fits.
 pub fn check(input: &[u8], out: &mut [u8]) -> Answer

@@ -5,8 +5,8 @@ use crate::pick::picked;
 use crate::read::read;
 use answer::Answer;
 ghost use Rattle.answer.specs.Table.{answer};
-ghost use Rattle.reading.specs.Reads.{HouseReads};
-ghost use Rattle.demands.specs.Checks.{Checks};
+ghost use Rattle.image_reading.specs.Reads.{HouseReads};
+ghost use Rattle.file.specs.Checks.{Checks};
 ghost use Rattle.unit.specs.Exports.{PicksAt};
 
 #[no_mangle]

@@ -1,5 +1,7 @@
 // The image of a message that is known to have no violation. No tag is tested again: a name says its row, and the table which row is around. Values are judged once more, by the writer.
 
+use file_walk::begin::begin;
+use file_walk::tag::is_group;
 use list::lookup::cell;
 use list::lookup::is_name;
 use list::table::CHILD;
@@ -9,27 +11,25 @@ use list::table::MOST;
 use list::table::PARENT;
 use list::table::SIBLING;
 use list::word::word_byte;
-use tags::skim::Tag;
-use tags::skim::close_end;
-use tags::skim::is_close;
-use tags::skim::tag_at;
-use tags::skim::text_end;
 use text::number::copy;
 use text::span::blanks_end;
-use walk::begin::begin;
-use walk::tag::is_group;
-use written::place::place;
-use written::write::write;
+use value_to_bytes::place::place;
+use value_to_bytes::write::write;
+use xml_tags::skim::Tag;
+use xml_tags::skim::close_end;
+use xml_tags::skim::is_close;
+use xml_tags::skim::tag_at;
+use xml_tags::skim::text_end;
 ghost use mathlib.Core.Path.{_≡_};
 ghost use mathlib.Core.Bool.{false};
 ghost use Prim.Native.Nat.{_≤_};
 ghost use lib.Seq.{slice};
 ghost use Rattle.list.specs.Listing.{child};
 ghost use Rattle.list.specs.Table.{cell, wordsIn, listOf};
-ghost use Rattle.walk.specs.Tables.{isGroupIn};
-ghost use Rattle.demands.specs.Instance.{houseKinds};
-ghost use Rattle.measure.specs.Measured.{Faultless};
-ghost use Rattle.measure.specs.Pass.{Worded, Valued, Shuts, Ready};
+ghost use Rattle.file_walk.specs.Tables.{isGroupIn};
+ghost use Rattle.file.specs.Instance.{houseKinds};
+ghost use Rattle.file_measure.specs.Measured.{Faultless};
+ghost use Rattle.file_measure.specs.Pass.{Worded, Valued, Shuts, Ready};
 ghost use Rattle.unit.specs.Fill.{Headed, spotAt, roundIn, Comes, FilledIn};
 
 // `KTO`, version 1 in 16 bits, and the root's row byte.

@@ -1,17 +1,17 @@
 // The entry for values: the n-th leaf, from 0, of a row in the image that a run begins with.
 use answer::Answer;
-ghost use Rattle.reading.specs.Reads.{HouseAnswers, HouseHands};
+ghost use Rattle.image_reading.specs.Reads.{HouseAnswers, HouseHands};
 
 // Its row, and where its part of the run begins; or why there is none.
 pub fn pick(run: &[u8], row: usize, n: usize) -> Answer
     ensures { λ a. ⌜ HouseAnswers (now (run .entry)) row n a ⌝ }
 {
-    reading::first::pick(run, row, n)
+    image_reading::first::pick(run, row, n)
 }
 
 // That part itself, without row byte and length; empty where `pick` refuses.
 pub fn picked<'a>(run: &'a [u8], row: usize, n: usize) -> &'a [u8]
     ensures { λ s. ⌜ HouseHands (now (run .entry)) row n (now s) ⌝ }
 {
-    reading::first::picked(run, row, n)
+    image_reading::first::picked(run, row, n)
 }

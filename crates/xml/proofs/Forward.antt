@@ -9,7 +9,7 @@ use lib.Dec.{leb, eqb}
 use borrow.Author.Tests.{eq-eqb, ne-eqb}
 use Rattle.text.specs.Bytes.{isBlank, isNameStart, isNamePart}
 use Rattle.text.specs.Lists.{All}
-use Rattle.characters.specs.Pieces.{Piece, char, spell}
+use Rattle.text_characters.specs.Pieces.{Piece, char, spell}
 use Rattle.xml.specs.House.{Blanks, SomeBlanks, IsName, Quote, single, double, mark, GoodValue, Attr, GoodAttr, Fresh, GoodAttrs, Tag, GoodTag, Content, end, piece, empty, full, OneElement, declaration}
 use Rattle.xml.proofs.Runs.{cuts, brackets, GoodAfter}
 use Rattle.xml.specs.Auto.{Part, Read, bad, all, more, lead, go-on, takes, At, done, start, first, before, root, name, tail, gap, attr, equals, quote, value, within, slash, content, part, less, close, St, at, member, after, endStep, valueNext, contentNext, next, step, run}

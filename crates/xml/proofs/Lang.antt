@@ -7,9 +7,9 @@ use native.Mathlib.Omega.{arith}
 use lib.Dec.{leb, eqb}
 use borrow.Author.Tests.{eqb-true, eqb-false, eq-eqb}
 use Rattle.text.specs.Bytes.{ascii, isBlank, isNameStart, isNamePart}
-use Rattle.characters.specs.Utf8.{encode}
+use Rattle.text_characters.specs.Utf8.{encode}
 use Rattle.text.specs.Lists.{All}
-use Rattle.characters.specs.Pieces.{Piece, char, spell}
+use Rattle.text_characters.specs.Pieces.{Piece, char, spell}
 use Rattle.xml.specs.House.{Blanks, Quote, single, double, mark, GoodValue, Attr, Fresh, GoodAttrs, Tag, GoodTag, Content, end, piece, empty, full, declaration}
 use Rattle.xml.proofs.Runs.{cuts, brackets, GoodAfter}
 use Rattle.xml.specs.Auto.{Part, one, two, three, e0, ed, ef, efbf, f0, f4, ampersand, ampersandA, rest, Read, bad, all, more, toWord, lead, go-on, takes, At, done, start, first, before, root, declare, name, tail, gap, attr, equals, quote, value, within, slash, content, part, less, close, St, dead, at, member, after, tailStep, endStep, gapStep, equalsStep, valueNext, contentNext, push, closeStep, declareNext, next}

@@ -8,11 +8,11 @@ use native.Mathlib.Omega.{arith}
 use lib.Dec.{leb, ltb, eqb}
 use borrow.Author.Tests.{lt-ltb, le-ltb, le-leb, ne-eqb, ltb-true, ltb-false, leb-true, eqb-true, eqb-false}
 use Rattle.text.specs.Bytes.{ascii, inRange}
-use Rattle.characters.specs.Pieces.{XmlChar, tab, line, return, low, middle, high}
-use Rattle.characters.specs.Utf8.{encode}
+use Rattle.text_characters.specs.Pieces.{XmlChar, tab, line, return, low, middle, high}
+use Rattle.text_characters.specs.Utf8.{encode}
 use Rattle.text.proofs.Classes.{in-range, in-range-is}
-use Rattle.characters.proofs.Decoding.{encode1, encode2, encode3, encode4}
-use Rattle.characters.specs.Pieces.{Entity, amp, lt, gt, quot, apos, word, Piece, char, entity, spell, GoodPiece}
+use Rattle.text_characters.proofs.Decoding.{encode1, encode2, encode3, encode4}
+use Rattle.text_characters.specs.Pieces.{Entity, amp, lt, gt, quot, apos, word, Piece, char, entity, spell, GoodPiece}
 use Rattle.xml.proofs.Runs.{cuts, brackets}
 use Rattle.xml.specs.Auto.{Part, one, two, three, e0, ed, ef, efbf, f0, f4, ampersand, ampersandA, Read, bad, all, more, toWord, long, lead, takes}
 

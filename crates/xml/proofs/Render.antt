@@ -2,7 +2,7 @@
 use mathlib.Core.Path.{_≡_, refl, _∙_, ap}
 use mathlib.Core.List.{List, [], _∷_, _++_, append-assoc}
 use Prim.Native.Nat.{ℕ}
-use Rattle.characters.specs.Pieces.{Piece, spell, spells}
+use Rattle.text_characters.specs.Pieces.{Piece, spell, spells}
 use Rattle.xml.specs.House.{mark, Attr, attr, attrs, Tag, tag, Content, end, piece, empty, full, render}
 use Rattle.xml.proofs.Lang.{spellsOn, attrOn, attrsOn, tagOn, endOn, on}
 

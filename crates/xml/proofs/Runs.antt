@@ -5,7 +5,7 @@ use Prim.Native.Nat.{ℕ, zero, suc}
 use native.Mathlib.Omega.{arith}
 use lib.Dec.{leb, eqb}
 use borrow.Author.Tests.{eqb-true, ne-eqb, le-leb, lt-leb, leb-true, leb-false}
-use Rattle.characters.specs.Pieces.{Piece, char, entity, GoodPiece}
+use Rattle.text_characters.specs.Pieces.{Piece, char, entity, GoodPiece}
 use Rattle.text.proofs.Classes.{or-not}
 use Rattle.xml.specs.House.{Blanks, GoodTag, Content, end, piece, empty, full, begins, behind, cut, Good}
 

@@ -9,10 +9,10 @@ use lib.Dec.{ltb, eqb}
 use lib.ListN.{getD}
 use borrow.Author.Tests.{ltb-true, ltb-false}
 use Rattle.text.specs.Bytes.{isBlank, isNameStart, isNamePart}
-use Rattle.characters.specs.Pieces.{XmlChar, tab, line, return, low, middle, high}
-use Rattle.characters.specs.Utf8.{encode}
+use Rattle.text_characters.specs.Pieces.{XmlChar, tab, line, return, low, middle, high}
+use Rattle.text_characters.specs.Utf8.{encode}
 use Rattle.text.specs.Lists.{All}
-use Rattle.characters.specs.Pieces.{Entity, amp, lt, gt, quot, apos, word, Piece, char, entity, spell, GoodPiece}
+use Rattle.text_characters.specs.Pieces.{Entity, amp, lt, gt, quot, apos, word, Piece, char, entity, spell, GoodPiece}
 use Rattle.xml.specs.House.{Blanks, SomeBlanks, IsName, Quote, single, double, mark, GoodValue, Attr, GoodAttr, GoodAttrs, Tag, GoodTag, Content, end, piece, empty, full, OneElement, declaration, Tree, GoodTree, whole}
 use Rattle.xml.proofs.Runs.{brackets, GoodAfter, to-after}
 use Rattle.xml.specs.Auto.{Part, Read, bad, all, more, lead, go-on, takes}

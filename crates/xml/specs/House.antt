@@ -8,7 +8,7 @@ use lib.Dec.{eqb}
 use lib.ListN.{length, take}
 use Rattle.text.specs.Bytes.{ascii, isBlank, isNameStart, isNamePart}
 use Rattle.text.specs.Lists.{All, Begins}
-use Rattle.characters.specs.Pieces.{less, greater, solidus, equal, bracket, apostrophe, quotation, Piece, char, entity, spell, spells, GoodPiece}
+use Rattle.text_characters.specs.Pieces.{less, greater, solidus, equal, bracket, apostrophe, quotation, Piece, char, entity, spell, spells, GoodPiece}
 
 -- "blanks"; "one or more blanks"; "A name is a letter or `_`, then letters, digits, `.`, `-`, `_` (ASCII)"
 abbrev pub Blanks : List ℕ → Type 0

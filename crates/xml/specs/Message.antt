@@ -3,7 +3,7 @@
 use mathlib.Core.List.{List, [], _∷_}
 use Prim.Native.Nat.{ℕ, _+_}
 use lib.ListN.{length}
-use Rattle.characters.specs.Pieces.{spell, resolved, resolvedAll}
+use Rattle.text_characters.specs.Pieces.{spell, resolved, resolvedAll}
 use Rattle.xml.specs.House.{Attr, tag, Content, end, piece, empty, full, render, declaration, Tree}
 
 -- attributes in order: the name, and the characters of the value "after entities are resolved"

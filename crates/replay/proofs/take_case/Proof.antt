@@ -2,8 +2,8 @@
 use Prim.Native.Nat.{_+_, _≤_}
 use native.Mathlib.Omega.{arith}
 use lib.ListN.{length}
-use Rattle.feed.specs.Cases.{longest}
-use Rattle.line.proofs.Lines.{counts}
+use Rattle.program_feed.specs.Cases.{longest}
+use Rattle.program_line.proofs.Lines.{counts}
 use Rattle.replay.proofs.Replying.{size-most}
 use borrow.Author.Needs.{needs}
 use Rattle.replay.proofs.take_case.Statement.{statement}

@@ -4,10 +4,10 @@ use Prim.Native.Nat.{_≤_}
 use native.Mathlib.Omega.{arith}
 use lib.ListN.{length, take}
 use lib.Seq.{length-take-le}
-use Rattle.feed.specs.Reply.{brokenLine}
-use Rattle.feed.proofs.Replies.{put-taken}
+use Rattle.program_feed.specs.Reply.{brokenLine}
+use Rattle.program_feed.proofs.Replies.{put-taken}
 use Rattle.replay.specs.Replies.{broken}
-use Rattle.line.proofs.Lines.{counts}
+use Rattle.program_line.proofs.Lines.{counts}
 use Rattle.replay.proofs.Replying.{in-check, in-read, in-pick, bytes-most, take-most, put-long, put-check, put-read, put-pick}
 use borrow.Author.Needs.{needs}
 use Rattle.replay.proofs.reply.reply.Statement.{statement}

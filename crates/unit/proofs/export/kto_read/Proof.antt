@@ -3,7 +3,7 @@ use mathlib.Core.Path.{subst}
 use Prim.Native.Nat.{ℕ}
 use borrow.Author.Needs.{needs}
 use Rattle.answer.specs.Table.{answer}
-use Rattle.reading.specs.Reads.{HouseReads}
+use Rattle.image_reading.specs.Reads.{HouseReads}
 use Rattle.unit.proofs.Exporting.{read-row}
 use Rattle.unit.proofs.export.kto_read.Statement.{statement}
 use Rattle.unit.proofs.export.kto_read.Tie as tie

@@ -1,5 +1,5 @@
 -- `fill::fill` meets its contract. Assumes nothing.
-use Rattle.house.specs.House.{house}
+use Rattle.list_house.specs.House.{house}
 use Rattle.unit.proofs.fill.fill.Statement.{statement}
 use Rattle.unit.proofs.fill.fill.Tie as tie
 use borrow.Author.Needs.{needs}
@@ -7,7 +7,7 @@ use native.Mathlib.Omega.{arith}
 use mathlib.Core.Path.{refl, _∙_}
 use lib.ListN.{length}
 use Prim.Native.Nat.{_-_}
-use Rattle.written.proofs.Putting.{kept}
+use Rattle.value_to_bytes.proofs.Putting.{kept}
 use Rattle.unit.proofs.FillHouse.{WritingOn, fill-first, name-in, fill-low, fill-room, fill-ends, fill-out-less, fill-out, fill-comes, fill-row, fill-in-less, fill-in, fill-ready, fill-close, fill-past-less, fill-past}
 
 abbrev Inv-loop : tie.InvT-loop

@@ -4,10 +4,10 @@ use Rattle.unit.proofs.fill.put_leaf.Statement.{statement}
 use Rattle.unit.proofs.fill.put_leaf.Tie as tie
 use mathlib.Core.Path.{refl, sym, ap, _∙_}
 use mathlib.Core.Bool.{false}
-use Rattle.walk.specs.Tables.{isGroupIn}
-use Rattle.written.proofs.Theorems.{bytes-some}
-use Rattle.measure.proofs.Leaf.{shuts-none, shuts-some}
-use Rattle.measure.proofs.Value.{leaf-kind}
+use Rattle.file_walk.specs.Tables.{isGroupIn}
+use Rattle.value_to_bytes.proofs.Theorems.{bytes-some}
+use Rattle.file_measure.proofs.Leaf.{shuts-none, shuts-some}
+use Rattle.file_measure.proofs.Value.{leaf-kind}
 
 cast-place : tie.Need-cast-place
 cast-place c = search needs

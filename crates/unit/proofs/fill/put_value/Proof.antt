@@ -2,7 +2,7 @@
 use borrow.Author.Needs.{needs}
 use Rattle.unit.proofs.fill.put_value.Statement.{statement}
 use Rattle.unit.proofs.fill.put_value.Tie as tie
-use Rattle.measure.proofs.Value.{valued-word, valued-written}
+use Rattle.file_measure.proofs.Value.{valued-word, valued-written}
 
 put-word-requires : tie.Need-put-word-requires
 put-word-requires c κs = search needs

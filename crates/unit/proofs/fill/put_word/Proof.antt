@@ -2,7 +2,7 @@
 use borrow.Author.Needs.{needs}
 use Rattle.unit.proofs.fill.put_word.Statement.{statement}
 use Rattle.unit.proofs.fill.put_word.Tie as tie
-use Rattle.measure.proofs.Value.{worded-none, worded-some}
+use Rattle.file_measure.proofs.Value.{worded-none, worded-some}
 
 word-byte-requires : tie.Need-word-byte-requires
 word-byte-requires c κs = search needs

@@ -1,0 +1,149 @@
+-- Some answer fits every file and every buffer, over any types and any well-formed list; with `answers-one`: exactly one. Assumes nothing.
+use mathlib.Core.Path.{_≡_, refl, sym, _∙_, ap}
+use mathlib.Core.Logic.{_⊎_, inl, inr}
+use mathlib.Core.Bool.{Bool, true, false, true≢false, false≢true}
+use mathlib.Core.List.{List, [], _∷_, _++_}
+use Prim.Native.Nat.{ℕ, zero, suc, _+_, _≤_, zero-le}
+use native.Mathlib.Omega.{arith}
+use native.Mathlib.Decide.{decLt}
+use lib.ListN.{length, drop, length-drop}
+use Rattle.answer.specs.declared.Answer.{Answer}
+use Rattle.answer.specs.Table.{answer, accepted, limit, tooLong, notUtf8, notHouseXml, noRoom}
+use Rattle.text_characters.specs.Utf8.{LongestUtf8}
+use Rattle.text_characters.specs.Decoding.{decoded}
+use Rattle.text_characters.proofs.Longest.{stop, more}
+use Rattle.list.specs.Listing.{Listing}
+use Rattle.list.specs.WellFormed.{WellFormed}
+use Rattle.list.specs.Content.{Content}
+use Rattle.list_house.specs.House.{house}
+use Rattle.list_house.proofs.HouseSound.{house-well}
+use Rattle.xml.specs.House.{HouseXml}
+use Rattle.xml.specs.Message.{rootAt}
+use Rattle.xml.specs.Auto.{done, start, first, before, root, declare, name, tail, gap, attr, equals, quote, value, within, slash, content, part, less, close, St, dead, at, run, liveLen}
+use Rattle.xml.proofs.Theorem as xml
+use Rattle.file_walk.specs.Types.{Spelling}
+use Rattle.file_walk.specs.First.{Found, fine, found, firstViolation}
+use Rattle.file_walk.proofs.Accept.{accept}
+use Rattle.file.specs.Instance.{Kinds, houseKinds}
+use Rattle.file.specs.File.{Whole, messageIn, File, imageOf}
+use Rattle.file.specs.Checks.{Answers, Checks, long, bytes, markup, violation, room, image}
+use Rattle.file.proofs.House.{spelling}
+use Rattle.file.proofs.One.{answers-one}
+use Rattle.file_walk.proofs.Beginning.{one-element}
+use Rattle.file.proofs.Saying.{says-bytes, all-utf8}
+
+-- ---- a longest beginning that is UTF-8
+
+none : LongestUtf8 [] 0
+none = record { within = zero-le; begins = record { chars = []; scalars = tt; is = refl }; most = λ k h u. h }
+
+some-utf8 : (fuel : ℕ) (s : List ℕ) → length s ≤ fuel → (n : ℕ) × LongestUtf8 s n
+some-utf8 zero [] h = (0, none)
+some-utf8 zero (x ∷ s) h = absurd (omega arith)
+some-utf8 (suc f) s h = elim (decLt 0 (decoded s .len)) [
+  | yes p ↦ let r = some-utf8 f (drop (decoded s .len) s) (omega (arith, length-drop (decoded s .len) s)) in (decoded s .len + r .0, more s (r .0) p (r .1))
+  | no n ↦ (0, stop s (omega arith))
+]
+
+-- ---- house XML or not
+
+abbrev pub isDone : St → Bool
+isDone dead = false
+isDone (at done) = true
+isDone (at start) = false
+isDone (at first) = false
+isDone (at before) = false
+isDone (at root) = false
+isDone (at (declare x l)) = false
+isDone (at (name d n ns)) = false
+isDone (at (tail k ss d n ns)) = false
+isDone (at (gap k ss d n ns)) = false
+isDone (at (attr a k ss d n ns)) = false
+isDone (at (equals k ss d n ns)) = false
+isDone (at (quote k ss d n ns)) = false
+isDone (at (value q k ss d n ns)) = false
+isDone (at (within p q k ss d n ns)) = false
+isDone (at (slash d ns)) = false
+isDone (at (content r d n ns)) = false
+isDone (at (part p d n ns)) = false
+isDone (at (less d n ns)) = false
+isDone (at (close l d ns)) = false
+
+done-is : (q : St) → isDone q ≡ true → q ≡ at done
+done-is dead e = absurd (false≢true e)
+done-is (at done) e = refl
+done-is (at start) e = absurd (false≢true e)
+done-is (at first) e = absurd (false≢true e)
+done-is (at before) e = absurd (false≢true e)
+done-is (at root) e = absurd (false≢true e)
+done-is (at (declare x l)) e = absurd (false≢true e)
+done-is (at (name d n ns)) e = absurd (false≢true e)
+done-is (at (tail k ss d n ns)) e = absurd (false≢true e)
+done-is (at (gap k ss d n ns)) e = absurd (false≢true e)
+done-is (at (attr a k ss d n ns)) e = absurd (false≢true e)
+done-is (at (equals k ss d n ns)) e = absurd (false≢true e)
+done-is (at (quote k ss d n ns)) e = absurd (false≢true e)
+done-is (at (value q k ss d n ns)) e = absurd (false≢true e)
+done-is (at (within p q k ss d n ns)) e = absurd (false≢true e)
+done-is (at (slash d ns)) e = absurd (false≢true e)
+done-is (at (content r d n ns)) e = absurd (false≢true e)
+done-is (at (part p d n ns)) e = absurd (false≢true e)
+done-is (at (less d n ns)) e = absurd (false≢true e)
+done-is (at (close l d ns)) e = absurd (false≢true e)
+
+house-or-not : (s : List ℕ) → HouseXml s ⊎ (HouseXml s → ⊥)
+house-or-not s = go (isDone (run (at start) s)) refl
+  where
+    go : (b : Bool) → isDone (run (at start) s) ≡ b → HouseXml s ⊎ (HouseXml s → ⊥)
+    go true e = inl (xml.accepted s (done-is (run (at start) s) e))
+    go false e = inr (xml.refused s (λ r. true≢false (ap isDone (sym r) ∙ e)))
+
+module _ (k : Kinds) (y : Spelling (k .types)) (l : Listing) (wf : WellFormed l) (s d : List ℕ) where
+  -- an answer, and what it leaves in the buffer
+  pub record Answered : Type 0 where
+    pub answer : Answer
+    pub buffer : List ℕ
+    pub fits : Answers k l s d answer buffer
+
+  leaves : (a : Answer) → Answers k l s d a d → Answered
+  leaves a p = record { answer = a; buffer = d; fits = p }
+
+  of-file : (c : Content (k .types .A)) → File k l s c → Answered
+  of-file c f = elim (decLt (length d) (length (imageOf k l c))) [
+    | yes h ↦ leaves (noRoom (length (imageOf k l c))) (room c f h refl refl)
+    | no h ↦ record {
+      answer = accepted (length (imageOf k l c));
+      buffer = imageOf k l c ++ drop (length (imageOf k l c)) d;
+      fits = image c f (omega arith) refl refl;
+    }
+  ]
+
+  of-message : (w : Whole s) (f : Found) → firstViolation (k .types) l (messageIn w) ≡ f → Answered
+  of-message w (found c r o) e = leaves (answer c r o) (violation w c r o e refl refl)
+  of-message w fine e =
+      let g = accept (k .types) y l wf (messageIn w) (one-element (w .xml .tree .root) (rootAt (w .xml .tree)) (w .xml .good .one)) e in
+      of-file (g .0) (record { whole = w; has = g .2; meets = g .1 })
+
+  of-text : length s ≤ limit → (n : ℕ) → LongestUtf8 s n → Answered
+  of-text h n u = elim (decLt n (length s)) [
+    | yes i ↦ leaves (notUtf8 n) (says-bytes k l s d (notUtf8 n) h n u i refl)
+    | no i ↦ elim (house-or-not s) [
+      | inl x ↦ let w : Whole s = record { size = h; utf8 = all-utf8 s n u (omega arith); xml = x } in of-message w (firstViolation (k .types) l (messageIn w)) refl
+      | inr x ↦ leaves (notHouseXml (liveLen (at start) s)) (markup h (all-utf8 s n u (omega arith)) x (liveLen (at start) s) (xml.longest s) refl refl)
+    ]
+  ]
+
+  -- some answer fits
+  pub some-answer : Answered
+  some-answer = elim (decLt limit (length s)) [
+    | yes h ↦ leaves tooLong (long h refl refl)
+    | no h ↦ let u = some-utf8 (length s) s (omega arith) in of-text (omega arith) (u .0) (u .1)
+  ]
+
+  -- and what fits is that one
+  pub the-answer : (a : Answer) (d′ : List ℕ) → Answers k l s d a d′ → (a ≡ some-answer .answer) × (d′ ≡ some-answer .buffer)
+  the-answer a d′ p = answers-one k y l wf s d a (some-answer .answer) d′ (some-answer .buffer) p (some-answer .fits)
+
+-- with document 01's types and its house list
+pub checks-some : (s d : List ℕ) → (a : Answer) × (d′ : List ℕ) × Checks s d a d′
+checks-some s d = let o = some-answer houseKinds spelling house house-well s d in (o .answer, o .buffer, o .fits)

@@ -1,0 +1,249 @@
+-- The starred examples hold of the definitions: one statement over the table, by one computed test. Assumes nothing.
+use mathlib.Core.Path.{_≡_, refl, sym, _∙_, ap}
+use mathlib.Core.Bool.{Bool, true, false, _&&_, not, xor, true≢false, false≢true}
+use mathlib.Core.List.{List, [], _∷_, _++_}
+use Prim.Native.Nat.{ℕ}
+use Prim.Native.String.{String}
+use native.Mathlib.Omega.{arith}
+use lib.Dec.{eqb, leb}
+use lib.ListN.{length, drop}
+use borrow.Author.Tests.{leb-true, leb-false, eqb-true}
+use Rattle.answer.specs.declared.Answer.{Answer}
+use Rattle.answer.specs.Table.{answer, accepted, limit, notHouseXml, noRoom}
+use Rattle.text.specs.Bytes.{ascii, isBlank, isCapital, isDigit, isLetter, isNameStart, isNamePart}
+use Rattle.text.specs.Lists.{Each, same}
+use Rattle.text.specs.Numbers.{bigEndian}
+use Rattle.text_characters.specs.Utf8.{encode}
+use Rattle.text_characters.specs.Pieces.{Piece, char}
+use Rattle.text.proofs.Classes.{and-is}
+use Rattle.list.specs.Words.{firstFrom}
+use Rattle.list.specs.Listing.{rowAt, child, nextDue}
+use Rattle.list.specs.Sound.{firstOf, secondOf}
+use Rattle.list.specs.Content.{Content as Kept}
+use Rattle.list_house.specs.House.{house}
+use Rattle.list.specs.Test.{every, begins}
+use Rattle.list_house.proofs.HouseSound.{house-well}
+use Rattle.list.proofs.Words.{same-eq}
+use Rattle.xml.specs.House.{double, Tag, Content, end, piece, empty, full, OneElement, whole}
+use Rattle.xml.specs.Message.{messageOf}
+use Rattle.xml.specs.Auto.{at, start, step, next, lead, run, liveLen}
+use Rattle.xml.proofs.Theorem.{longest, refused}
+use Rattle.xml_tags.specs.Story.{events}
+use Rattle.value.specs.Plain.{decimalFrom}
+use Rattle.value.specs.Text.{isRef, isTxt}
+use Rattle.value.specs.Texts.{textFrom}
+use Rattle.value.specs.Reading.{readOf, signedOf, pointOf, wholeOf, fracOf, answer as judged}
+use Rattle.list.specs.Table.{placeFrom}
+use Rattle.value.specs.Spell.{spell, frontOff, backOff, passesFrom, dayOf, fractionOf, zoneOf, momentOf}
+use Rattle.value.specs.Value.{Value}
+use Rattle.file_walk.specs.First.{Found, fine, found, absent, childRows, inside, firstViolation}
+use Rattle.file_walk.specs.Machine.{before, fresh, advance, emits}
+use Rattle.file_walk.proofs.Accept.{accept}
+use Rattle.file_walk.proofs.Items.{items-are}
+use Rattle.image.specs.Image.{header, bytes, image}
+use Rattle.image.specs.Kinds.{values}
+use Rattle.file.specs.Instance.{houseTypes, houseKinds}
+use Rattle.file.specs.File.{Whole, File, imageOf}
+use Rattle.file.specs.Checks.{Checks}
+use Rattle.file.specs.Checks as checks
+use Rattle.file.specs.Stars.{Star, Shows, stars}
+use Rattle.file.proofs.House.{spelling}
+use Rattle.file.proofs.Trees.{contentTest, rootTree, tree-good, asciiTest, ascii-utf8, not-is}
+use Rattle.file_walk.proofs.Beginning.{one-element}
+use Rattle.file.proofs.Some.{isDone}
+
+-- ---- the test of a row
+
+-- how a file is shown: by its tree, or as no house XML
+data Way : Type 0 where
+  tree : Content → Way
+  stray : Way
+
+abbrev sameAnswer : Answer → Answer → Bool
+sameAnswer a b = eqb (a .code) (b .code) && (eqb (a .row) (b .row) && eqb (a .place) (b .place))
+
+abbrev isNil : List ℕ → Bool
+isNil [] = true
+isNil (x ∷ xs) = false
+
+abbrev isEnd : Content → Bool
+isEnd end = true
+isEnd (piece p k) = false
+isEnd (empty t k) = false
+isEnd (full t i g k) = false
+
+abbrev oneTest : Content → Bool
+oneTest end = false
+oneTest (piece p k) = false
+oneTest (empty t k) = isEnd k
+oneTest (full t i g k) = isEnd k
+
+-- the first violation of a tree's message, and the image of the items that the walk hands out
+abbrev foundIn : Content → Found
+foundIn i = firstViolation houseTypes house (messageOf (rootTree i))
+
+abbrev imageIn : Content → List ℕ
+imageIn i = header house ++ (bytes values house (emits houseTypes house before (events (messageOf (rootTree i)) [])) ++ (0 ∷ []))
+
+abbrev fits : Star → List ℕ → Bool → Bool
+fits e x true = sameAnswer (e .answer) (accepted (length x)) && same (e .image) x
+fits e x false = sameAnswer (e .answer) (noRoom (length x)) && isNil (e .image)
+
+abbrev walked : Star → List ℕ → Found → Bool
+walked e x fine = fits e x (leb (length x) (e .room))
+walked e x (found c r o) = sameAnswer (e .answer) (answer c r o) && isNil (e .image)
+
+abbrev wayTest : Star → Way → Bool
+wayTest e (tree i) = contentTest 16 i && (oneTest i && (same (e .file) (whole (rootTree i)) && walked e (imageIn i) (foundIn i)))
+wayTest e stray = not (isDone (run (at start) (e .file))) && (sameAnswer (e .answer) (notHouseXml (liveLen (at start) (e .file))) && isNil (e .image))
+
+abbrev rowTest : Star → Way → Bool
+rowTest e w = asciiTest (e .file) && (leb (length (e .file)) limit && wayTest e w)
+
+abbrev tableTest : List Star → List Way → Bool
+tableTest [] ws = true
+tableTest (e ∷ es) [] = false
+tableTest (e ∷ es) (w ∷ ws) = rowTest e w && tableTest es ws
+
+-- ---- what it shows
+
+same-answer : (a b : Answer) → sameAnswer a b ≡ true → a ≡ b
+same-answer a b t =
+    let p = and-is (eqb (a .code) (b .code)) (eqb (a .row) (b .row) && eqb (a .place) (b .place)) t in
+    let q = and-is (eqb (a .row) (b .row)) (eqb (a .place) (b .place)) (p .1) in
+    ap (λ (x : ℕ). answer x (a .row) (a .place)) (eqb-true (a .code) (b .code) (p .0))
+    ∙ ap (λ (x : ℕ). answer (b .code) x (a .place)) (eqb-true (a .row) (b .row) (q .0))
+    ∙ ap (λ (x : ℕ). answer (b .code) (b .row) x) (eqb-true (a .place) (b .place) (q .1))
+
+nil-is : (x : List ℕ) → isNil x ≡ true → x ≡ []
+nil-is [] t = refl
+nil-is (y ∷ x) t = absurd (false≢true t)
+
+end-is : (k : Content) → isEnd k ≡ true → k ≡ end
+end-is end t = refl
+end-is (piece p k) t = absurd (false≢true t)
+end-is (empty g k) t = absurd (false≢true t)
+end-is (full g i h k) t = absurd (false≢true t)
+
+one-is : (i : Content) → oneTest i ≡ true → OneElement i
+one-is end t = absurd (false≢true t)
+one-is (piece p k) t = absurd (false≢true t)
+one-is (empty g k) t = end-is k t
+one-is (full g i h k) t = end-is k t
+
+module _ (e : Star) (chars : asciiTest (e .file) ≡ true) (size : leb (length (e .file)) limit ≡ true) (d : List ℕ) (l : length d ≡ e .room) where
+  -- the buffer behind the call
+  abbrev left : List ℕ → List ℕ
+  left x = x ++ drop (length x) d
+
+  kept : isNil (e .image) ≡ true → left (e .image) ≡ d
+  kept t = ap left (nil-is (e .image) t)
+
+  module _ (i : Content) (good : contentTest 16 i ≡ true) (one : OneElement i) (is : e .file ≡ whole (rootTree i)) where
+    file : Whole (e .file)
+    file = record { size = leb-true (length (e .file)) limit size; utf8 = ascii-utf8 (e .file) chars; xml = record { tree = rootTree i; good = tree-good i good one; is = is } }
+
+    -- its content, and that its image is the one tested
+    record Right : Type 0 where
+      content : Kept Value
+      its : File houseKinds house (e .file) content
+      pictured : imageOf houseKinds house content ≡ imageIn i
+
+    right : foundIn i ≡ fine → Right
+    unfolding file image
+    right z =
+        let c = accept houseTypes spelling house house-well (messageOf (rootTree i)) (one-element i 0 one) z in
+        record {
+          content = c .0;
+          its = record { whole = file; has = c .2; meets = c .1 };
+          pictured = ap (λ is′. header house ++ (bytes values house is′ ++ (0 ∷ []))) (sym (items-are houseTypes spelling house house-well (messageOf (rootTree i)) (c .0) (c .2)));
+        }
+
+    fits-shown : foundIn i ≡ fine → (b : Bool) → leb (length (imageIn i)) (e .room) ≡ b → fits e (imageIn i) b ≡ true → Checks (e .file) d (e .answer) (left (e .image))
+    fits-shown z true h t =
+        let r = right z in
+        let n : length (imageOf houseKinds house (r .content)) ≡ length (imageIn i) = ap length (r .pictured) in
+        let a = and-is (sameAnswer (e .answer) (accepted (length (imageIn i)))) (same (e .image) (imageIn i)) t in
+        checks.image (r .content) (r .its) (omega (arith, n, leb-true (length (imageIn i)) (e .room) h)) (same-answer (e .answer) (accepted (length (imageIn i))) (a .0) ∙ ap accepted (sym n))
+        (ap left (same-eq (e .image) (imageIn i) (a .1) ∙ sym (r .pictured)))
+    fits-shown z false h t =
+        let r = right z in
+        let n : length (imageOf houseKinds house (r .content)) ≡ length (imageIn i) = ap length (r .pictured) in
+        let a = and-is (sameAnswer (e .answer) (noRoom (length (imageIn i)))) (isNil (e .image)) t in
+        checks.room (r .content) (r .its) (omega (arith, n, leb-false (length (imageIn i)) (e .room) h)) (same-answer (e .answer) (noRoom (length (imageIn i))) (a .0) ∙ ap noRoom (sym n))
+        (kept (a .1))
+
+    walked-shown : (f : Found) → foundIn i ≡ f → walked e (imageIn i) f ≡ true → Checks (e .file) d (e .answer) (left (e .image))
+    unfolding file
+    walked-shown fine z t = fits-shown z (leb (length (imageIn i)) (e .room)) refl t
+    walked-shown (found c r o) z t =
+        let a = and-is (sameAnswer (e .answer) (answer c r o)) (isNil (e .image)) t in
+        checks.violation file c r o z (same-answer (e .answer) (answer c r o) (a .0)) (kept (a .1))
+
+  way-shown : (w : Way) → wayTest e w ≡ true → Checks (e .file) d (e .answer) (left (e .image))
+  way-shown (tree i) t =
+      let a = and-is (contentTest 16 i) (oneTest i && (same (e .file) (whole (rootTree i)) && walked e (imageIn i) (foundIn i))) t in
+      let b = and-is (oneTest i) (same (e .file) (whole (rootTree i)) && walked e (imageIn i) (foundIn i)) (a .1) in
+      let c = and-is (same (e .file) (whole (rootTree i))) (walked e (imageIn i) (foundIn i)) (b .1) in
+      walked-shown i (a .0) (one-is i (b .0)) (same-eq (e .file) (whole (rootTree i)) (c .0)) (foundIn i) refl (c .1)
+  way-shown stray t =
+      let n = liveLen (at start) (e .file) in
+      let a = and-is (not (isDone (run (at start) (e .file)))) (sameAnswer (e .answer) (notHouseXml n) && isNil (e .image)) t in
+      let b = and-is (sameAnswer (e .answer) (notHouseXml n)) (isNil (e .image)) (a .1) in
+      checks.markup (leb-true (length (e .file)) limit size) (ascii-utf8 (e .file) chars)
+      (refused (e .file) (λ r. true≢false (ap isDone (sym r) ∙ not-is (isDone (run (at start) (e .file))) (a .0)))) n (longest (e .file)) (same-answer (e .answer) (notHouseXml n) (b .0)) (kept (b .1))
+
+shown : (es : List Star) (ws : List Way) → tableTest es ws ≡ true → Each Shows es
+shown [] ws t = tt
+shown (e ∷ es) [] t = absurd (false≢true t)
+shown (e ∷ es) (w ∷ ws) t =
+    let a = and-is (rowTest e w) (tableTest es ws) t in
+    let b = and-is (asciiTest (e .file)) (leb (length (e .file)) limit && wayTest e w) (a .0) in
+    let c = and-is (leb (length (e .file)) limit) (wayTest e w) (b .1) in
+    ((λ d l. way-shown e (b .0) (c .0) d l w (c .1)), shown es ws (a .1))
+
+-- ---- the trees
+
+abbrev pieces : List ℕ → List Piece
+pieces [] = []
+pieces (x ∷ xs) = char x ∷ pieces xs
+
+abbrev text : List ℕ → Content
+text [] = end
+text (x ∷ xs) = piece (char x) (text xs)
+
+abbrev named : String → Tag
+named n = record { name = ascii n; attributes = []; gap = [] }
+
+-- with an attribute
+abbrev marked : String → String → String → Tag
+marked n a v = record { name = ascii n; attributes = record { gap = 32 ∷ []; name = ascii a; before = []; after = []; quote = double; value = pieces (ascii v) } ∷ []; gap = [] }
+
+abbrev element : String → Content → Content → Content
+element n i k = full (named n) i [] k
+
+abbrev leaf : String → String → Content → Content
+leaf n v k = element n (text (ascii v)) k
+
+abbrev statementTree : String → String → Content
+statementTree m a =
+    full (marked "Document" "xmlns" "urn:iso:std:iso:20022:tech:xsd:camt.053.001.08")
+    (element "BkToCstmrStmt" (element "GrpHdr" (leaf "MsgId" m (leaf "CreDtTm" "2024-03-01T06:00:00Z" end))
+    (element "Stmt" (leaf "Id" "S1" (element "Acct" (element "Id" (element "Othr" (leaf "Id" "9" end) end) end)
+    (element "Bal" (element "Tp" (element "CdOrPrtry" (leaf "Cd" "CLBD" end) end)
+    (full (marked "Amt" "Ccy" "EUR") (text (ascii a)) [] (leaf "CdtDbtInd" "CRDT" (element "Dt" (leaf "Dt" "2024-02-29" end) end)))) end))) end)) end) [] end
+
+abbrev amount : String → Way
+amount a = tree (statementTree "M1" a)
+
+unfoldable ways : List Way
+ways =
+    stray ∷ stray ∷ tree (empty (named "Document") end) ∷
+    amount "1250.50" ∷ amount "-0.00" ∷ amount ".5" ∷ amount "0.000010" ∷ amount "999999999999999999" ∷
+    amount "0.000001" ∷ amount "1000000000000000000" ∷ amount "." ∷
+    tree (statementTree "A/B" "5.00") ∷ tree (statementTree "A//B" "5.00") ∷ amount "5.00" ∷ amount "5.00" ∷ []
+
+-- every row of the table shows
+pub all-stars : Each Shows stars
+unfolding stars liveLen run step next lead every begins encode isBlank isCapital isDigit isLetter isNameStart isNamePart firstViolation inside childRows absent child firstFrom same rowAt house xor decimalFrom isRef isTxt textFrom readOf signedOf pointOf wholeOf fracOf judged spell frontOff backOff passesFrom placeFrom dayOf fractionOf zoneOf momentOf header bigEndian fresh advance emits nextDue firstOf secondOf ways
+all-stars = shown stars ways refl

@@ -1,0 +1,72 @@
+-- The starred examples of document 01, "the proved set": one table. Assumes nothing.
+use mathlib.Core.List.{List, [], _∷_, _++_}
+use Prim.Native.Nat.{ℕ}
+use Prim.Native.String.{String}
+use mathlib.Core.Path.{_≡_}
+use lib.ListN.{length, drop}
+use Rattle.answer.specs.declared.Answer.{Answer}
+use Rattle.answer.specs.Table.{accepted, notHouseXml, wrongRoot, badValue, noRoom}
+use Rattle.text.specs.Bytes.{ascii}
+use Rattle.text.specs.Numbers.{bigEndian}
+use Rattle.file.specs.Checks.{Checks}
+
+-- a file, how many bytes the buffer has, the answer, and the image that is written, which a refused file has none of
+pub record Star : Type 0 where
+  pub file : List ℕ
+  pub room : ℕ
+  pub answer : Answer
+  pub image : List ℕ
+
+-- what a row says: of every buffer of that length, whatever stands in it
+abbrev pub Shows : Star → Type 0
+Shows e = (d : List ℕ) → length d ≡ e .room → Checks (e .file) d (e .answer) (e .image ++ drop (length (e .image)) d)
+
+-- document 01's whole file, with this MsgId and this amount
+abbrev pub statement : String → String → List ℕ
+statement m a =
+    ascii "<Document xmlns=\"urn:iso:std:iso:20022:tech:xsd:camt.053.001.08\"><BkToCstmrStmt><GrpHdr><MsgId>" ++ (ascii m
+    ++ (ascii "</MsgId><CreDtTm>2024-03-01T06:00:00Z</CreDtTm></GrpHdr><Stmt><Id>S1</Id><Acct><Id><Othr><Id>9</Id></Othr></Id></Acct><Bal><Tp><CdOrPrtry><Cd>CLBD</Cd></CdOrPrtry></Tp><Amt Ccy=\"EUR\">"
+    ++ (ascii a ++ ascii "</Amt><CdtDbtInd>CRDT</CdtDbtInd><Dt><Dt>2024-02-29</Dt></Dt></Bal></Stmt></BkToCstmrStmt></Document>")))
+
+-- its image as printed, with the bytes of this MsgId, scale and coefficient
+abbrev pub printed : List ℕ → ℕ → ℕ → List ℕ
+printed m scale coefficient =
+    0x4B ∷ 0x54 ∷ 0x4F ∷ 0x00 ∷ 0x01 ∷ 0x01 ∷ 0x02 ∷ 0x03 ∷ 0x04 ∷ (bigEndian 2 (length m) ++ (m ++ (
+    0x05 ∷ 0x07 ∷ 0xE8 ∷ 0x03 ∷ 0x01 ∷ 0x06 ∷ 0x00 ∷ 0x00 ∷ 0x00 ∷ 0x00 ∷ 0x00 ∷ 0x00 ∷ 0x03 ∷ 0x48 ∷
+    0x06 ∷ 0x07 ∷ 0x00 ∷ 0x02 ∷ 0x53 ∷ 0x31 ∷ 0x09 ∷ 0x0A ∷ 0x0C ∷ 0x0D ∷ 0x00 ∷ 0x01 ∷ 0x39 ∷
+    0x0F ∷ 0x10 ∷ 0x11 ∷ 0x12 ∷ 0x02 ∷ 0x13 ∷ 0x45 ∷ 0x55 ∷ 0x52 ∷ scale ∷ (bigEndian 8 coefficient ++ (
+    0x14 ∷ 0x01 ∷ 0x15 ∷ 0x16 ∷ 0x07 ∷ 0xE8 ∷ 0x02 ∷ 0x1D ∷ 0x00 ∷ [])))))
+
+abbrev pub refused : List ℕ → ℕ → Answer → Star
+refused s n a = record { file = s; room = n; answer = a; image = [] }
+
+-- a good amount, its coefficient and its scale; one that is none: 12 at its element's `<`
+abbrev pub amount : String → ℕ → ℕ → Star
+amount a c k = record { file = statement "M1" a; room = 67; answer = accepted 67; image = printed (ascii "M1") k c }
+
+abbrev pub noAmount : String → Star
+noAmount a = refused (statement "M1" a) 67 (badValue 19 265)
+
+unfoldable pub stars : List Star
+stars =
+    -- "empty: 3, place 0. `<a></b>`: 3, place 5. `<Document/>`: 4, row 1, place 0"
+    refused [] 67 (notHouseXml 0) ∷
+    refused (ascii "<a></b>") 67 (notHouseXml 5) ∷
+    refused (ascii "<Document/>") 67 (wrongRoot 0) ∷
+    -- "AMT accepted: `1250.50` (12505, scale 1), `-0.00` (0, 0), `.5`, .. `0.000010` (1, 5), 18 nines"
+    amount "1250.50" 12505 1 ∷
+    amount "-0.00" 0 0 ∷
+    amount ".5" 5 1 ∷
+    amount "0.000010" 1 5 ∷
+    amount "999999999999999999" 999999999999999999 0 ∷
+    -- "Refused with 12: `0.000001`, 1 with 18 zeros, .. `.`"
+    noAmount "0.000001" ∷
+    noAmount "1000000000000000000" ∷
+    noAmount "." ∷
+    -- "REF: `A/B` good, `A//B` bad"
+    record { file = statement "A/B" "5.00"; room = 68; answer = accepted 68; image = printed (ascii "A/B") 0 5 } ∷
+    refused (statement "A//B" "5.00") 67 (badValue 4 88) ∷
+    -- "The image above: a 67-byte buffer accepts; 66 gives 14, place 67"
+    record { file = statement "M1" "5.00"; room = 67; answer = accepted 67; image = printed (ascii "M1") 0 5 } ∷
+    refused (statement "M1" "5.00") 66 (noRoom 67) ∷
+    []

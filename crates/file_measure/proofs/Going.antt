@@ -1,0 +1,384 @@
+-- A pass over a message: where it stands, what it has found and put so far, and what each step adds. Over any types. Assumes nothing.
+use mathlib.Core.Path.{_≡_, refl, sym, _∙_, ap, subst}
+use mathlib.Core.Logic.{_≢_}
+use mathlib.Core.Bool.{Bool, true, false, true≢false, false≢true}
+use mathlib.Core.List.{List, [], _∷_, _++_, append-assoc, append-nil}
+use mathlib.Core.Option.{Option}
+use Prim.Native.Nat.{ℕ, _+_, _*_, _≤_, _<_}
+use native.Mathlib.Omega.{arith}
+use lib.ListN.{length}
+use lib.Seq.{slice}
+use Rattle.text.specs.Pasting.{pasted}
+use Rattle.text.specs.Numbers.{bigEndian}
+use Rattle.list.specs.Listing.{Leaf, amt, Kind, group, choice, leaf, Listing, rowAt, Child, isGroup}
+use Rattle.list.specs.WellFormed.{LeafOk, KindOk}
+use Rattle.list.specs.Content.{Content, items, Meets}
+use Rattle.list.specs.Table.{listOf}
+use Rattle.list.specs.Sound.{Sound}
+use Rattle.list.proofs.Rows.{size-is, kind-is}
+use Rattle.xml.specs.House.{HouseXml}
+use Rattle.xml.specs.Message.{Attrs, rootAt, messageOf}
+use Rattle.xml_tags.specs.Story.{Event, events}
+use Rattle.file_walk.specs.declared.level.Level.{Level}
+use Rattle.file_walk.specs.declared.verdict.Verdict.{Verdict}
+use Rattle.file_walk.specs.declared.step.Here.{Here}
+use Rattle.file_walk.specs.declared.step.Met.{Met}
+use Rattle.file_walk.specs.declared.step.Met.the-variants.{Opened, Closed, Refused}
+use Rattle.file_walk.specs.declared.step.Turn.{Turn}
+use Rattle.file_walk.specs.Types.{Types, Spelling}
+use Rattle.file_walk.specs.First.{Found, fine, found, orElse, isNone, currency, firstViolation}
+use Rattle.file_walk.specs.First as first
+use Rattle.file_walk.specs.Denotes.{Has}
+use Rattle.file_walk.specs.Machine.{before, advance, opens, closes, run, emits}
+use Rattle.file_walk.specs.Stride.{stepIn, stackIn}
+use Rattle.file_walk.specs.Begin.{beginIn}
+use Rattle.file_walk.proofs.Answers.{kinds}
+use Rattle.file_walk.proofs.Sound.{Placed}
+use Rattle.file_walk.proofs.Joint.{judged}
+use Rattle.file_walk.proofs.Own.{Coins}
+use Rattle.file_walk.proofs.Turning.{turned, judged-group}
+use Rattle.list.proofs.Tests.{byCases}
+use Rattle.file_walk.proofs.Beginning.{one-element, began, first-is}
+use Rattle.file_walk.proofs.Accept.{accept}
+use Rattle.file_walk.proofs.Items.{opens-group, closes-group, items-are}
+use Rattle.file_walk.proofs.Turned.{Stands, Nested, Enters, Leaves, Ends, Turned, refused, opened, closed, whole, Starts, Began, denied, starts, finds, hands}
+use Rattle.image.specs.Image.{bytes, itemBytes, valueBytes, header, image}
+use Rattle.file.specs.Instance.{Kinds, valuesOf}
+use Rattle.file.specs.File.{imageOf}
+use Rattle.file_measure.specs.Measured.{verdict}
+use Rattle.file_measure.specs.Pass.{Puts, kindIn, Shut, Shuts, Opens, ItemPut, Passes, violates, holds}
+use Rattle.file_measure.proofs.Coin.{coin-is}
+use Rattle.file_measure.proofs.Puts.{puts-none, puts-pasted, puts-then, puts-as}
+
+-- ---- what a step met
+
+abbrev pub isOpened : Met → Bool
+isOpened Opened = true
+isOpened Closed = false
+isOpened Refused = false
+
+abbrev pub isRefused : Met → Bool
+isRefused Opened = false
+isRefused Closed = false
+isRefused Refused = true
+
+pub apart : (p : Met → Bool) (x y z : Met) → x ≡ y → x ≡ z → p y ≡ true → p z ≡ false → ⊥
+apart p x y z e f g h = true≢false (sym g ∙ ap p (sym e ∙ f) ∙ h)
+
+plainly : (n : ℕ) → 0 + n ≡ n
+plainly n = omega arith
+
+module _ (k : Kinds) (t pool s : List ℕ) (sd : Sound t pool) where
+  abbrev T : Types
+  T = k .types
+
+  abbrev l : Listing
+  l = listOf t pool
+
+  abbrev itemsOf : List (ℕ × Option (T .A)) → List ℕ
+  itemsOf is = bytes (valuesOf k) l is
+
+  -- ---- bytes of items
+
+  items-append : (a b : List (ℕ × Option (T .A))) → itemsOf (a ++ b) ≡ itemsOf a ++ itemsOf b
+  items-append [] b = refl
+  items-append (i ∷ a) b =
+      ap (λ (z : List ℕ). itemBytes (valuesOf k) l i ++ z) (items-append a b) ∙ sym (append-assoc (itemBytes (valuesOf k) l i) (itemsOf a) (itemsOf b))
+
+  group-bytes : (q : Kind) (v : Option (T .A)) → isGroup q ≡ true → valueBytes (valuesOf k) l q v ≡ []
+  group-bytes group v e = refl
+  group-bytes choice v e = refl
+  group-bytes (leaf f) v e = absurd (false≢true e)
+
+  group-item : (r : ℕ) → isGroup (rowAt l r .kind) ≡ true → itemsOf ((r, Option.none) ∷ []) ≡ r ∷ []
+  group-item r e = ap (λ (z : List ℕ). r ∷ (z ++ [])) (group-bytes (rowAt l r .kind) Option.none e)
+
+  leaf-item : (r : ℕ) (f : Leaf) (v : T .A) → rowAt l r .kind ≡ leaf f → itemsOf ((r, Option.some v) ∷ []) ≡ r ∷ k .bytes f v
+  leaf-item r f v e =
+      ap (λ (q : Kind). r ∷ (valueBytes (valuesOf k) l q (Option.some v) ++ [])) e ∙ ap (λ (z : List ℕ). r ∷ z) (append-nil (k .bytes f v))
+
+  opens-bytes : (q : Kind) (r : ℕ) → rowAt l r .kind ≡ q → isGroup q ≡ true → itemsOf (opens T l q r) ≡ r ∷ []
+  opens-bytes q r e g = ap itemsOf (opens-group T l q r g) ∙ group-item r (ap isGroup e ∙ g)
+
+  opens-leaf : (q : Kind) (r : ℕ) → isGroup q ≡ false → opens T l q r ≡ []
+  opens-leaf group r g = absurd (true≢false g)
+  opens-leaf choice r g = absurd (true≢false g)
+  opens-leaf (leaf f) r g = refl
+
+  -- a row's kind, by the list and by the cells
+  kind-of : (lv : Level) → Placed t pool sd lv → rowAt l (lv .row) .kind ≡ kindIn t pool (lv .row)
+  kind-of lv p = kind-is t pool (lv .row) (p .low) (omega (arith, p .high, size-is t pool))
+
+  module _ (x : HouseXml s) where
+    abbrev found-all : Found
+    found-all = run T l before (events (messageOf (x .tree)) [])
+
+    abbrev handed-all : List (ℕ × Option (T .A))
+    handed-all = emits T l before (events (messageOf (x .tree)) [])
+
+    abbrev Goal : List ℕ → Verdict → List ℕ → Type 0
+    Goal d₀ v d = Passes k l (messageOf (x .tree)) d₀ v d
+
+    -- a violation that is the first
+    violation-is : firstViolation T l (messageOf (x .tree)) ≡ found-all → (d₀ : List ℕ) (v : Verdict) (d : List ℕ) → found-all ≡ found (v .code) (v .row) (v .place) → Goal d₀ v d
+    violation-is e d₀ v d f = violates (v .code) (v .row) (v .place) (e ∙ f) refl
+
+    -- ---- the beginning
+
+    pub begun : (turn : Turn) → turn ≡ beginIn t pool s → Began T t pool s sd (x .tree) turn
+    begun turn e =
+        subst (λ (z : Turn). Began T t pool s sd (x .tree) z) (sym e)
+        (subst (λ (z : List ℕ). Began T t pool z sd (x .tree) (beginIn t pool z)) (sym (x .is)) (began T t pool sd (x .tree) (x .good)))
+
+    first-found : firstViolation T l (messageOf (x .tree)) ≡ found-all
+    first-found = first-is T l (sd .well) (x .tree) (x .good)
+
+    module _ (turn : Turn) (w : Began T t pool s sd (x .tree) turn) where
+      pub begin-refused : (d₀ : List ℕ) → turn .met ≡ Refused → Goal d₀ (turn .verdict) d₀
+      begin-refused d₀ e = elim w [
+        | denied v ↦ violation-is first-found d₀ (turn .verdict) d₀ (v .found)
+        | starts v ↦ absurd (apart isRefused (turn .met) Refused Opened e (v .met) refl refl)
+      ]
+
+      pub begin-closed : turn .met ≡ Closed → ⊥
+      begin-closed e = elim w [
+        | denied v ↦ apart isRefused (turn .met) Refused Closed (v .met) e refl refl
+        | starts v ↦ apart isOpened (turn .met) Opened Closed (v .met) e refl refl
+      ]
+
+      pub begin-opened : turn .met ≡ Opened → Starts T t pool s sd (x .tree) turn
+      begin-opened e = elim w [
+        | denied v ↦ absurd (apart isRefused (turn .met) Refused Opened (v .met) e refl refl)
+        | starts v ↦ v
+      ]
+
+    head-length : length (header l ++ (1 ∷ [])) ≡ 6
+    unfolding header bigEndian
+    head-length = refl
+
+    -- ---- from the root's tag on, with d₁ in the buffer up to a₁
+
+    module _ (d₁ : List ℕ) (a₁ : ℕ) where
+      -- where the pass stands, with d in the buffer up to `at`: the levels and events of the walk, and the items that it has handed out behind the root's
+      pub record Going (d st : List ℕ) (here : Here) (at : ℕ) : Type 0 where
+        pub below : List Level
+        pub ats : Attrs
+        pub rest : List Event
+        pub stands : Stands T t pool s sd st here below ats rest
+        pub found : found-all ≡ finds T t pool s sd here below ats rest
+        pub done : List (ℕ × Option (T .A))
+        pub handed : handed-all ≡ (1, Option.none) ∷ (done ++ hands T t pool s sd here below ats rest)
+        pub put : Puts d₁ a₁ (itemsOf done) at d
+        pub least : 0 < a₁
+        -- no step adds more than this, and each goes on
+        pub most : at ≤ 6 + 65538 * here .at
+
+      pub goes-first : (d₀ : List ℕ) (turn : Turn) → Starts T t pool s sd (x .tree) turn → (st : List ℕ) → length st ≡ 80 → Puts d₀ 0 (header l ++ (1 ∷ [])) a₁ d₁ → Going d₁ st (turn .here) a₁
+      goes-first d₀ turn w st h p = record {
+        below = [];
+        ats = [];
+        rest = w .rest;
+        stands = w .stands st h;
+        found = w .found;
+        done = [];
+        handed = w .handed;
+        put = puts-none d₁ a₁;
+        least = omega (arith, p .behind, head-length);
+        most = omega (arith, p .behind, head-length);
+      }
+
+      -- ---- a step
+
+      module _ (d st : List ℕ) (here : Here) (at : ℕ) (g : Going d st here at) where
+        pub at-most : length s ≤ 1048576 → at ≤ 1000000000000
+        at-most h = omega (arith, g .most, g .stands .within)
+
+        -- what is put behind
+        more : (new : List (ℕ × Option (T .A))) (r : ℕ) (d′ : List ℕ) → Puts d at (itemsOf new) r d′ → Puts d₁ a₁ (itemsOf (g .done ++ new)) r d′
+        more new r d′ p =
+            puts-as d₁ a₁ (itemsOf (g .done) ++ itemsOf new) (itemsOf (g .done ++ new)) r d′ (sym (items-append (g .done) new))
+            (puts-then d₁ a₁ (itemsOf (g .done)) at d (itemsOf new) r d′ (g .put) p)
+
+        module _ (coins : Coins T) (turn : Turn) (st′ : List ℕ) (e : turn ≡ stepIn t pool s st here) (f : st′ ≡ stackIn t pool s st here) where
+          abbrev Steps : Type 0
+          Steps = Turned T t pool s sd here (g .below) (g .ats) (g .rest) st′ turn
+
+          pub steps : Steps
+          steps =
+              subst (λ (z : Turn). Turned T t pool s sd here (g .below) (g .ats) (g .rest) st′ z) (sym e)
+              (subst (λ (z : List ℕ). Turned T t pool s sd here (g .below) (g .ats) (g .rest) z (stepIn t pool s st here)) (sym f)
+              (turned T t pool s sd coins st here (g .below) (g .ats) (g .rest) (g .stands)))
+
+          pub step-refused : (d₀ : List ℕ) → turn .met ≡ Refused → Goal d₀ (turn .verdict) d
+          step-refused d₀ m = elim steps [
+            | refused w ↦ violation-is first-found d₀ (turn .verdict) d (g .found ∙ w .found)
+            | opened w ↦ absurd (apart isRefused (turn .met) Refused Opened m (w .met) refl refl)
+            | closed w ↦ absurd (apart isRefused (turn .met) Refused Closed m (w .met) refl refl)
+            | whole w ↦ absurd (apart isRefused (turn .met) Refused Closed m (w .met) refl refl)
+          ]
+
+          pub step-enters : turn .met ≡ Opened → Enters T t pool s sd here (g .below) (g .ats) (g .rest) st′ turn
+          step-enters m = elim steps [
+            | refused w ↦ absurd (apart isOpened (turn .met) Opened Refused m (w .met) refl refl)
+            | opened w ↦ w
+            | closed w ↦ absurd (apart isOpened (turn .met) Opened Closed m (w .met) refl refl)
+            | whole w ↦ absurd (apart isOpened (turn .met) Opened Closed m (w .met) refl refl)
+          ]
+
+          pub step-leaves : turn .met ≡ Closed → here .depth ≢ 0 → Leaves T t pool s sd here (g .below) (g .ats) (g .rest) st′ turn
+          step-leaves m n = elim steps [
+            | refused w ↦ absurd (apart isRefused (turn .met) Refused Closed (w .met) m refl refl)
+            | opened w ↦ absurd (apart isOpened (turn .met) Opened Closed (w .met) m refl refl)
+            | closed w ↦ w
+            | whole w ↦ absurd (n (w .root))
+          ]
+
+          pub step-ends : turn .met ≡ Closed → here .depth ≡ 0 → Ends T t pool s sd here (g .below) (g .ats) (g .rest) st′ turn
+          step-ends m n = elim steps [
+            | refused w ↦ absurd (apart isRefused (turn .met) Refused Closed (w .met) m refl refl)
+            | opened w ↦ absurd (apart isOpened (turn .met) Opened Closed (w .met) m refl refl)
+            | closed w ↦ absurd (omega (arith, w .deep))
+            | whole w ↦ w
+          ]
+
+        -- an element that goes on
+        module _ (st′ : List ℕ) (turn : Turn) (w : Enters T t pool s sd here (g .below) (g .ats) (g .rest) st′ turn) where
+          pub goes-in : (r : ℕ) (d′ : List ℕ) → Opens k t (turn .here .level .row) d at r d′ → Going d′ st′ (turn .here) r
+          goes-in r d′ o = record {
+            below = advance l (here .level) (turn .here .level .row) ∷ g .below;
+            ats = w .attrs;
+            rest = w .rest;
+            stands = w .stands;
+            found = g .found ∙ w .found;
+            done = g .done ++ opens T l (rowAt l (turn .here .level .row) .kind) (turn .here .level .row);
+            handed = g .handed ∙ ap (λ z. (1, Option.none) ∷ (g .done ++ z)) (w .handed)
+                ∙ ap (λ z. (1, Option.none) ∷ z) (sym (append-assoc (g .done) (opens T l (rowAt l (turn .here .level .row) .kind) (turn .here .level .row))
+                (hands T t pool s sd (turn .here) (advance l (here .level) (turn .here .level .row) ∷ g .below) (w .attrs) (w .rest))));
+            put = more (opens T l (rowAt l (turn .here .level .row) .kind) (turn .here .level .row)) r d′ put-in;
+            least = g .least;
+            most = omega (arith, o .most, g .most, w .on);
+          }
+            where
+              q : Kind
+              q = rowAt l (turn .here .level .row) .kind
+
+              q-is : q ≡ kindIn t pool (turn .here .level .row)
+              q-is = kind-of (turn .here .level) (w .stands .placed)
+
+              put-in : Puts d at (itemsOf (opens T l (rowAt l (turn .here .level .row) .kind) (turn .here .level .row))) r d′
+              put-in = byCases (isGroup q)
+                  (λ b. puts-as d at (turn .here .level .row ∷ []) (itemsOf (opens T l q (turn .here .level .row))) r d′ (sym (opens-bytes q (turn .here .level .row) refl b))
+                  (o .group pool (ap isGroup (sym q-is) ∙ b)))
+                  (λ b. puts-as d at [] (itemsOf (opens T l q (turn .here .level .row))) r d′ (ap itemsOf (sym (opens-leaf q (turn .here .level .row) b)))
+                  (o .leaf pool (ap isGroup (sym q-is) ∙ b)))
+
+        -- the end of an element within another
+        module _ (st′ : List ℕ) (turn : Turn) (w : Leaves T t pool s sd here (g .below) (g .ats) (g .rest) st′ turn) where
+          abbrev row : ℕ
+          row = here .level .row
+
+          kind-here : rowAt l row .kind ≡ kindIn t pool row
+          kind-here = kind-of (here .level) (g .stands .placed)
+
+          child-here : Child l (turn .here .level .row) row
+          child-here = subst (Nested T t pool s sd row) (w .is) (g .stands .nested) .0
+
+          leaf-ok : (f : Leaf) → rowAt l row .kind ≡ leaf f → LeafOk f
+          leaf-ok f e = subst KindOk e (sd .well .kinds (turn .here .level .row) row child-here)
+
+          shut : (f : Leaf) → rowAt l row .kind ≡ leaf f → Shut t pool row (slice (here .value) (here .quote) s) (slice (here .at) (turn .less) s) f (currency (g .ats)) (w .chars)
+          shut f e = record {
+            kind = sym kind-here ∙ e;
+            ok = leaf-ok f e;
+            chars = w .spelt;
+            money = λ a. let m : rowAt l row .kind ≡ leaf amt = e ∙ ap leaf a in (g .stands .coin m, coin-is (slice (here .value) (here .quote) s) (g .stands .capitals m));
+          }
+
+          module _ (r : ℕ) (d′ : List ℕ) (o : Shuts k t pool row (slice (here .value) (here .quote) s) (slice (here .at) (turn .less) s) d at r d′) where
+            abbrev new : List (ℕ × Option (T .A))
+            new = closes T l (rowAt l row .kind) row (g .ats) (w .chars)
+
+            -- it adds these items, and nothing is found in it
+            goes-by : judged T (rowAt l row .kind) row (here .level .place) (g .ats) (w .chars) ≡ fine → Puts d at (itemsOf new) r d′ → Going d′ st′ (turn .here) r
+            goes-by j p = record {
+              below = w .outer;
+              ats = [];
+              rest = w .rest;
+              stands = w .stands;
+              found = g .found ∙ w .found ∙ ap (λ z. orElse z (finds T t pool s sd (turn .here) (w .outer) [] (w .rest))) j;
+              done = g .done ++ new;
+              handed = g .handed ∙ ap (λ z. (1, Option.none) ∷ (g .done ++ z)) (w .handed) ∙ ap (λ z. (1, Option.none) ∷ z) (sym (append-assoc (g .done) new (hands T t pool s sd (turn .here) (w .outer) [] (w .rest))));
+              put = more new r d′ p;
+              least = g .least;
+              most = omega (arith, o .most, g .most, w .on);
+            }
+
+            abbrev spelt : Leaf → Option (T .A)
+            spelt f = T .spell f (currency (g .ats)) (w .chars)
+
+            by-group : isGroup (rowAt l row .kind) ≡ true → Going d′ st′ (turn .here) r
+            by-group b = goes-by (judged-group T l (rowAt l row .kind) row (here .level .place) (g .ats) (w .chars) b)
+                (puts-as d at [] (itemsOf new) r d′ (ap itemsOf (sym (closes-group T l (rowAt l row .kind) row (g .ats) (w .chars) b))) (o .group (ap isGroup (sym kind-here) ∙ b)))
+
+            item-of : (f : Leaf) → rowAt l row .kind ≡ leaf f → (v : Option (T .A)) → spelt f ≡ v → ItemPut k t pool row f v d at r d′
+            item-of f e v u = subst (λ z. ItemPut k t pool row f z d at r d′) u (o .leaf f (currency (g .ats)) (w .chars) (shut f e))
+
+            by-leaf : r ≢ 0 → (f : Leaf) → rowAt l row .kind ≡ leaf f → (v : Option (T .A)) → spelt f ≡ v → Going d′ st′ (turn .here) r
+            by-leaf n f e Option.none u = absurd (n (item-of f e Option.none u))
+            by-leaf n f e (Option.some v) u = goes-by
+                (ap (λ (q : Kind). judged T q row (here .level .place) (g .ats) (w .chars)) e ∙ ap (λ z. first.if (isNone z) 12 row (here .level .place)) u)
+                (puts-as d at (row ∷ k .bytes f v) (itemsOf new) r d′
+                (sym (ap (λ (q : Kind). itemsOf (closes T l q row (g .ats) (w .chars))) e ∙ ap (λ z. itemsOf ((row, z) ∷ [])) u ∙ leaf-item row f v e))
+                (item-of f e (Option.some v) u))
+
+            pub goes-out : r ≢ 0 → Going d′ st′ (turn .here) r
+            goes-out n = kinds (rowAt l row .kind) by-group (λ f e. by-leaf n f e (spelt f) refl)
+
+            bad-leaf : (d₀ : List ℕ) → r ≡ 0 → (f : Leaf) → rowAt l row .kind ≡ leaf f → (v : Option (T .A)) → spelt f ≡ v → Goal d₀ (verdict 12 row (here .level .place)) d′
+            bad-leaf d₀ n f e Option.none u = violation-is first-found d₀ (verdict 12 row (here .level .place)) d′
+                (g .found ∙ w .found
+                ∙ ap (λ z. orElse z (finds T t pool s sd (turn .here) (w .outer) [] (w .rest)))
+                (ap (λ (q : Kind). judged T q row (here .level .place) (g .ats) (w .chars)) e ∙ ap (λ z. first.if (isNone z) 12 row (here .level .place)) u))
+            bad-leaf d₀ n f e (Option.some v) u = absurd (omega (arith, n, (item-of f e (Option.some v) u) .behind))
+
+            pub bad-value : (d₀ : List ℕ) → r ≡ 0 → Goal d₀ (verdict 12 row (here .level .place)) d′
+            bad-value d₀ n = kinds (rowAt l row .kind)
+                (λ b. absurd (omega (arith, n, g .least, g .put .behind, (o .group (ap isGroup (sym kind-here) ∙ b)) .behind)))
+                (λ f e. bad-leaf d₀ n f e (spelt f) refl)
+
+        -- the end of the root
+        pub ends-in : Spelling T → (d₀ : List ℕ) → Puts d₀ 0 (header l ++ (1 ∷ [])) a₁ d₁ → (st′ : List ℕ) (turn : Turn) → Ends T t pool s sd here (g .below) (g .ats) (g .rest) st′ turn → (d′ : List ℕ) → d′ ≡ pasted d at (0 ∷ [])
+            → Goal d₀ (verdict 0 0 (at + 1)) d′
+        unfolding image
+        ends-in y d₀ p st′ turn w d′ e = holds none c has (ap (λ n. verdict 0 0 n) length-is) (λ h. image-put .is (omega (arith, h)))
+          where
+            none : firstViolation T l (messageOf (x .tree)) ≡ fine
+            none = first-found ∙ g .found ∙ w .found
+
+            content : (c : Content (T .A)) × Meets (T .Is) l c × Has T l (messageOf (x .tree)) c
+            content = accept T y l (sd .well) (messageOf (x .tree)) (one-element (x .tree .root) (rootAt (x .tree)) (x .good .one)) none
+
+            c : Content (T .A)
+            c = content .0
+
+            has : Has T l (messageOf (x .tree)) c
+            has = content .2
+
+            all-done : (1, Option.none) ∷ g .done ≡ items c
+            all-done = ap (λ z. (1, Option.none) ∷ z) (sym (append-nil (g .done)) ∙ ap (λ z. g .done ++ z) (sym (w .handed))) ∙ sym (g .handed) ∙ items-are T y l (sd .well) (messageOf (x .tree)) c has
+
+            root-bytes : itemsOf ((1, Option.none) ∷ g .done) ≡ 1 ∷ itemsOf (g .done)
+            root-bytes = items-append ((1, Option.none) ∷ []) (g .done) ∙ ap (λ (z : List ℕ). z ++ itemsOf (g .done)) (group-item 1 (ap isGroup (sd .well .root .1)))
+
+            image-bytes : header l ++ (1 ∷ []) ++ itemsOf (g .done) ++ (0 ∷ []) ≡ imageOf k l c
+            image-bytes =
+                append-assoc (header l ++ (1 ∷ [])) (itemsOf (g .done)) (0 ∷ []) ∙ append-assoc (header l) (1 ∷ []) (itemsOf (g .done) ++ (0 ∷ []))
+                ∙ ap (λ (z : List ℕ). header l ++ (z ++ (0 ∷ []))) (sym root-bytes ∙ ap itemsOf all-done)
+
+            image-put : Puts d₀ 0 (imageOf k l c) (at + 1) d′
+            image-put = puts-as d₀ 0 (header l ++ (1 ∷ []) ++ itemsOf (g .done) ++ (0 ∷ [])) (imageOf k l c) (at + 1) d′ image-bytes
+                (puts-then d₀ 0 (header l ++ (1 ∷ []) ++ itemsOf (g .done)) at d (0 ∷ []) (at + 1) d′
+                (puts-then d₀ 0 (header l ++ (1 ∷ [])) a₁ d₁ (itemsOf (g .done)) at d p (g .put)) (puts-pasted d at (0 ∷ []) 1 d′ refl e))
+
+            length-is : at + 1 ≡ length (imageOf k l c)
+            length-is = image-put .behind ∙ plainly (length (imageOf k l c))

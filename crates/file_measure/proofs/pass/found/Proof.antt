@@ -1,0 +1,139 @@
+-- `pass::found` meets its contract. Assumes nothing.
+use Rattle.file_measure.proofs.pass.found.Statement.{statement}
+use Rattle.file_measure.proofs.pass.found.Tie as tie
+use borrow.Author.Needs.{needs}
+use native.Mathlib.Omega.{arith}
+use mathlib.Core.Path.{refl}
+use mathlib.Core.List.{[]}
+use lib.ListN.{length}
+use Prim.Native.Nat.{_-_}
+use Rattle.file_measure.proofs.Puts.{head-nowhere, pasted-nowhere}
+use Rattle.file_measure.proofs.House.{GoingOn, begins-refused, begins-closed, begins, at-low, loop-refused, group-less, group-on, root-end, leaf-less, leaf-on, leaf-bad, measures}
+
+abbrev Inv-loop : tie.InvT-loop
+Inv-loop rows pool s stack₀ here₀ at₀ stack here at = GoingOn rows pool s [] 6 [] stack here at
+
+abbrev μ-loop : tie.MeasureT-loop
+μ-loop rows pool s stack₀ here₀ at₀ stack here at = length s - here .at
+
+begin-requires : tie.Need-begin-requires Inv-loop μ-loop
+begin-requires c κs =
+    search needs
+
+enum-told : tie.Need-enum-told Inv-loop μ-loop
+enum-told c =
+    search needs
+
+returns : tie.Need-returns Inv-loop μ-loop
+returns c =
+    measures _ _ _ _ _ _ (begins-refused _ _ _ (c .before .before .before .before .before .before .before .pre) _ (c .before .before .before .begin .ensures) [] (c .before .enum-told .given .1))
+
+enum-told-2 : tie.Need-enum-told-2 Inv-loop μ-loop
+enum-told-2 c =
+    search needs
+
+returns-2 : tie.Need-returns-2 Inv-loop μ-loop
+returns-2 c =
+    measures _ _ _ _ _ _ (begins-closed _ _ _ (c .before .before .before .before .before .before .before .pre) _ (c .before .before .before .begin .ensures) [] [] (c .before .enum-told2 .given .1))
+
+enum-told-3 : tie.Need-enum-told-3 Inv-loop μ-loop
+enum-told-3 c =
+    search needs
+
+loop-holds : tie.Need-loop-holds Inv-loop μ-loop
+loop-holds c =
+    begins _ _ _ (c .before .before .before .before .before .before .before .pre) _ (c .before .before .before .begin .ensures) (c .before .enum-told3 .given .1) _ refl _ _ _ (head-nowhere _)
+
+step-requires : tie.Need-step-requires Inv-loop μ-loop
+step-requires c κs =
+    search needs
+
+enum-told-4 : tie.Need-enum-told-4 Inv-loop μ-loop
+enum-told-4 c =
+    search needs
+
+returns-3 : tie.Need-returns-3 Inv-loop μ-loop
+returns-3 c =
+    measures _ _ _ _ _ _ (loop-refused _ _ _ (c .before .before .before .before .before .before .before .before .before .before .before .before .before .before .before .before .pre) _ _ _ _ _ _ (c .before .before .before .before .before .before .before .before .loop .inv) _ (c .before .before .before .before .step .ensures .0) _ (c .before .before .before .before .step .ensures .1) [] (c .before .enum-told4 .given .1))
+
+enum-told-5 : tie.Need-enum-told-5 Inv-loop μ-loop
+enum-told-5 c =
+    search needs
+
+group-end-requires : tie.Need-group-end-requires Inv-loop μ-loop
+group-end-requires c κs =
+    at-low _ _ _ (c .before .before .before .before .before .before .before .before .before .before .before .before .before .before .before .before .before .pre) _ _ _ _ _ _ (c .before .before .before .before .before .before .before .before .before .loop .inv)
+
+loop-less : tie.Need-loop-less Inv-loop μ-loop
+loop-less c =
+    group-less _ _ _ (c .before .before .before .before .before .before .before .before .before .before .before .before .before .before .before .before .before .before .pre) _ _ _ _ _ _ (c .before .before .before .before .before .before .before .before .before .before .loop .inv) _ (c .before .before .before .before .before .before .step .ensures .0) _ (c .before .before .before .before .before .before .step .ensures .1) (c .before .before .before .enum-told5 .given .1)
+
+loop-again : tie.Need-loop-again Inv-loop μ-loop
+loop-again c =
+    group-on _ _ _ (c .before .before .before .before .before .before .before .before .before .before .before .before .before .before .before .before .before .before .pre) _ _ _ _ _ _ (c .before .before .before .before .before .before .before .before .before .before .loop .inv) _ (c .before .before .before .before .before .before .step .ensures .0) _ (c .before .before .before .before .before .before .step .ensures .1) (c .before .before .before .enum-told5 .given .1) _ _ (c .group-end .ensures)
+
+enum-told-6 : tie.Need-enum-told-6 Inv-loop μ-loop
+enum-told-6 c =
+    search needs
+
+add-says : tie.Need-add-says Inv-loop μ-loop
+add-says c =
+    omega (arith, at-low _ _ _ (c .before .before .before .before .before .before .before .before .before .before .before .before .before .before .before .before .before .pre) _ _ _ _ _ _ (c .before .before .before .before .before .before .before .before .before .loop .inv))
+
+says-requires : tie.Need-says-requires Inv-loop μ-loop
+says-requires c κs =
+    search needs
+
+returns-4 : tie.Need-returns-4 Inv-loop μ-loop
+returns-4 c =
+    measures _ _ _ _ _ _ (root-end _ _ _ (c .before .before .before .before .before .before .before .before .before .before .before .before .before .before .before .before .before .before .pre) _ _ _ _ _ _ (c .before .before .before .before .before .before .before .before .before .before .loop .inv) _ (c .before .before .before .before .before .before .step .ensures .0) _ (c .before .before .before .before .before .before .step .ensures .1) (c .before .before .before .enum-told6 .given .1) (c .before .if1 .taken) _ (head-nowhere _) _ (pasted-nowhere _ _) _ (c .says .ensures))
+
+leaf-end-requires : tie.Need-leaf-end-requires Inv-loop μ-loop
+leaf-end-requires c κs =
+    at-low _ _ _ (c .before .before .before .before .before .before .before .before .before .before .before .before .before .before .before .before .before .before .before .pre) _ _ _ _ _ _ (c .before .before .before .before .before .before .before .before .before .before .before .loop .inv)
+
+says-requires-2 : tie.Need-says-requires-2 Inv-loop μ-loop
+says-requires-2 c κs =
+    search needs
+
+returns-5 : tie.Need-returns-5 Inv-loop μ-loop
+returns-5 c =
+    measures _ _ _ _ _ _ (leaf-bad _ _ _ (c .before .before .before .before .before .before .before .before .before .before .before .before .before .before .before .before .before .before .before .before .before .before .pre) _ _ _ _ _ _ (c .before .before .before .before .before .before .before .before .before .before .before .before .before .before .loop .inv) _ (c .before .before .before .before .before .before .before .before .before .before .step .ensures .0) _ (c .before .before .before .before .before .before .before .before .before .before .step .ensures .1) (c .before .before .before .before .before .before .before .enum-told6 .given .1) (c .before .before .before .before .before .if1 .left) _ _ (c .before .before .leaf-end .ensures) [] (c .before .if2 .taken) _ (c .says2 .ensures))
+
+loop-less-2 : tie.Need-loop-less-2 Inv-loop μ-loop
+loop-less-2 c =
+    leaf-less _ _ _ (c .before .before .before .before .before .before .before .before .before .before .before .before .before .before .before .before .before .before .before .before .before .before .pre) _ _ _ _ _ _ (c .before .before .before .before .before .before .before .before .before .before .before .before .before .before .loop .inv) _ (c .before .before .before .before .before .before .before .before .before .before .step .ensures .0) _ (c .before .before .before .before .before .before .before .before .before .before .step .ensures .1) (c .before .before .before .before .before .before .before .enum-told6 .given .1) (c .before .before .before .before .before .if1 .left)
+
+loop-again-2 : tie.Need-loop-again-2 Inv-loop μ-loop
+loop-again-2 c =
+    leaf-on _ _ _ (c .before .before .before .before .before .before .before .before .before .before .before .before .before .before .before .before .before .before .before .before .before .before .pre) _ _ _ _ _ _ (c .before .before .before .before .before .before .before .before .before .before .before .before .before .before .loop .inv) _ (c .before .before .before .before .before .before .before .before .before .before .step .ensures .0) _ (c .before .before .before .before .before .before .before .before .before .before .step .ensures .1) (c .before .before .before .before .before .before .before .enum-told6 .given .1) (c .before .before .before .before .before .if1 .left) _ _ (c .before .before .leaf-end .ensures) (c .before .if2 .left)
+
+pub found-spec : {M : Type 1} → statement M
+found-spec =
+    tie.close
+    (tie.spec
+    Inv-loop
+    μ-loop
+    begin-requires
+    enum-told
+    returns
+    enum-told-2
+    returns-2
+    enum-told-3
+    loop-holds
+    step-requires
+    enum-told-4
+    returns-3
+    enum-told-5
+    group-end-requires
+    loop-less
+    loop-again
+    enum-told-6
+    add-says
+    says-requires
+    returns-4
+    leaf-end-requires
+    says-requires-2
+    returns-5
+    loop-less-2
+    loop-again-2)

@@ -1,0 +1,105 @@
+-- One pass over a message: the first violation, or the image's length and its bytes in a lent buffer. Assumes nothing.
+use mathlib.Core.Path.{_≡_}
+use mathlib.Core.Bool.{true, false}
+use mathlib.Core.List.{List, [], _∷_}
+use mathlib.Core.Option.{Option, none, some}
+use Prim.Native.Nat.{ℕ, suc, _+_, _≤_, _<_}
+use lib.ListN.{length}
+use Rattle.answer.specs.Table.{limit}
+use Rattle.text.specs.Pasting.{pasted}
+use Rattle.text_characters.specs.Pieces.{Spells}
+use Rattle.list.specs.Listing.{Leaf, amt, Kind, leaf, Listing, isGroup}
+use Rattle.list.specs.WellFormed.{LeafOk}
+use Rattle.list.specs.Content.{Content}
+use Rattle.list.specs.Table.{cell, placeIn, kindOf, wordsIn}
+use Rattle.list.specs.Sound.{Sound}
+use Rattle.xml.specs.House.{HouseXml}
+use Rattle.xml.specs.Message.{Parts, messageOf}
+use Rattle.value.specs.Code.{Ccy}
+use Rattle.file_walk.specs.declared.verdict.Verdict.{Verdict}
+use Rattle.file_walk.specs.First.{fine, found, firstViolation}
+use Rattle.file_walk.specs.Denotes.{Has}
+use Rattle.file.specs.Instance.{Kinds}
+use Rattle.file.specs.File.{imageOf}
+use Rattle.file_measure.specs.Measured.{verdict}
+
+-- bs stand in the buffer from `at` on where they fit in, and r is the place behind them; the buffer keeps its length
+pub record Puts (d : List ℕ) (at : ℕ) (bs : List ℕ) (r : ℕ) (d′ : List ℕ) : Type 0 where
+  pub behind : r ≡ at + length bs
+  pub long : length d′ ≡ length d
+  pub is : at + length bs ≤ length d → d′ ≡ pasted d at bs
+
+-- the place of the word raw in its list, as one byte: n is 1, or 0 where it has none
+pub record Worded (ws : List (List ℕ)) (raw d : List ℕ) (at n : ℕ) (d′ : List ℕ) : Type 0 where
+  pub most : n ≤ 1
+  pub long : length d′ ≡ length d
+  pub none : placeIn ws raw ≡ 0 → Puts d at [] (at + n) d′
+  pub some : (p : ℕ) → placeIn ws raw ≡ suc p → p < 255 → Puts d at (suc p ∷ []) (at + n) d′
+
+-- the same where nothing is written
+abbrev pub WordSize : List (List ℕ) → List ℕ → ℕ → Type 0
+WordSize ws raw n = (at : ℕ) → Worded ws raw [] at n []
+
+module _ (t pool : List ℕ) where
+  abbrev pub kindIn : ℕ → Kind
+  kindIn r = kindOf (cell t r 2) (cell t r 3) (wordsIn t pool r)
+
+  -- an element of row r is a leaf f with the raw text raw, which spells the characters cs; cur is the raw text of an amount's currency, w its
+  -- characters
+  pub record Shut (r : ℕ) (cur raw : List ℕ) (f : Leaf) (w cs : List ℕ) : Type 0 where
+    pub kind : kindIn r ≡ leaf f
+    pub ok : LeafOk f
+    pub chars : Spells raw cs
+    pub money : f ≡ amt → (w ≡ cur) × Ccy cur
+
+module _ (k : Kinds) where
+  -- the bytes of the value that is spelt; none where there is none
+  abbrev pub given : Leaf → Option (k .types .A) → List ℕ
+  given f none = []
+  given f (some v) = k .bytes f v
+
+  module _ (t pool : List ℕ) where
+    -- a leaf's value: n bytes, 0 where its text spells none
+    pub record Valued (row : ℕ) (cur raw d : List ℕ) (at n : ℕ) (d′ : List ℕ) : Type 0 where
+      pub most : n ≤ 65537
+      pub long : length d′ ≡ length d
+      pub value : (f : Leaf) (w cs : List ℕ) → Shut t pool row cur raw f w cs → Puts d at (given f (k .types .spell f w cs)) (at + n) d′
+
+    -- the same where nothing is written, whatever the currency
+    abbrev pub Sizes : ℕ → List ℕ → ℕ → Type 0
+    Sizes row raw n = (cur : List ℕ) (at : ℕ) → Valued row cur raw [] at n []
+
+    -- "An item is the row byte and, for a leaf, its value": up to r, which is 0 where there is no value
+    abbrev pub ItemPut : ℕ → Leaf → Option (k .types .A) → List ℕ → ℕ → ℕ → List ℕ → Type 0
+    ItemPut row f none d at r d′ = r ≡ 0
+    ItemPut row f (some v) d at r d′ = Puts d at (row ∷ k .bytes f v) r d′
+
+    -- at the end of an element: of a leaf its item, of a group nothing
+    pub record Shuts (row : ℕ) (cur raw d : List ℕ) (at r : ℕ) (d′ : List ℕ) : Type 0 where
+      pub most : r ≤ at + 65538
+      pub long : length d′ ≡ length d
+      pub group : isGroup (kindIn t pool row) ≡ true → Puts d at [] r d′
+      pub leaf : (f : Leaf) (w cs : List ℕ) → Shut t pool row cur raw f w cs → ItemPut row f (k .types .spell f w cs) d at r d′
+
+  -- at the beginning of an element: of a group its item, of a leaf nothing
+  pub record Opens (t : List ℕ) (row : ℕ) (d : List ℕ) (at r : ℕ) (d′ : List ℕ) : Type 0 where
+    pub most : r ≤ at + 1
+    pub group : (pool : List ℕ) → isGroup (kindIn t pool row) ≡ true → Puts d at (row ∷ []) r d′
+    pub leaf : (pool : List ℕ) → isGroup (kindIn t pool row) ≡ false → Puts d at [] r d′
+
+-- what a pass asks: a well-formed list, and a file that codes 1 and 3 do not refuse
+pub record Ready (t pool s : List ℕ) : Type 0 where
+  pub sound : Sound t pool
+  pub xml : HouseXml s
+  pub small : length s ≤ limit
+
+module _ (k : Kinds) (l : Listing) where
+  -- the first violation of a message; or that there is none, its image's length, and its image where that fits in
+  pub data Passes (m : Parts) (d : List ℕ) (v : Verdict) (d′ : List ℕ) : Type 0 where
+    violates : (c r o : ℕ) → firstViolation (k .types) l m ≡ found c r o → v ≡ verdict c r o → Passes m d v d′
+    holds : firstViolation (k .types) l m ≡ fine → (c : Content (k .types .A)) → Has (k .types) l m c → v ≡ verdict 0 0 (length (imageOf k l c))
+        → (length (imageOf k l c) ≤ length d → d′ ≡ pasted d 0 (imageOf k l c)) → Passes m d v d′
+
+  -- the same of a text that is house XML
+  abbrev pub Passed : List ℕ → List ℕ → Verdict → List ℕ → Type 0
+  Passed s d v d′ = (x : HouseXml s) → Passes (messageOf (x .tree)) d v d′

@@ -1,0 +1,128 @@
+// The walk over a message that is house XML: its first violation, or its image's length. Nothing is written: values are only counted.
+
+use file_walk::begin::begin;
+use file_walk::step::Here;
+use file_walk::step::Met;
+use file_walk::step::step;
+use file_walk::tag::is_group;
+use file_walk::verdict::Verdict;
+use list::lookup::cell;
+use list::table::ENUM;
+use list::table::KIND;
+use list::table::MOST;
+use list::word::word_byte;
+use value_to_bytes::write::size;
+ghost use mathlib.Core.Path.{_≡_};
+ghost use mathlib.Core.List.{[]};
+ghost use Prim.Native.Nat.{_≤_};
+ghost use lib.Seq.{slice};
+ghost use Rattle.list.specs.Table.{cell, wordsIn, listOf};
+ghost use Rattle.file.specs.Instance.{houseKinds};
+ghost use Rattle.file_measure.specs.Measured.{verdict, Measured};
+ghost use Rattle.file_measure.specs.Pass.{WordSize, Sizes, Shuts, Opens, Ready};
+
+// The place behind the item of a group of this row, which is its row byte; of a leaf the same place.
+fn group_end(rows: &[u16], row: usize, at: usize) -> usize
+    requires { ⌜ at ≤ 1000000000000 ⌝ }
+    ensures { λ r. ⌜ Opens houseKinds (now (rows .entry)) row [] at r [] ⌝ }
+{
+    if is_group(cell(rows, row, KIND)) {
+        return at + 1;
+    }
+    at
+}
+
+// How many bytes an ENUM's word has, which are the one of its place in its row's list; 0 where it is no word of the list.
+fn word_size(rows: &[u16], pool: &[u8], s: &[u8], row: usize, a: usize, b: usize) -> usize
+    ensures { λ n. ⌜ WordSize (wordsIn (now (rows .entry)) (now (pool .entry)) row) (slice a b (now (s .entry))) n ⌝ }
+{
+    if word_byte(rows, pool, row, s, a, b) == 0 {
+        return 0;
+    }
+    1
+}
+
+// How many bytes the value has of a leaf of this row and kind whose raw text is s from a to b; 0 where the text spells none.
+fn value_size(
+    rows: &[u16],
+    pool: &[u8],
+    s: &[u8],
+    kind: usize,
+    row: usize,
+    a: usize,
+    b: usize,
+) -> usize
+    requires { ⌜ (kind ≡ cell (now rows) row 2) × (kind ≤ 11) ⌝ }
+    ensures { λ n. ⌜ Sizes houseKinds (now (rows .entry)) (now (pool .entry)) row (slice a b (now (s .entry))) n ⌝ }
+{
+    if kind == ENUM {
+        return word_size(rows, pool, s, row, a, b);
+    }
+    size(kind as u8, cell(rows, row, MOST), s, a, b)
+}
+
+// The place behind the item of a leaf that ends at less, 0 where its text spells no value; of a group the same place.
+fn leaf_end(rows: &[u16], pool: &[u8], s: &[u8], here: Here, less: usize, at: usize) -> usize
+    requires { ⌜ at ≤ 1000000000000 ⌝ }
+    ensures { λ r. ⌜ Shuts houseKinds (now (rows .entry)) (now (pool .entry)) (here .level .row) (slice (here .value) (here .quote) (now (s .entry))) (slice (here .at) less (now (s .entry))) [] at r [] ⌝ }
+{
+    let row = here.level.row;
+    let kind = cell(rows, row, KIND);
+    if is_group(kind) {
+        return at;
+    }
+    let n = value_size(rows, pool, s, kind, row, here.at, less);
+    if n == 0 {
+        return 0;
+    }
+    at + 1 + n
+}
+
+fn says(code: usize, row: usize, place: usize) -> Verdict
+    ensures { λ v. ⌜ v ≡ verdict code row place ⌝ }
+{
+    Verdict { code, row, place }
+}
+
+// The header and the root's row byte.
+const HEAD: usize = 6;
+
+// From the root's tag to its end, one step after the other. No sum overflows: each step goes on in a text of at most 1,048,576 bytes, and
+// an item has at most 65,538. The tables are arrays here and not slices: where their lengths are known, each lookup has one bound less.
+pub(crate) fn found(rows: &[u16; 928], pool: &[u8; 311], s: &[u8]) -> Verdict
+    requires { ⌜ Ready (now rows) (now pool) (now s) ⌝ }
+    ensures { λ v. ⌜ Measured houseKinds (listOf (now (rows .entry)) (now (pool .entry))) (now (s .entry)) v ⌝ }
+{
+    let first = begin(rows, pool, s);
+    let begun = first.met;
+    match begun {
+        Met::Refused => return first.verdict,
+        Met::Closed => return first.verdict,
+        Met::Opened => {}
+    }
+    let mut stack = [0usize; 80];
+    let mut here = first.here;
+    let mut at = HEAD;
+    loop {
+        let turn = step(rows, pool, s, &mut stack, here);
+        let level = here.level;
+        let met = turn.met;
+        match met {
+            Met::Refused => return turn.verdict,
+            Met::Opened => {
+                here = turn.here;
+                at = group_end(rows, here.level.row, at);
+            }
+            Met::Closed => {
+                if here.depth == 0 {
+                    return says(0, 0, at + 1);
+                }
+                at = leaf_end(rows, pool, s, here, turn.less, at);
+                if at == 0 {
+                    return says(12, level.row, level.place);
+                }
+                here = turn.here;
+            }
+        }
+    }
+}

@@ -1,0 +1,21 @@
+-- `begin::hollow` meets its contract. Assumes nothing.
+use borrow.Author.Needs.{needs}
+use Rattle.file_walk.proofs.begin.hollow.Statement.{statement}
+use Rattle.file_walk.proofs.begin.hollow.Tie as tie
+use borrow.Author.Tests.{not-true, not-false}
+use Rattle.file_walk.proofs.Rooting.{hollow-no, hollow-yes}
+
+refused-requires : tie.Need-refused-requires
+refused-requires c κs = search needs
+
+returns : tie.Need-returns
+returns c = hollow-no _ _ _ _ (not-true _ (c .before .if1 .taken)) (c .refused .ensures)
+
+refused-requires-2 : tie.Need-refused-requires-2
+refused-requires-2 c κs = search needs
+
+returns-2 : tie.Need-returns-2
+returns-2 c = hollow-yes _ _ _ _ (not-false _ (c .before .if1 .left)) (c .refused2 .ensures)
+
+pub hollow-spec : {M : Type 1} → statement M
+hollow-spec = tie.close (tie.spec refused-requires returns refused-requires-2 returns-2)

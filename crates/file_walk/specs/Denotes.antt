@@ -1,0 +1,70 @@
+-- Which content a message has. Assumes nothing.
+use mathlib.Core.Path.{_≡_}
+use mathlib.Core.Bool.{Bool, true, false}
+use mathlib.Core.List.{List, [], _∷_}
+use Prim.Native.Nat.{ℕ}
+use Rattle.text.specs.Bytes.{ascii, isBlank}
+use Rattle.list.specs.Listing.{Leaf, ref, iban, ccy, bool, num, amt, date, dtm, txt, enum, Kind, group, choice, leaf, Listing, rowAt, Child, isGroup}
+use Rattle.list.specs.Content.{Content, end, value, node}
+use Rattle.xml.specs.Message.{Attrs, Parts, none, char, element}
+use Rattle.file_walk.specs.Types.{Types}
+use Rattle.file_walk.specs.First.{textOf, currency}
+
+-- no element stands in it
+abbrev pub plain : Parts → Bool
+plain none = true
+plain (char o x k) = plain k
+plain (element o n ats i k) = false
+
+-- exactly one element
+abbrev pub OneElement : Parts → Type 0
+OneElement none = ⊥
+OneElement (char o x k) = ⊥
+OneElement (element o n ats i k) = k ≡ none
+
+-- "attributes .. exactly the type's": of an amount one, `Ccy`, "of type CCY"; of another leaf none
+module _ (t : Types) where
+  abbrev pub LeafAttrs : Leaf → Attrs → Type 0
+  LeafAttrs amt ats = (w : List ℕ) × (v : t .A) × (ats ≡ (ascii "Ccy", w) ∷ []) × t .Spelt ccy [] w v
+  LeafAttrs ref ats = ats ≡ []
+  LeafAttrs iban ats = ats ≡ []
+  LeafAttrs ccy ats = ats ≡ []
+  LeafAttrs bool ats = ats ≡ []
+  LeafAttrs num ats = ats ≡ []
+  LeafAttrs date ats = ats ≡ []
+  LeafAttrs dtm ats = ats ≡ []
+  LeafAttrs (txt k) ats = ats ≡ []
+  LeafAttrs (enum ws) ats = ats ≡ []
+
+module _ (t : Types) (l : Listing) where
+  -- an element with these attributes and parts spells a leaf's value
+  abbrev pub Spells : Kind → Attrs → Parts → t .A → Type 0
+  Spells group ats i v = ⊥
+  Spells choice ats i v = ⊥
+  Spells (leaf k) ats i v = (plain i ≡ true) × LeafAttrs t k ats × t .Spelt k (currency ats) (textOf i) v
+
+  -- what stands in an element of row p, and the content that it is: blanks aside, elements that are children of p by their names
+  abbrev pub Denotes : ℕ → Parts → Content (t .A) → Type 0
+  Denotes p none end = Unit {0}
+  Denotes p none (value r v c) = ⊥
+  Denotes p none (node r d c) = ⊥
+  Denotes p (char o x k) c = (isBlank x ≡ true) × Denotes p k c
+  Denotes p (element o n ats i k) end = ⊥
+  Denotes p (element o n ats i k) (value r v c) = (Child l p r × (rowAt l r .name ≡ n)) × Spells (rowAt l r .kind) ats i v × Denotes p k c
+  Denotes p (element o n ats i k) (node r d c) =
+      (Child l p r × (rowAt l r .name ≡ n)) × ((isGroup (rowAt l r .kind) ≡ true) × (ats ≡ [])) × Denotes r i d × Denotes p k c
+
+  -- an element as the root: row 1's name, the namespace and no other attribute, nothing behind it
+  pub record Rooted (n : List ℕ) (ats : Attrs) (i k : Parts) (c : Content (t .A)) : Type 0 where
+    pub name : rowAt l 1 .name ≡ n
+    pub attrs : ats ≡ (ascii "xmlns", l .space) ∷ []
+    pub alone : k ≡ none
+    pub kids : Content (t .A)
+    pub is : c ≡ node 1 kids end
+    pub parts : Denotes 1 i kids
+
+  -- the content of a message
+  abbrev pub Has : Parts → Content (t .A) → Type 0
+  Has none c = ⊥
+  Has (char o x k) c = ⊥
+  Has (element o n ats i k) c = Rooted n ats i k c

@@ -1,0 +1,121 @@
+-- Small messages against the house list with their first violations, one or more for each code; the types are a stand-in. Assumes nothing.
+use mathlib.Core.Path.{_≡_}
+use mathlib.Core.List.{List, [], _∷_}
+use mathlib.Core.Option.{Option}
+use Prim.Native.Nat.{ℕ, suc}
+use Prim.Native.String.{String}
+use Rattle.text.specs.Bytes.{ascii}
+use Rattle.list.specs.Listing.{Leaf, ref, iban, ccy, bool, num, amt, date, dtm, txt, enum}
+use Rattle.xml.specs.Message.{Attrs, Parts, none, char, element}
+use Rattle.file_walk.specs.Types.{Types}
+use Rattle.file_walk.specs.First.{Found, fine, found}
+
+-- a stand-in: every text but the empty one is a value of every type but NUM, which has none
+abbrev pub someText : List ℕ → Option (List ℕ)
+someText [] = Option.none
+someText (x ∷ cs) = Option.some (x ∷ cs)
+
+abbrev pub spellAny : Leaf → List ℕ → Option (List ℕ)
+spellAny num cs = Option.none
+spellAny ref cs = someText cs
+spellAny iban cs = someText cs
+spellAny ccy cs = someText cs
+spellAny bool cs = someText cs
+spellAny amt cs = someText cs
+spellAny date cs = someText cs
+spellAny dtm cs = someText cs
+spellAny (txt k) cs = someText cs
+spellAny (enum ws) cs = someText cs
+
+abbrev pub anyText : Types
+anyText = record {
+  A = List ℕ;
+  Is = λ k v. Unit {0};
+  Spelt = λ k w cs v. spellAny k cs ≡ Option.some v;
+  spell = λ k w cs. spellAny k cs;
+}
+
+-- an element without attributes, its `<` at a place, with its parts, and what follows it; characters; a leaf with its text; an amount
+abbrev pub el : ℕ → String → Parts → Parts → Parts
+el o n i k = element o (ascii n) [] i k
+
+abbrev pub chars : ℕ → List ℕ → Parts → Parts
+chars o [] k = k
+chars o (x ∷ xs) k = char o x (chars (suc o) xs k)
+
+abbrev pub lf : ℕ → String → String → Parts → Parts
+lf o n s k = el o n (chars (suc o) (ascii s) none) k
+
+abbrev pub amount : ℕ → Attrs → String → Parts → Parts
+amount o ats s k = element o (ascii "Amt") ats (chars (suc o) (ascii s) none) k
+
+abbrev pub euro : Attrs
+euro = (ascii "Ccy", ascii "EUR") ∷ []
+
+abbrev pub space : Attrs
+space = (ascii "xmlns", ascii "urn:iso:std:iso:20022:tech:xsd:camt.053.001.08") ∷ []
+
+abbrev pub document : Attrs → Parts → Parts
+document ats i = element 0 (ascii "Document") ats i none
+
+abbrev pub header : Parts → Parts
+header k = el 20 "GrpHdr" (lf 30 "MsgId" "M1" (lf 40 "CreDtTm" "T" none)) k
+
+abbrev pub account : Parts → Parts
+account k = el 120 "Acct" (el 130 "Id" (el 140 "Othr" (lf 150 "Id" "9" none) none) none) k
+
+abbrev pub balance : ℕ → Attrs → Parts → Parts
+balance o ats k =
+    el o "Bal" (el 210 "Tp" (el 220 "CdOrPrtry" (lf 230 "Cd" "CLBD" none) none) (amount 240 ats "5.00" (lf 250 "CdtDbtInd" "CRDT" (el 260 "Dt" (lf 270 "Dt" "D" none) none)))) k
+
+-- a message with these parts in its statement
+abbrev pub message : Parts → Parts
+message i = document space (el 10 "BkToCstmrStmt" (header (el 100 "Stmt" i none)) none)
+
+-- a whole statement, with these parts behind its balance; an entry with these details
+abbrev pub statement : Parts → Parts
+statement k = message (lf 110 "Id" "S1" (account (balance 200 euro k)))
+
+abbrev pub entry : Parts → Parts
+entry i =
+    el 300 "Ntry" (amount 310 euro "1" (lf 320 "CdtDbtInd" "DBIT" (el 330 "Sts" (lf 340 "Cd" "BOOK" none)
+    (el 350 "BkTxCd" (el 360 "Prtry" (lf 370 "Cd" "X" none) none) (el 380 "NtryDtls" (el 390 "TxDtls" i none) none))))) none
+
+unfoldable pub examples : List (Parts × Found)
+examples =
+    (statement none, fine) ∷
+    (statement (balance 290 euro (entry (amount 400 euro "1" (lf 410 "CdtDbtInd" "DBIT" none)))), fine) ∷
+    -- 4: no attribute; another name; a second attribute
+    (document [] none, found 4 1 0) ∷
+    (element 7 (ascii "document") space none none, found 4 1 7) ∷
+    (document ((ascii "a", []) ∷ space) none, found 4 1 0) ∷
+    -- 5: no child of its parent; an element in a leaf
+    (statement (lf 290 "Oops" "" none), found 5 6 290) ∷
+    (message (el 110 "Id" (lf 112 "Id" "1" none) none), found 5 7 112) ∷
+    -- 6: also a row that comes again behind a later sibling
+    (statement (lf 290 "Id" "S2" none), found 6 7 290) ∷
+    -- 7: over its count; second child in a choice, whichever it is
+    (message (lf 110 "Id" "S1" (lf 115 "Id" "S2" none)), found 7 7 115) ∷
+    (message (lf 110 "Id" "S1" (el 120 "Acct" (el 130 "Id" (lf 140 "IBAN" "A" (el 150 "Othr" none none)) none) none)), found 7 12 150) ∷
+    (message (lf 110 "Id" "S1" (el 120 "Acct" (el 130 "Id" (el 140 "Othr" (lf 150 "Id" "9" none) (lf 160 "IBAN" "A" none)) none) none)), found 7 11 160) ∷
+    -- 9: an attribute too many; none on an amount; another name; a currency that is none
+    (message (element 110 (ascii "Id") space none none), found 9 7 110) ∷
+    (message (lf 110 "Id" "S1" (account (balance 200 [] none))), found 9 19 240) ∷
+    (message (lf 110 "Id" "S1" (account (balance 200 space none))), found 9 19 240) ∷
+    (message (lf 110 "Id" "S1" (account (balance 200 ((ascii "Ccy", []) ∷ []) none))), found 9 19 240) ∷
+    -- 10: the first character that is no blank
+    (message (chars 101 (ascii " xy") none), found 10 6 102) ∷
+    -- 11: no character in a leaf; no child in a group, blanks or not
+    (message (lf 110 "Id" "" none), found 11 7 110) ∷
+    (message none, found 11 6 100) ∷
+    (message (chars 101 (ascii " ") none), found 11 6 100) ∷
+    -- 8: the lowest that is absent, at the parent's `<`, and behind what stands in a later sibling
+    (message (lf 110 "Id" "S1" (account none)), found 8 15 100) ∷
+    (message (balance 200 euro none), found 8 7 100) ∷
+    (message (balance 200 [] none), found 9 19 240) ∷
+    -- 12: also of blanks only
+    (message (lf 110 "Id" "S1" (lf 115 "ElctrncSeqNb" " " none)), found 12 8 115) ∷
+    -- 13: one of the two rows, whichever it is
+    (statement (entry (amount 400 euro "1" none)), found 13 43 390) ∷
+    (statement (entry (amount 400 euro "1" (el 420 "RmtInf" (lf 430 "Ustrd" "U" none) none))), found 13 43 390) ∷
+    (statement (entry (lf 410 "CdtDbtInd" "DBIT" none)), found 13 43 390) ∷ []

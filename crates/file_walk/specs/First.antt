@@ -1,0 +1,172 @@
+-- The first violation of a message, in document order. Assumes nothing.
+use mathlib.Core.Bool.{Bool, true, false, _&&_, _||_, not, xor}
+use mathlib.Core.List.{List, [], _∷_}
+use mathlib.Core.Option.{Option}
+use Prim.Native.Nat.{ℕ}
+use lib.Dec.{eqb, ltb}
+use Rattle.answer.specs.declared.Answer.{Answer}
+use Rattle.answer.specs.Table as table
+use Rattle.text.specs.Bytes.{ascii, isBlank}
+use Rattle.text.specs.Lists.{same}
+use Rattle.list.specs.Words.{has, firstFrom}
+use Rattle.list.specs.Listing.{Leaf, ref, iban, ccy, bool, num, amt, date, dtm, txt, enum, Kind, group, choice, leaf, Rule, both, Listing, rowAt, size, child, isGroup, isChoice, single, required}
+use Rattle.xml.specs.Message.{Attrs, Parts, none, char, element}
+use Rattle.file_walk.specs.Types.{Types}
+
+-- no violation; or its code, row and place
+pub data Found : Type 0 where
+  fine : Found
+  found : (code row place : ℕ) → Found
+
+-- found where the test says so
+abbrev pub if : Bool → ℕ → ℕ → ℕ → Found
+if true c r o = found c r o
+if false c r o = fine
+
+-- a line of document 01's table, where the test says so
+abbrev pub refuse : Bool → Answer → Found
+refuse b a = if b (a .code) (a .row) (a .place)
+
+-- "the first violation is the answer"
+abbrev pub orElse : Found → Found → Found
+orElse fine g = g
+orElse (found c r o) g = found c r o
+
+abbrev pub firstOf : List Found → Found
+firstOf [] = fine
+firstOf (f ∷ fs) = orElse f (firstOf fs)
+
+abbrev pub isNone : {A : Type 0} → Option A → Bool
+isNone Option.none = true
+isNone (Option.some v) = false
+
+abbrev pub empty : List ℕ → Bool
+empty [] = true
+empty (x ∷ xs) = false
+
+-- one of rs is greater than r
+abbrev pub passed : ℕ → List ℕ → Bool
+passed r [] = false
+passed r (q ∷ rs) = ltb r q || passed r rs
+
+-- a rule of p is broken by children of these rows
+abbrev pub breaks : ℕ → List ℕ → List Rule → Bool
+breaks p rs [] = false
+breaks p rs (both g a b ∷ qs) = (eqb g p && xor (has a rs) (has b rs)) || breaks p rs qs
+
+-- the characters that stand in an element
+abbrev pub textOf : Parts → List ℕ
+textOf none = []
+textOf (char o x k) = x ∷ textOf k
+textOf (element o n ats i k) = textOf k
+
+-- exactly one attribute, of this name and value
+abbrev pub only : List ℕ → List ℕ → Attrs → Bool
+only n v [] = false
+only n v (a ∷ []) = same n (a .0) && same v (a .1)
+only n v (a ∷ b ∷ ats) = false
+
+abbrev pub noAttrs : Attrs → Bool
+noAttrs [] = true
+noAttrs (a ∷ ats) = false
+
+-- the characters of the one attribute that an amount has
+abbrev pub currency : Attrs → List ℕ
+currency [] = []
+currency (a ∷ ats) = a .1
+
+module _ (t : Types) where
+  -- "One attribute, Ccy, of type CCY"
+  abbrev pub oneCurrency : Attrs → Bool
+  oneCurrency [] = false
+  oneCurrency (a ∷ []) = same (ascii "Ccy") (a .0) && not (isNone (t .spell ccy [] (a .1)))
+  oneCurrency (a ∷ b ∷ ats) = false
+
+  -- "exactly the type's"
+  abbrev pub leafAttrs : Leaf → Attrs → Bool
+  leafAttrs amt ats = oneCurrency ats
+  leafAttrs ref ats = noAttrs ats
+  leafAttrs iban ats = noAttrs ats
+  leafAttrs ccy ats = noAttrs ats
+  leafAttrs bool ats = noAttrs ats
+  leafAttrs num ats = noAttrs ats
+  leafAttrs date ats = noAttrs ats
+  leafAttrs dtm ats = noAttrs ats
+  leafAttrs (txt k) ats = noAttrs ats
+  leafAttrs (enum ws) ats = noAttrs ats
+
+  abbrev pub attrsOk : Kind → Attrs → Bool
+  attrsOk group ats = noAttrs ats
+  attrsOk choice ats = noAttrs ats
+  attrsOk (leaf k) ats = leafAttrs k ats
+
+module _ (l : Listing) where
+  abbrev pub kindOf : ℕ → Kind
+  kindOf r = rowAt l r .kind
+
+  -- row 1's name, and "its only attribute .. xmlns with" the list's namespace
+  abbrev pub isRoot : List ℕ → Attrs → Bool
+  isRoot n ats = same (rowAt l 1 .name) n && only (ascii "xmlns") (l .space) ats
+
+  -- "over its count, or second child in a choice"; seen: the rows of its earlier siblings, the latest first
+  abbrev pub over : Kind → List ℕ → ℕ → Bool
+  over group seen r = single (rowAt l r .count) && has r seen
+  over choice seen r = not (empty seen)
+  over (leaf k) seen r = false
+
+  -- the lowest required child of p that is not among rs; 0 where there is none
+  unfoldable pub absent : ℕ → List ℕ → ℕ
+  absent p rs = firstFrom (λ r. eqb (rowAt l r .parent) p && (required (rowAt l r .count) && not (has r rs))) 1 (size l)
+
+  -- the rows of the elements that stand in one of row p; 0 for what is no child of p
+  unfoldable pub childRows : ℕ → Parts → List ℕ
+  childRows p none = []
+  childRows p (char o x k) = childRows p k
+  childRows p (element o n ats i k) = child l p n ∷ childRows p k
+
+module _ (t : Types) (l : Listing) where
+  -- "An opening tag is tested 4, 5, 6, 7, 9 (in a choice 6 isn't given)": below the root, with its `<` at o, in an element of row p, its own row
+  -- being r (0: "not a child of its parent")
+  abbrev pub opening : ℕ → List ℕ → ℕ → Attrs → ℕ → Found
+  opening p seen r ats o = firstOf (
+      refuse (eqb r 0) (table.noChild p o) ∷
+      refuse (not (isChoice (kindOf l p)) && passed r seen) (table.outOfOrder r o) ∷
+      refuse (over l (kindOf l p) seen r) (table.tooMany r o) ∷
+      refuse (not (attrsOk t (kindOf l r) ats)) (table.wrongAttributes r o) ∷ [])
+
+  -- "a closing tag 11, 8, 12, 13": of a group with children of the rows rs; of a leaf with the characters cs
+  abbrev pub groupEnd : ℕ → ℕ → List ℕ → Found
+  groupEnd r o rs = firstOf (
+      refuse (empty rs) (table.empty r o) ∷
+      refuse (ltb 0 (absent l r rs)) (table.absent (absent l r rs) o) ∷
+      refuse (breaks r rs (l .rules)) (table.ruleBroken r o) ∷ [])
+
+  abbrev pub leafEnd : Leaf → ℕ → ℕ → Attrs → List ℕ → Found
+  leafEnd k r o ats cs = firstOf (
+      refuse (empty cs) (table.empty r o) ∷
+      refuse (isNone (t .spell k (currency ats) cs)) (table.badValue r o) ∷ [])
+
+  abbrev pub closing : Kind → ℕ → ℕ → Attrs → List ℕ → List ℕ → Found
+  closing group r o ats rs cs = groupEnd r o rs
+  closing choice r o ats rs cs = groupEnd r o rs
+  closing (leaf k) r o ats rs cs = leafEnd k r o ats cs
+
+  -- "the message is walked in document order": what stands in an element of row p, one part after the other; 10 is "non-blank text in a group"
+  unfoldable pub inside : ℕ → List ℕ → Parts → Found
+  inside p seen none = fine
+  inside p seen (char o x k) = firstOf (refuse (isGroup (kindOf l p) && not (isBlank x)) (table.textInGroup p o) ∷ inside p seen k ∷ [])
+  inside p seen (element o n ats i k) =
+      let r = child l p n in firstOf (
+      opening p seen r ats o ∷
+      inside r [] i ∷
+      closing (kindOf l r) r o ats (childRows l r i) (textOf i) ∷
+      inside p (r ∷ seen) k ∷ [])
+
+  -- of a message, which is one element
+  unfoldable pub firstViolation : Parts → Found
+  firstViolation none = fine
+  firstViolation (char o x k) = fine
+  firstViolation (element o n ats i k) = firstOf (
+      refuse (not (isRoot l n ats)) (table.wrongRoot o) ∷
+      inside 1 [] i ∷
+      closing (kindOf l 1) 1 o ats (childRows l 1 i) (textOf i) ∷ [])

@@ -1,0 +1,117 @@
+-- A mirror: the walk over a message's tags and characters, with five numbers for each open element. Assumes nothing.
+use mathlib.Core.Bool.{Bool, false, cond, _&&_, _||_, not}
+use mathlib.Core.List.{List, [], _∷_, _++_}
+use mathlib.Core.Option.{Option}
+use Prim.Native.Nat.{ℕ}
+use lib.Dec.{eqb, ltb}
+use Rattle.text.specs.Bytes.{isBlank}
+use Rattle.list.specs.Listing.{Kind, group, choice, leaf, Listing, rowAt, child, isGroup, isChoice, single, nextDue}
+use Rattle.list.specs.Sound.{firstOf as mate, secondOf as pair}
+use Rattle.xml.specs.Message.{Attrs, Parts}
+use Rattle.xml_tags.specs.Story.{Event, char as text, enter, leave, events}
+use Rattle.file_walk.specs.declared.level.Level.{Level}
+use Rattle.file_walk.specs.Types.{Types}
+use Rattle.file_walk.specs.First.{Found, fine, if, orElse, firstOf, currency, attrsOk, kindOf, isRoot, leafEnd}
+
+-- the root is to come; the innermost open element, those around it, and of a leaf its attributes and the characters so far; the root is closed
+pub data State : Type 0 where
+  before : State
+  at : Level → List Level → Attrs → List ℕ → State
+  after : State
+
+abbrev pub pop : List Level → State
+pop [] = after
+pop (lv ∷ below) = at lv below [] []
+
+-- the other row, where there is one, is not q
+abbrev pub misses : ℕ → ℕ → Bool
+misses other q = not (eqb other 0) && not (eqb other q)
+
+module _ (l : Listing) where
+  unfoldable pub fresh : ℕ → ℕ → Level
+  fresh r o = record { row = r; place = o; last = 0; due = nextDue l r 0; odd = false }
+
+  -- a child of row r: when it comes for the first time, its rule's first row must be the child before it, and the rule's second row must be the
+  -- child behind its first
+  unfoldable pub advance : Level → ℕ → Level
+  advance lv r = record {
+    row = lv .row;
+    place = lv .place;
+    last = r;
+    due = cond (eqb r (lv .due)) (nextDue l (lv .row) r) (lv .due);
+    odd = lv .odd || (not (eqb r (lv .last)) && (misses (mate (l .rules) r) (lv .last) || misses (pair (l .rules) (lv .last)) r));
+  }
+
+  abbrev pub again : Kind → ℕ → ℕ → Bool
+  again group last r = single (rowAt l r .count) && eqb last r
+  again choice last r = not (eqb last 0)
+  again (leaf k) last r = false
+
+module _ (t : Types) (l : Listing) where
+  unfoldable pub openTest : Level → ℕ → Attrs → ℕ → Found
+  openTest lv r ats o = firstOf (
+      if (eqb r 0) 5 (lv .row) o ∷
+      if (not (isChoice (kindOf l (lv .row))) && ltb r (lv .last)) 6 r o ∷
+      if (again l (kindOf l (lv .row)) (lv .last) r) 7 r o ∷
+      if (not (attrsOk t (kindOf l r) ats)) 9 r o ∷ [])
+
+  abbrev pub groupTest : Level → Found
+  groupTest lv = firstOf (
+      if (eqb (lv .last) 0) 11 (lv .row) (lv .place) ∷
+      if (ltb 0 (lv .due)) 8 (lv .due) (lv .place) ∷
+      if (lv .odd || not (eqb (pair (l .rules) (lv .last)) 0)) 13 (lv .row) (lv .place) ∷ [])
+
+  abbrev pub closeTest : Kind → Level → Attrs → List ℕ → Found
+  closeTest group lv ats cs = groupTest lv
+  closeTest choice lv ats cs = groupTest lv
+  closeTest (leaf k) lv ats cs = leafEnd t l k (lv .row) (lv .place) ats cs
+
+  -- what an event finds, and what it leads to
+  abbrev pub test : State → Event → Found
+  test before (enter o n ats) = if (not (isRoot l n ats)) 4 1 o
+  test before (text o x) = fine
+  test before leave = fine
+  test (at lv below ats cs) (enter o n new) = openTest lv (child l (lv .row) n) new o
+  test (at lv below ats cs) (text o x) = if (isGroup (kindOf l (lv .row)) && not (isBlank x)) 10 (lv .row) o
+  test (at lv below ats cs) leave = closeTest (kindOf l (lv .row)) lv ats cs
+  test after e = fine
+
+  abbrev pub next : State → Event → State
+  next before (enter o n ats) = at (fresh l 1 o) [] [] []
+  next before (text o x) = before
+  next before leave = before
+  next (at lv below ats cs) (enter o n new) = at (fresh l (child l (lv .row) n) o) (advance l lv (child l (lv .row) n) ∷ below) new []
+  next (at lv below ats cs) (text o x) = at lv below ats (cond (isGroup (kindOf l (lv .row))) cs (cs ++ (x ∷ [])))
+  next (at lv below ats cs) leave = pop below
+  next after e = after
+
+  unfoldable pub run : State → List Event → Found
+  run s [] = fine
+  run s (e ∷ es) = orElse (test s e) (run (next s e) es)
+
+  unfoldable pub walk : Parts → Found
+  walk m = run before (events m [])
+
+  -- the items: a group's at its opening tag, a leaf's at its closing tag
+  abbrev pub opens : Kind → ℕ → List (ℕ × Option (t .A))
+  opens group r = (r, Option.none) ∷ []
+  opens choice r = (r, Option.none) ∷ []
+  opens (leaf k) r = []
+
+  abbrev pub closes : Kind → ℕ → Attrs → List ℕ → List (ℕ × Option (t .A))
+  closes group r ats cs = []
+  closes choice r ats cs = []
+  closes (leaf k) r ats cs = (r, t .spell k (currency ats) cs) ∷ []
+
+  abbrev pub emit : State → Event → List (ℕ × Option (t .A))
+  emit before (enter o n ats) = (1, Option.none) ∷ []
+  emit before (text o x) = []
+  emit before leave = []
+  emit (at lv below ats cs) (enter o n new) = opens (kindOf l (child l (lv .row) n)) (child l (lv .row) n)
+  emit (at lv below ats cs) (text o x) = []
+  emit (at lv below ats cs) leave = closes (kindOf l (lv .row)) (lv .row) ats cs
+  emit after e = []
+
+  unfoldable pub emits : State → List Event → List (ℕ × Option (t .A))
+  emits s [] = []
+  emits s (e ∷ es) = emit s e ++ emits (next s e) es

@@ -1,0 +1,108 @@
+// Where the walk begins: the root's tag.
+
+use crate::attributes::space;
+use crate::level::fresh;
+use crate::step::Here;
+use crate::step::Met;
+use crate::step::Turn;
+use crate::step::refused;
+use crate::verdict::Verdict;
+use list::lookup::cell;
+use list::table::NAME;
+use list::table::NAME_END;
+use text::part::same_part;
+use xml_tags::attribute::Attribute;
+use xml_tags::token::Kind;
+use xml_tags::token::opening;
+use xml_tags::token::start;
+ghost use mathlib.Core.Path.{_≡_};
+ghost use Rattle.file_walk.specs.Begin.{isFirstIn, isRootIn, rootedIn, hollowIn, beginIn};
+
+// Whether s from a to b is row 1's name.
+fn is_first(rows: &[u16], pool: &[u8], s: &[u8], a: usize, b: usize) -> bool
+    ensures { λ x. ⌜ x ≡ isFirstIn (now (rows .entry)) (now (pool .entry)) (now (s .entry)) a b ⌝ }
+{
+    same_part(pool, cell(rows, 1, NAME), cell(rows, 1, NAME_END), s, a, b)
+}
+
+// Whether a tag with its `<` at less is the root's: row 1's name, and the namespace as its only attribute.
+fn is_root(
+    rows: &[u16],
+    pool: &[u8],
+    s: &[u8],
+    less: usize,
+    stop: usize,
+    count: usize,
+    a: Attribute,
+) -> bool
+    ensures { λ x. ⌜ x ≡ isRootIn (now (rows .entry)) (now (pool .entry)) (now (s .entry)) less stop count a ⌝ }
+{
+    if s.len() <= less {
+        return false;
+    }
+    if !is_first(rows, pool, s, less + 1, stop) {
+        return false;
+    }
+    space(rows, pool, s, count, a)
+}
+
+// A tag as the root of a message that goes on behind it.
+fn rooted(root: bool, here: Here, less: usize) -> Turn
+    ensures { λ r. ⌜ r ≡ rootedIn root here less ⌝ }
+{
+    if !root {
+        return refused(here, 4, 1, less);
+    }
+    Turn {
+        met: Met::Opened,
+        here,
+        less,
+        verdict: Verdict {
+            code: 0,
+            row: 0,
+            place: 0,
+        },
+    }
+}
+
+// A tag as the root of a message without content: it has no child.
+fn hollow(root: bool, here: Here, less: usize) -> Turn
+    ensures { λ r. ⌜ r ≡ hollowIn root here less ⌝ }
+{
+    if !root {
+        return refused(here, 4, 1, less);
+    }
+    refused(here, 11, 1, less)
+}
+
+// The root's tag: the walk then stands in the root. Bytes without a tag there are no house XML.
+pub fn begin(rows: &[u16], pool: &[u8], s: &[u8]) -> Turn
+    ensures { λ r. ⌜ r ≡ beginIn (now (rows .entry)) (now (pool .entry)) (now (s .entry)) ⌝ }
+{
+    let token = opening(s, start(s));
+    let less = token.less;
+    let level = fresh(rows, 1, less);
+    let here = Here {
+        level,
+        depth: 0,
+        at: token.end,
+        value: 0,
+        quote: 0,
+    };
+    let root = is_root(
+        rows,
+        pool,
+        s,
+        less,
+        token.stop,
+        token.attributes,
+        token.first,
+    );
+    let kind = token.kind;
+    match kind {
+        Kind::Open => rooted(root, here, less),
+        Kind::Empty => hollow(root, here, less),
+        Kind::Close => refused(here, 3, 0, less),
+        Kind::End => refused(here, 3, 0, less),
+    }
+}

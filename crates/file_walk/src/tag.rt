@@ -1,0 +1,128 @@
+// The tests of a tag, in the paper's order: at its opening 5, 6, 7, 9, at a group's end 11, 8, 13. Code 0 says that none finds a violation.
+
+use crate::level::Level;
+use crate::verdict::Verdict;
+use list::lookup::cell;
+use list::table::CHOICE;
+use list::table::COUNT;
+use list::table::KIND;
+use list::table::OPTIONAL;
+use list::table::PAIR;
+ghost use mathlib.Core.Path.{_≡_};
+ghost use Rattle.file_walk.specs.Tables.{isGroupIn, passedIn, againIn, openingIn, brokenIn, groupEndIn};
+
+// Whether a kind is a group's or a choice's: what is no leaf's number is.
+pub fn is_group(kind: usize) -> bool
+    ensures { λ r. ⌜ r ≡ isGroupIn kind ⌝ }
+{
+    match kind {
+        2..=11 => false,
+        _ => true,
+    }
+}
+
+// Whether a later sibling of row r has come; a choice has no order.
+fn passed(rows: &[u16], lv: Level, r: usize) -> bool
+    ensures { λ x. ⌜ x ≡ passedIn (now (rows .entry)) lv r ⌝ }
+{
+    if cell(rows, lv.row, KIND) == CHOICE {
+        return false;
+    }
+    r < lv.last
+}
+
+// Whether row r is over its count, or second in a choice, when no later sibling has come.
+fn again(rows: &[u16], lv: Level, r: usize) -> bool
+    ensures { λ x. ⌜ x ≡ againIn (now (rows .entry)) lv r ⌝ }
+{
+    if cell(rows, lv.row, KIND) == CHOICE {
+        return lv.last != 0;
+    }
+    if OPTIONAL < cell(rows, r, COUNT) {
+        return false;
+    }
+    lv.last == r
+}
+
+// An opening tag below the root, of row r (0: no child of its parent), with its `<` at a place; `own` says whether its attributes are its type's.
+pub(crate) fn opening(rows: &[u16], lv: Level, r: usize, own: bool, place: usize) -> Verdict
+    ensures { λ x. ⌜ x ≡ openingIn (now (rows .entry)) lv r own place ⌝ }
+{
+    if r == 0 {
+        return Verdict {
+            code: 5,
+            row: lv.row,
+            place,
+        };
+    }
+    if passed(rows, lv, r) {
+        return Verdict {
+            code: 6,
+            row: r,
+            place,
+        };
+    }
+    if again(rows, lv, r) {
+        return Verdict {
+            code: 7,
+            row: r,
+            place,
+        };
+    }
+    if own {
+        return Verdict {
+            code: 0,
+            row: 0,
+            place: 0,
+        };
+    }
+    Verdict {
+        code: 9,
+        row: r,
+        place,
+    }
+}
+
+// Whether a rule is broken at a group's end: for good already, or by a first row that came last.
+fn broken(rows: &[u16], lv: Level) -> bool
+    ensures { λ x. ⌜ x ≡ brokenIn (now (rows .entry)) lv ⌝ }
+{
+    if lv.odd {
+        return true;
+    }
+    cell(rows, lv.last, PAIR) != 0
+}
+
+// The end of a group.
+pub(crate) fn group_end(rows: &[u16], lv: Level) -> Verdict
+    ensures { λ x. ⌜ x ≡ groupEndIn (now (rows .entry)) lv ⌝ }
+{
+    let row = lv.row;
+    let place = lv.place;
+    if lv.last == 0 {
+        return Verdict {
+            code: 11,
+            row,
+            place,
+        };
+    }
+    if 0 < lv.due {
+        return Verdict {
+            code: 8,
+            row: lv.due,
+            place,
+        };
+    }
+    if broken(rows, lv) {
+        return Verdict {
+            code: 13,
+            row,
+            place,
+        };
+    }
+    Verdict {
+        code: 0,
+        row: 0,
+        place: 0,
+    }
+}

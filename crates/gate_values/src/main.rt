@@ -1,0 +1,132 @@
+// Writes the value of each raw text of its input, a line for each: `refused`, or the value's bytes as an image has them, in lower-case
+// hexadecimal. A case is a kind, its parameter, two 16-bit big-endian lengths, and so many bytes of a currency and of a text; the
+// parameter is TXTk's k, and picks the words of an ENUM. The answers that it is held to were computed by another program.
+use libc::STDIN_FILENO;
+use libc::STDOUT_FILENO;
+use list::word::word_place;
+use text::number::get16;
+use value_to_bytes::write::write;
+ghost use Prim.Native.Nat.{_<_};
+
+fn digit(n: u8) -> u8 {
+    match n {
+        0 => b'0',
+        1 => b'1',
+        2 => b'2',
+        3 => b'3',
+        4 => b'4',
+        5 => b'5',
+        6 => b'6',
+        7 => b'7',
+        8 => b'8',
+        9 => b'9',
+        10 => b'a',
+        11 => b'b',
+        12 => b'c',
+        13 => b'd',
+        14 => b'e',
+        _ => b'f',
+    }
+}
+
+// The first n bytes, or that there are none.
+fn write_answer(bytes: &[u8], n: usize) {
+    if n == 0 {
+        io::write_all(STDOUT_FILENO, b"refused");
+    }
+    let mut i = 0;
+    while i < bytes.len() {
+        if n <= i {
+            break;
+        }
+        let b = bytes[i];
+        let pair = [digit(b / 16), digit(b % 16)];
+        io::write_all(STDOUT_FILENO, &pair);
+        i += 1;
+    }
+    io::write_all(STDOUT_FILENO, b"\n");
+}
+
+// A row of the house list that has the words.
+fn words_row(parameter: u8) -> usize {
+    match parameter {
+        0 => 18,
+        1 => 20,
+        _ => 28,
+    }
+}
+
+// A word's place fits in a byte; anything else would show as a wrong answer.
+fn low(n: usize) -> u8 {
+    if 255 < n {
+        return 0;
+    }
+    n as u8
+}
+
+// The place of a word, which is its value.
+fn judge_word(parameter: u8, cases: &[u8], start: usize, end: usize) {
+    let rows = list_house::tables::rows();
+    let pool = list_house::tables::pool();
+    let n = word_place(&rows, &pool, words_row(parameter), cases, start, end);
+    let byte = [low(n)];
+    if n == 0 {
+        write_answer(&byte, 0);
+    } else {
+        write_answer(&byte, 1);
+    }
+}
+
+// The text stands from start up to end, its currency from `from` up to start.
+fn judge(kind: u8, parameter: u8, cases: &[u8], from: usize, start: usize, end: usize) {
+    if kind == 6 {
+        judge_word(parameter, cases, start, end);
+        return;
+    }
+    let mut value = io::buffer();
+    let n = write(
+        kind,
+        parameter as usize,
+        cases,
+        start,
+        end,
+        from,
+        start,
+        &mut value,
+        0,
+    );
+    write_answer(&value, n);
+}
+
+fn wide(x: u16) -> usize
+    ensures { λ r. ⌜ r < 65536 ⌝ }
+{
+    x as usize
+}
+
+fn judge_all(cases: &[u8]) {
+    let mut i = 0;
+    while i < cases.len() {
+        if cases.len() - i < 6 {
+            return;
+        }
+        let from = i + 6;
+        let start = from + wide(get16(cases, i + 2));
+        let n = wide(get16(cases, i + 4));
+        if cases.len() < start {
+            return;
+        }
+        if cases.len() - start < n {
+            return;
+        }
+        let end = start + n;
+        judge(cases[i], cases[i + 1], cases, from, start, end);
+        i = end;
+    }
+}
+
+fn main() {
+    let mut input = io::large_buffer();
+    let n = io::read_full(STDIN_FILENO, &mut input);
+    judge_all(&input[..n]);
+}

@@ -1,0 +1,98 @@
+-- The reader that holds its run: only one answer fits, the run's end, and how a run is divided. Assumes nothing.
+use mathlib.Core.Path.{_≡_, refl, sym, _∙_, ap, ap₂, subst}
+use mathlib.Core.Logic.{_≢_, inl}
+use mathlib.Core.List.{List, [], _∷_, _++_, append-assoc}
+use Prim.Native.Nat.{ℕ, _+_, _-_, _≤_}
+use native.Mathlib.Omega.{arith}
+use native.Mathlib.Decide.{ℕ-discrete}
+use lib.ListN.{length, drop, length-append, length-drop, drop-of-length-le}
+use lib.Seq.{drop-at, drop-drop}
+use denote.Ref.{now}
+use Rattle.text.specs.Lists.{Each}
+use Rattle.answer.specs.declared.Answer.{Answer}
+use Rattle.answer.specs.Table.{limit, accepted, noHeader}
+use Rattle.list_house.specs.House.{house}
+use Rattle.list.specs.Content.{Content, Meets}
+use Rattle.value.specs.Value.{Value, IsValue}
+use Rattle.image.specs.Image.{image, images}
+use Rattle.image.specs.Kinds.{values}
+use Rattle.image.specs.Place.{foreign, whole}
+use Rattle.image_hold.specs.Held.{left, Moves, Steps, Next, Calls, rested, called}
+use Rattle.image_hold.specs.declared.held.Held.{Held}
+use Rattle.image_hold.specs.declared.held.Step.{Step}
+use Rattle.image.proofs.Answers.{accepting, accepts-in, image-begins}
+use Rattle.image_reading.specs.Reads.{stored, HouseAccepts, HouseReads}
+use Rattle.image_reading.proofs.House.{house-reads-one}
+
+-- ---- one step
+
+module _ (run : List ℕ) (at : ℕ) (a : Answer) (r : HouseReads (drop at run) a) where
+  pub step-stays : a .code ≢ 0 → Steps run at (record { answer = a; at = at })
+  step-stays z = record { reads = r; moves = record { on = λ e. absurd (z e); stays = λ e. refl } }
+
+  pub step-on : a .code ≡ 0 → Steps run at (record { answer = a; at = at + a .place })
+  step-on z = record { reads = r; moves = record { on = λ e. refl; stays = λ e. absurd (e z) } }
+
+  pub step-room : a .code ≡ 0 → a .place ≤ length run - at
+  step-room z = omega (arith, accepts-in values stored (drop at run) (a .place) (accepting values stored (drop at run) a r z .1), length-drop at run)
+
+-- ---- no second answer fits, and no second place
+
+moves-one : (a : Answer) (from m n : ℕ) → Moves a from m → Moves a from n → m ≡ n
+moves-one a from m n p q = go (ℕ-discrete (a .code) 0)
+  where
+    go : Dec (a .code ≡ 0) → m ≡ n
+    go (yes z) = p .on z ∙ sym (q .on z)
+    go (no z) = p .stays z ∙ sym (q .stays z)
+
+pub next-one : (h : Held) (a b : Answer) (p q : Held) → Next h a p → Next h b q → (a ≡ b) × (p ≡ q)
+next-one h a b p q x y =
+    let e : a ≡ b = house-reads-one (left h) a b (x .reads) (y .reads) in
+    let f : p .at ≡ q .at = moves-one b (h .at) (p .at) (q .at) (subst (λ (c : Answer). Moves c (h .at) (p .at)) e (x .moves)) (y .moves) in
+    let g : p .run ≡ q .run = x .holds ∙ sym (y .holds) in
+    (e, λ i. record { run = g i; at = f i })
+
+-- ---- at the run's end and past it
+
+pub next-end : (h : Held) (a : Answer) (p : Held) → left h ≡ [] → Next h a p → (a ≡ noHeader) × (p .at ≡ h .at)
+next-end h a p z x =
+    let e : a ≡ noHeader = house-reads-one (left h) a noHeader (x .reads) (subst (λ (s : List ℕ). HouseReads s noHeader) (sym z) (foreign (omega arith) (inl (omega arith)) refl)) in
+    (e, x .moves .stays (λ c. omega (arith, ap (λ (y : Answer). y .code) e)))
+
+pub next-past : (h : Held) (a : Answer) (p : Held) → length (now (h .run)) ≤ h .at → Next h a p → (a ≡ noHeader) × (p .at ≡ h .at)
+next-past h a p past x = next-end h a p (drop-of-length-le (now (h .run)) past) x
+
+-- ---- dividing a run
+
+-- where an image stands, it is accepted, and what stands behind it is left
+pub next-takes : (h : Held) (a : Answer) (p : Held) (c : Content Value) (u : List ℕ) → Meets IsValue house c → length (left h) ≤ limit → left h ≡ image values house c ++ u → Next h a p
+    → (a ≡ accepted (length (image values house c))) × (left p ≡ u)
+next-takes h a p c u m short at x =
+    let e : a ≡ accepted (length (image values house c)) = house-reads-one (left h) a (accepted (length (image values house c))) (x .reads) (whole short (length (image values house c)) (subst (λ (s : List ℕ). HouseAccepts s (length (image values house c))) (sym at) (image-begins values stored house (inl refl) c m u)) refl) in
+    let f : p .at ≡ h .at + length (image values house c) = x .moves .on (ap (λ (y : Answer). y .code) e) ∙ ap (λ (y : Answer). h .at + y .place) e in
+    (e, behind f)
+  where
+    behind : p .at ≡ h .at + length (image values house c) → left p ≡ u
+    behind f =
+        ap (λ (r : List ℕ). drop (p .at) r) (ap now (x .holds))
+        ∙ ap (λ (k : ℕ). drop k (now (h .run))) f
+        ∙ sym (drop-drop (length (image values house c)) (h .at) (now (h .run)))
+        ∙ ap (drop (length (image values house c))) at
+        ∙ drop-at (image values house c) u (length (image values house c)) refl
+
+-- what reading images laid end to end answers
+abbrev pub lengths : List (Content Value) → List Answer
+lengths [] = []
+lengths (c ∷ cs) = accepted (length (image values house c)) ∷ lengths cs
+
+-- and as many calls as there are images accept each of them, and stand behind the last
+pub divides : (cs : List (Content Value)) (u : List ℕ) {h p : Held} {answers : List Answer} → Each (Meets IsValue house) cs → length (left h) ≤ limit → left h ≡ images values house cs ++ u → length answers ≡ length cs → Calls h answers p
+    → (answers ≡ lengths cs) × (left p ≡ u)
+divides [] u m short at n rested = (refl, at)
+divides [] u m short at n (called x y) = absurd (omega arith)
+divides (c ∷ cs) u m short at n rested = absurd (omega arith)
+divides (c ∷ cs) u {h} m short at n (called {p = p} {a = a} x y) =
+    let at′ : left h ≡ image values house c ++ (images values house cs ++ u) = at ∙ append-assoc (image values house c) (images values house cs) u in
+    let t = next-takes h a p c (images values house cs ++ u) (m .0) short at′ x in
+    let r = divides cs u (m .1) (omega (arith, ap length at′, ap length (t .1), length-append (image values house c) (images values house cs ++ u))) (t .1) (omega arith) y in
+    (ap₂ _∷_ (t .0) (r .0), r .1)

@@ -1,0 +1,18 @@
+-- `held::picked_at` meets its contract. Assumes nothing.
+use mathlib.Core.Path.{sym}
+use borrow.Author.Needs.{needs}
+use Rattle.image_hold.proofs.held.picked_at.Statement.{statement}
+use Rattle.image_hold.proofs.held.picked_at.Tie as tie
+
+rest-requires : tie.Need-rest-requires
+rest-requires c κs = search needs
+
+picked-requires : tie.Need-picked-requires
+picked-requires c κs = search needs
+
+returns : tie.Need-returns
+returns c =
+    rw (sym (c .before .rest .ensures)) (c .picked .ensures)
+
+pub picked-at-spec : {M : Type 1} → statement M
+picked-at-spec = tie.close (tie.spec rest-requires picked-requires returns)

@@ -1,0 +1,51 @@
+-- A case's head: "one byte op (0 check, 1 read, 2 pick), then three 32-bit little-endian numbers". Assumes nothing.
+use mathlib.Core.Bool.{cond}
+use mathlib.Core.List.{List, [], _∷_}
+use Prim.Native.Nat.{ℕ, _+_, _*_, min}
+use lib.Dec.{ltb, eqb}
+use lib.ListN.{length, getD, take, drop}
+use Rattle.answer.specs.Table.{limit}
+use Rattle.program_feed.specs.declared.case.Case.{Case}
+use Rattle.program_feed.specs.declared.case.Case.the-variants.{Check, Read, Pick, Broken}
+
+-- the number that bytes write, the least significant first
+unfoldable pub little : List ℕ → ℕ
+little [] = 0
+little (x ∷ xs) = x + 256 * little xs
+
+-- the one of 32 bits at a place
+abbrev pub numberAt : ℕ → List ℕ → ℕ
+numberAt at s = little (take 4 (drop at s))
+
+-- "that many bytes (at most 1,048,577 ..)"
+abbrev pub longest : ℕ
+longest = 1048577
+
+-- by the op, room (of a pick: the row), n (of a pick) and the length: "room at most 1,048,576 is honoured exactly, more counts as
+-- 1,048,576"; "names another op or a greater length": broken
+unfoldable pub caseBy : ℕ → ℕ → ℕ → ℕ → Case
+caseBy op room n size =
+    cond (ltb longest size) Broken
+    (cond (eqb op 0) (Check (min room limit) size)
+    (cond (eqb op 1) (Read size)
+    (cond (eqb op 2) (Pick room n size)
+    Broken)))
+
+-- "A feed that breaks off": fewer than 13 bytes are no head
+unfoldable pub caseOf : List ℕ → Case
+caseOf s = cond (ltb (length s) 13) Broken (caseBy (getD s 0 0) (numberAt 1 s) (numberAt 5 s) (numberAt 9 s))
+
+-- how many bytes a case has behind its head
+abbrev pub sizeOf : Case → ℕ
+sizeOf (Check room size) = size
+sizeOf (Read size) = size
+sizeOf (Pick row n size) = size
+sizeOf Broken = 0
+
+-- the case that a feed begins with: its head, "then that many bytes"; broken where the feed "breaks off" before they end
+unfoldable pub caseIn : List ℕ → Case
+caseIn s = cond (ltb (length s) (13 + sizeOf (caseOf s))) Broken (caseOf s)
+
+-- its bytes behind the head
+abbrev pub bytesIn : ℕ → List ℕ → List ℕ
+bytesIn size s = take size (drop 13 s)

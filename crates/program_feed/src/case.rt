@@ -1,0 +1,99 @@
+// What the head of a case asks for.
+use answer::Answer;
+use text::part::least;
+ghost use mathlib.Core.Path.{_≡_};
+ghost use Prim.Native.Nat.{_+_, _≤_, _<_, _^_};
+ghost use lib.ListN.{length, take, drop};
+ghost use Rattle.program_feed.specs.Cases.{little, caseOf, sizeOf, caseIn};
+
+pub enum Case {
+    // A file of `size` bytes, for a buffer of `room`.
+    Check { room: usize, size: usize },
+    // A run of `size` bytes.
+    Read { size: usize },
+    // The leaf number `nth`, from 0, of `row` in a run of `size` bytes.
+    Pick { row: usize, nth: usize, size: usize },
+    // No case: the head breaks off, or names another op or a length over the longest.
+    Broken,
+}
+
+// How many bytes a head has: the op, and three numbers of 32 bits.
+pub const HEAD: usize = 13;
+
+// The most bytes that a case may have: one more than a file may.
+pub const LONGEST: usize = 1048577;
+
+fn wide(x: u8) -> usize
+    ensures { λ r. ⌜ (r ≡ x) × (r < 256) ⌝ }
+{
+    x as usize
+}
+
+// The number of 32 bits at a place, its least significant byte first.
+fn number(s: &[u8], at: usize) -> usize
+    requires { ⌜ at + 4 ≤ length (now s) ⌝ }
+    ensures { λ r. ⌜ r ≡ little (take 4 (drop at (now (s .entry)))) ⌝ }
+{
+    wide(s[at]) + 256 * (wide(s[at + 1]) + 256 * (wide(s[at + 2]) + 256 * wide(s[at + 3])))
+}
+
+// The case that a head asks for; what stands behind its 13 bytes does not matter.
+pub fn case_of(head: &[u8]) -> Case
+    ensures { λ r. ⌜ r ≡ caseOf (now (head .entry)) ⌝ }
+{
+    if head.len() < HEAD {
+        return Case::Broken;
+    }
+    let size = number(head, 9);
+    if LONGEST < size {
+        return Case::Broken;
+    }
+    let op = head[0];
+    if op == 0 {
+        return Case::Check {
+            room: least(number(head, 1), Answer::LIMIT),
+            size: size,
+        };
+    }
+    if op == 1 {
+        return Case::Read { size: size };
+    }
+    if op == 2 {
+        return Case::Pick {
+            row: number(head, 1),
+            nth: number(head, 5),
+            size: size,
+        };
+    }
+    Case::Broken
+}
+
+// How many bytes a case has behind its head.
+pub fn size_of(c: Case) -> usize
+    ensures { λ r. ⌜ r ≡ sizeOf c ⌝ }
+{
+    match c {
+        Case::Check { room: _, size } => size,
+        Case::Read { size } => size,
+        Case::Pick {
+            row: _,
+            nth: _,
+            size,
+        } => size,
+        Case::Broken => 0,
+    }
+}
+
+// The case that a feed begins with, its head and its bytes; broken where the feed breaks off before they end.
+pub fn case_in(feed: &[u8]) -> Case
+    ensures { λ r. ⌜ r ≡ caseIn (now (feed .entry)) ⌝ }
+{
+    if feed.len() < HEAD {
+        return Case::Broken;
+    }
+    let c = case_of(feed);
+    if feed.len() - HEAD < size_of(c) {
+        return Case::Broken;
+    }
+    c
+}

@@ -1,0 +1,60 @@
+// An answer as the programs write it.
+use crate::decimal::put;
+use answer::Answer;
+use text::number::copy;
+ghost use mathlib.Core.Path.{_≡_};
+ghost use mathlib.Core.List.{_∷_};
+ghost use Prim.Native.Nat.{_+_, _≤_};
+ghost use lib.ListN.{length, take};
+ghost use Rattle.text.specs.Pasting.{pasted};
+ghost use Rattle.program_line.specs.Line.{decimal, numbers, refusal};
+
+// A blank at a place, and a number of at most twenty digits behind it; how many bytes they are.
+fn spread_next(buf: &mut [u8], at: usize, n: u64) -> usize
+    requires { ⌜ at + 21 ≤ length (now buf) ⌝ }
+    ensures { λ r. ⌜ (r ≡ 1 + length (decimal n)) × ((r ≤ 21) × (now (buf .exit) ≡ pasted (now (buf .entry)) at (32 ∷ decimal n))) ⌝ }
+{
+    copy(b" ", 0, 1, buf, at);
+    1 + put(buf, at + 1, n)
+}
+
+// The three numbers, with a blank between each two, from the start of the buffer on; how many bytes they are.
+fn spread_numbers(buf: &mut [u8], a: Answer) -> usize
+    requires { ⌜ 62 ≤ length (now buf) ⌝ }
+    ensures { λ r. ⌜ (r ≡ length (numbers a)) × ((r ≤ 62) × (now (buf .exit) ≡ pasted (now (buf .entry)) 0 (numbers a))) ⌝ }
+{
+    let code = put(buf, 0, a.code as u64);
+    let row = code + spread_next(buf, code, a.row as u64);
+    row + spread_next(buf, row, a.place as u64)
+}
+
+// Writes `CODE ROW PLACE` at a place, or nothing where it does not fit, and answers how many bytes it is.
+pub fn put_numbers(out: &mut [u8], at: usize, a: Answer) -> usize
+    ensures { λ r. ⌜ (r ≡ length (numbers a)) × ((r ≤ 62) × (now (out .exit) ≡ pasted (now (out .entry)) at (numbers a))) ⌝ }
+{
+    let mut space = [0u8; 64];
+    let n = spread_numbers(&mut space, a);
+    copy(&space, 0, n, out, at);
+    n
+}
+
+// The line of a refusal, from the start of the buffer on; how many bytes it is.
+fn spread_refusal(buf: &mut [u8], a: Answer) -> usize
+    requires { ⌜ 71 ≤ length (now buf) ⌝ }
+    ensures { λ r. ⌜ (r ≡ length (refusal a)) × ((r ≤ 71) × (now (buf .exit) ≡ pasted (now (buf .entry)) 0 (refusal a))) ⌝ }
+{
+    copy(b"refused ", 0, 8, buf, 0);
+    let end = 8 + put_numbers(buf, 8, a);
+    copy(b"\n", 0, 1, buf, end);
+    end + 1
+}
+
+// Writes `refused CODE ROW PLACE` and LF at a place, or nothing where it does not fit, and answers how many bytes it is.
+pub fn put_refusal(out: &mut [u8], at: usize, a: Answer) -> usize
+    ensures { λ r. ⌜ (r ≡ length (refusal a)) × ((r ≤ 71) × (now (out .exit) ≡ pasted (now (out .entry)) at (refusal a))) ⌝ }
+{
+    let mut space = [0u8; 71];
+    let n = spread_refusal(&mut space, a);
+    copy(&space, 0, n, out, at);
+    n
+}

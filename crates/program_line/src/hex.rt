@@ -1,0 +1,51 @@
+// Bytes in lower-case hexadecimal, two digits each.
+use text::part::part_len;
+ghost use mathlib.Core.Path.{_≡_};
+ghost use Prim.Native.Nat.{_/_, _%_, _<_};
+ghost use lib.Seq.{slice};
+ghost use Rattle.text.specs.Pasting.{pasted};
+ghost use Rattle.program_line.specs.Hex.{hexDigit, hexadecimal};
+
+fn digit(n: u8) -> u8
+    requires { ⌜ n < 16 ⌝ }
+    ensures { λ r. ⌜ r ≡ hexDigit n ⌝ }
+{
+    if n < 10 {
+        return 48 + n;
+    }
+    87 + n
+}
+
+fn high(x: u8) -> u8
+    ensures { λ r. ⌜ r ≡ hexDigit (x / 16) ⌝ }
+{
+    digit(x / 16)
+}
+
+fn low(x: u8) -> u8
+    ensures { λ r. ⌜ r ≡ hexDigit (x % 16) ⌝ }
+{
+    digit(x % 16)
+}
+
+// Writes the part of src from a to b in hexadecimal at a place of out, or nothing where it does not fit. There are twice as
+// many digits as the part has bytes, which may be more than a number holds: so they are halved, not doubled, to see whether they fit.
+pub fn put(src: &[u8], a: usize, b: usize, out: &mut [u8], at: usize)
+    ensures { λ _. ⌜ now (out .exit) ≡ pasted (now (out .entry)) at (hexadecimal (slice a b (now (src .entry)))) ⌝ }
+{
+    let n = part_len(src, a, b);
+    if out.len() < at {
+        return;
+    }
+    if (out.len() - at) / 2 < n {
+        return;
+    }
+    let mut k = 0;
+    let mut to = at;
+    while k < n {
+        out[to] = high(src[a + k]);
+        out[to + 1] = low(src[a + k]);
+        k += 1;
+        to += 2;
+    }
+}

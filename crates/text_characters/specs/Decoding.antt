@@ -1,0 +1,54 @@
+-- A mirror: how a character of UTF-8 is decoded, by its first byte. Assumes nothing.
+use mathlib.Core.Path.{_≡_}
+use mathlib.Core.Bool.{Bool, cond, _&&_, _||_}
+use mathlib.Core.List.{List, [], _∷_}
+use Prim.Native.Nat.{ℕ, _+_, _*_, _%_}
+use lib.Dec.{ltb, leb}
+use lib.ListN.{drop, getD}
+use Rattle.text.specs.Bytes.{inRange}
+use Rattle.text.specs.Lists.{span}
+use Rattle.text_characters.specs.Chars.{charOf}
+use Rattle.text_characters.specs.declared.utf8.Char.{Char}
+
+unfoldable pub isAscii : ℕ → Bool
+isAscii x = ltb x 0x80
+
+-- the n bytes at a place are ASCII: the run from there is the run behind them
+unfoldable pub AsciiOver : ℕ → List ℕ → ℕ → Type 0
+AsciiOver n s at = at + n + span isAscii (drop (at + n) s) ≡ at + span isAscii (drop at s)
+
+-- a byte of a sequence that is not its first
+unfoldable pub isTail : ℕ → Bool
+isTail x = inRange 0x80 0xBF x
+
+unfoldable pub isScalar : ℕ → Bool
+isScalar c = inRange 0 0xD7FF c || inRange 0xE000 0x10FFFF c
+
+-- n bytes that spell c: in the shortest form, and a scalar value
+unfoldable pub kept : ℕ → ℕ → ℕ → Char
+kept n low c = cond (leb low c && isScalar c) (charOf n c) (charOf 0 0)
+
+unfoldable pub two : ℕ → ℕ → Char
+two x y = cond (isTail y) (kept 2 0x80 (x % 32 * 64 + y % 64)) (charOf 0 0)
+
+unfoldable pub three : ℕ → ℕ → ℕ → Char
+three x y z = cond (isTail y && isTail z) (kept 3 0x800 (x % 16 * 4096 + y % 64 * 64 + z % 64)) (charOf 0 0)
+
+unfoldable pub four : ℕ → ℕ → ℕ → ℕ → Char
+four x y z w =
+    cond (isTail y && isTail z && isTail w) (kept 4 0x10000 (x % 8 * 262144 + y % 64 * 4096 + z % 64 * 64 + w % 64))
+    (charOf 0 0)
+
+-- by the first byte; a byte past the end counts as 0, which is no tail
+abbrev pub byFirst : ℕ → ℕ → ℕ → ℕ → Char
+byFirst x y z w =
+    cond (ltb x 0x80) (charOf 1 x)
+    (cond (ltb x 0xC0) (charOf 0 0)
+    (cond (ltb x 0xE0) (two x y)
+    (cond (ltb x 0xF0) (three x y z)
+    (cond (ltb x 0xF8) (four x y z w)
+    (charOf 0 0)))))
+
+unfoldable pub decoded : List ℕ → Char
+decoded [] = charOf 0 0
+decoded (x ∷ t) = byFirst x (getD t 0 0) (getD t 1 0) (getD t 2 0)

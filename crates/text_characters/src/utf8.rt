@@ -1,0 +1,203 @@
+// UTF-8: one character at a place, and the longest beginning of a text that is UTF-8.
+
+ghost use mathlib.Core.Path.{_≡_};
+ghost use Prim.Native.Nat.{_+_, _/_, _≤_};
+ghost use lib.ListN.{length, drop, getD};
+ghost use Rattle.text_characters.specs.Chars.{charOf, Decoded};
+ghost use Rattle.text_characters.specs.Decoding.{isAscii, AsciiOver, isTail, isScalar, kept, two, three, four};
+ghost use Rattle.text.specs.Lists.{span};
+ghost use Rattle.text_characters.specs.Utf8.{LongestUtf8};
+
+// A character of a text: how many bytes spell it and its code point, or 0 and 0 where none begins.
+pub struct Char {
+    pub len: usize,
+    pub code: u32,
+}
+
+pub(crate) fn char_of(len: usize, code: u32) -> Char
+    ensures { λ r. ⌜ r ≡ charOf len code ⌝ }
+{
+    Char { len, code }
+}
+
+pub(crate) fn wide(x: u8) -> u32
+    ensures { λ r. ⌜ r ≡ x ⌝ }
+{
+    x as u32
+}
+
+// A byte that goes on with a sequence.
+fn is_tail(b: u8) -> bool
+    ensures { λ r. ⌜ r ≡ isTail b ⌝ }
+{
+    match b {
+        0x80..=0xBF => true,
+        _ => false,
+    }
+}
+
+fn is_scalar(c: u32) -> bool
+    ensures { λ r. ⌜ r ≡ isScalar c ⌝ }
+{
+    match c {
+        0..=0xD7FF => true,
+        0xE000..=0x10FFFF => true,
+        _ => false,
+    }
+}
+
+// The byte k places behind `at`, 0 past the end: 0 is no tail, so it ends a sequence as the end does.
+fn byte(s: &[u8], at: usize, k: usize) -> u8
+    ensures { λ r. ⌜ r ≡ getD (drop at (now (s .entry))) k 0 ⌝ }
+{
+    if s.len() <= at {
+        return 0;
+    }
+    if s.len() - at <= k {
+        return 0;
+    }
+    s[at + k]
+}
+
+// n bytes spell c, unless c has a shorter form (it is below `low`) or is no scalar value.
+fn keep(n: usize, low: u32, c: u32) -> Char
+    ensures { λ r. ⌜ r ≡ kept n low c ⌝ }
+{
+    if c < low {
+        return char_of(0, 0);
+    }
+    if !is_scalar(c) {
+        return char_of(0, 0);
+    }
+    char_of(n, c)
+}
+
+fn decode_two(x: u8, y: u8) -> Char
+    ensures { λ r. ⌜ r ≡ two x y ⌝ }
+{
+    if !is_tail(y) {
+        return char_of(0, 0);
+    }
+    keep(2, 0x80, wide(x % 32) * 64 + wide(y % 64))
+}
+
+fn decode_three(x: u8, y: u8, z: u8) -> Char
+    ensures { λ r. ⌜ r ≡ three x y z ⌝ }
+{
+    if !is_tail(y) {
+        return char_of(0, 0);
+    }
+    if !is_tail(z) {
+        return char_of(0, 0);
+    }
+    keep(
+        3,
+        0x800,
+        wide(x % 16) * 4096 + wide(y % 64) * 64 + wide(z % 64),
+    )
+}
+
+fn decode_four(x: u8, y: u8, z: u8, w: u8) -> Char
+    ensures { λ r. ⌜ r ≡ four x y z w ⌝ }
+{
+    if !is_tail(y) {
+        return char_of(0, 0);
+    }
+    if !is_tail(z) {
+        return char_of(0, 0);
+    }
+    if !is_tail(w) {
+        return char_of(0, 0);
+    }
+    keep(
+        4,
+        0x10000,
+        wide(x % 8) * 262144 + wide(y % 64) * 4096 + wide(z % 64) * 64 + wide(w % 64),
+    )
+}
+
+// The character that begins at a place.
+pub fn decode(s: &[u8], at: usize) -> Char
+    ensures { λ r. ⌜ Decoded (drop at (now (s .entry))) r ⌝ }
+{
+    if s.len() <= at {
+        return char_of(0, 0);
+    }
+    let x = s[at];
+    if x < 0x80 {
+        return char_of(1, wide(x));
+    }
+    if x < 0xC0 {
+        return char_of(0, 0);
+    }
+    if x < 0xE0 {
+        return decode_two(x, byte(s, at, 1));
+    }
+    if x < 0xF0 {
+        return decode_three(x, byte(s, at, 1), byte(s, at, 2));
+    }
+    if x < 0xF8 {
+        return decode_four(x, byte(s, at, 1), byte(s, at, 2), byte(s, at, 3));
+    }
+    char_of(0, 0)
+}
+
+fn top_bit(b: u8) -> u8
+    ensures { λ r. ⌜ (r ≡ b / 128) × (r ≤ 1) ⌝ }
+{
+    b / 128
+}
+
+// How many of the four bytes at a place are no ASCII.
+fn marked(s: &[u8], at: usize) -> u8
+    requires { ⌜ at + 4 ≤ length (now s) ⌝ }
+    ensures { λ r. ⌜ (r ≤ 4) × (r ≡ 0 → AsciiOver 4 (now (s .entry)) at) ⌝ }
+{
+    top_bit(s[at]) + top_bit(s[at + 1]) + top_bit(s[at + 2]) + top_bit(s[at + 3])
+}
+
+// As far as eight bytes of ASCII follow, and eight more: eight loads and one test, which become one load and one test.
+fn ascii_eights(s: &[u8], at: usize) -> usize
+    ensures { λ r. ⌜ r + span isAscii (drop r (now (s .entry))) ≡ at + span isAscii (drop at (now (s .entry))) ⌝ }
+{
+    let mut i = at;
+    while i < s.len() {
+        if s.len() - i < 8 {
+            return i;
+        }
+        if marked(s, i) + marked(s, i + 4) != 0 {
+            return i;
+        }
+        i += 8;
+    }
+    i
+}
+
+fn ascii_end(s: &[u8], at: usize) -> usize
+    ensures { λ r. ⌜ r ≡ at + span isAscii (drop at (now (s .entry))) ⌝ }
+{
+    let mut i = ascii_eights(s, at);
+    while i < s.len() {
+        if 0x80 <= s[i] {
+            return i;
+        }
+        i += 1;
+    }
+    i
+}
+
+// The length of the longest beginning that is UTF-8.
+pub fn utf8_end(s: &[u8]) -> usize
+    ensures { λ r. ⌜ LongestUtf8 (now (s .entry)) r ⌝ }
+{
+    let mut i = ascii_end(s, 0);
+    while i < s.len() {
+        let c = decode(s, i);
+        let n = c.len;
+        if n == 0 {
+            return i;
+        }
+        i = ascii_end(s, i + n);
+    }
+    i
+}

@@ -1,9 +1,0 @@
--- A mirror: which byte may stand where in an account number. Assumes nothing.
-use mathlib.Core.Bool.{Bool, cond}
-use Prim.Native.Nat.{ℕ}
-use lib.Dec.{ltb}
-use Rattle.text.specs.Bytes.{isCapital, isDigit}
-use Rattle.types.specs.Code.{isLetterOrDigit}
-
-unfoldable pub ibanAt : ℕ → ℕ → Bool
-ibanAt i b = cond (ltb i 2) (isCapital b) (cond (ltb i 4) (isDigit b) (isLetterOrDigit b))

@@ -1,0 +1,56 @@
+-- A mirror: digits by two and three, and what stands at the front of a text. Assumes nothing.
+use mathlib.Core.Path.{_≡_}
+use mathlib.Core.Bool.{Bool, true}
+use mathlib.Core.List.{List, [], _∷_}
+use Prim.Native.Nat.{ℕ, _≤_}
+use lib.ListN.{drop}
+use Rattle.value.specs.Day.{Real, pair, dayText}
+use Rattle.value.specs.Moment.{Clock, clockText, triple, Fraction, FractionOk, fractionText, micros, Zone, ZoneOk, zoneText, offset}
+use Rattle.value.specs.declared.judged.Judged.{Judged}
+use Rattle.value.specs.declared.judged.Judged.the-variants.{Refused, Day, Moment}
+
+-- r is the number whose two digits l begins with; above 99, where it begins with none
+pub record Two (l : List ℕ) (r : ℕ) : Type 0 where
+  pub sound : r ≤ 99 → l ≡ pair r (drop 2 l)
+  pub complete : (n : ℕ) (u : List ℕ) → n ≤ 99 → l ≡ pair n u → r ≡ n
+
+-- the same of three digits
+pub record Three (l : List ℕ) (r : ℕ) : Type 0 where
+  pub sound : r ≤ 999 → l ≡ triple r (drop 3 l)
+  pub complete : (n : ℕ) (u : List ℕ) → n ≤ 999 → l ≡ triple n u → r ≡ n
+
+-- whether l begins with b
+pub record Mark (l : List ℕ) (b : ℕ) (r : Bool) : Type 0 where
+  pub sound : r ≡ true → l ≡ b ∷ drop 1 l
+  pub complete : (u : List ℕ) → l ≡ b ∷ u → r ≡ true
+
+-- the day that t begins with
+pub data DayAt (t : List ℕ) (r : Judged) : Type 0 where
+  on : (y m d : ℕ) → Real y m d → t ≡ dayText y m d (drop 10 t) → r ≡ Day y m d → DayAt t r
+  off : r ≡ Refused → ((y m d : ℕ) (u : List ℕ) → Real y m d → t ≡ dayText y m d u → ⊥) → DayAt t r
+
+-- the fraction that l begins with, u microseconds, and what stands behind it; before a zone there is no other
+pub record FractionAt (l : List ℕ) (u : ℕ) (rest : List ℕ) : Type 0 where
+  pub fraction : Fraction
+  pub good : FractionOk fraction
+  pub is : l ≡ fractionText fraction rest
+  pub count : u ≡ micros fraction
+  pub only : (f : Fraction) (z : Zone) → FractionOk f → l ≡ fractionText f (zoneText z []) → rest ≡ zoneText z []
+
+-- the zone that l is: offset minutes plus 840, above 1680 where it is none
+pub data ZoneAt (l : List ℕ) (r : ℕ) : Type 0 where
+  on : (z : Zone) → ZoneOk z → l ≡ zoneText z [] → r ≡ offset z → ZoneAt l r
+  off : r ≡ 9999 → ((z : Zone) → ZoneOk z → l ≡ zoneText z [] → ⊥) → ZoneAt l r
+
+-- the parts of a moment behind the ten characters of its day, u microseconds, offset minutes plus 840
+pub record ClockText (l : List ℕ) (h mi s u z : ℕ) : Type 0 where
+  pub clock : Clock h mi s
+  pub fraction : Fraction
+  pub zone : Zone
+  pub good : FractionOk fraction × ZoneOk zone
+  pub is : l ≡ 84 ∷ clockText h mi s (fractionText fraction (zoneText zone []))
+  pub parts : (u ≡ micros fraction) × (z ≡ offset zone)
+
+pub data ClockAt (t : List ℕ) (y m d : ℕ) (r : Judged) : Type 0 where
+  on : (h mi s u z : ℕ) → ClockText (drop 10 t) h mi s u z → r ≡ Moment (record { year = y; month = m; day = d; hour = h; minute = mi; second = s; micros = u; offset = z }) → ClockAt t y m d r
+  off : r ≡ Refused → ((h mi s u z : ℕ) → ClockText (drop 10 t) h mi s u z → ⊥) → ClockAt t y m d r

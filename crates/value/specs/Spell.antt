@@ -1,0 +1,167 @@
+-- A decision: which value the characters of a leaf spell, computed; `Spelt` says what is right, and proofs/Spell that this is it. Assumes nothing.
+use mathlib.Core.Bool.{Bool, true, false, cond, _&&_, _||_}
+use mathlib.Core.List.{List, [], _∷_}
+use mathlib.Core.Option.{Option, some, none}
+use Prim.Native.Nat.{ℕ, zero, suc, _+_, _*_, _-_}
+use lib.Dec.{leb, ltb, eqb}
+use lib.ListN.{length, drop, getD}
+use Rattle.text.specs.Bytes.{ascii, inRange, isBlank, isCapital, isDigit}
+use Rattle.text.specs.Lists.{same}
+use Rattle.list.specs.Listing.{Leaf, ref, iban, ccy, bool, num, amt, date, dtm, txt, enum}
+pub use Rattle.list.specs.Table.{placeFrom, placeIn}
+use Rattle.value.specs.Plain.{decimal}
+use Rattle.value.specs.Day.{isReal, dayText}
+use Rattle.value.specs.Moment.{clockText, Fraction, absent, three, six, fractionText, micros, Zone, zulu, ahead, behind, zoneText, offset}
+use Rattle.value.specs.Texts.{textOf}
+use Rattle.value.specs.Layout.{ibanAt}
+use Rattle.value.specs.Reading.{readOf, answer}
+use Rattle.value.specs.Value.{Value, text, place, truth, natural, amount, day, moment}
+use Rattle.value.specs.declared.judged.Judged.{Judged}
+use Rattle.value.specs.declared.judged.Judged.the-variants.{Refused, Text, Truth, Natural, Amount, Day, Moment}
+
+-- ---- blanks at both ends
+
+unfoldable pub frontOff : List ℕ → List ℕ
+frontOff [] = []
+frontOff (x ∷ xs) = cond (isBlank x) (frontOff xs) (x ∷ xs)
+
+-- x before what is left behind it; a blank that nothing is left behind goes too
+abbrev pub before : ℕ → List ℕ → List ℕ
+before x [] = cond (isBlank x) [] (x ∷ [])
+before x (y ∷ ys) = x ∷ y ∷ ys
+
+unfoldable pub backOff : List ℕ → List ℕ
+backOff [] = []
+backOff (x ∷ xs) = before x (backOff xs)
+
+abbrev pub trim : List ℕ → List ℕ
+trim cs = backOff (frontOff cs)
+
+-- ---- tests
+
+-- the value, where the test is passed
+abbrev pub when : Bool → Value → Option Value
+when b v = cond b (some v) none
+
+-- every one passes the test of its place, the first at place i
+unfoldable pub passesFrom : (ℕ → ℕ → Bool) → ℕ → List ℕ → Bool
+passesFrom p i [] = true
+passesFrom p i (x ∷ xs) = p i x && passesFrom p (suc i) xs
+
+abbrev pub isCcy : List ℕ → Bool
+isCcy t = eqb (length t) 3 && passesFrom (λ _ x. isCapital x) 0 t
+
+abbrev pub isIban : List ℕ → Bool
+isIban t = inRange 5 34 (length t) && passesFrom ibanAt 0 t
+
+abbrev pub isNum : List ℕ → Bool
+isNum t = inRange 1 18 (length t) && passesFrom (λ _ x. isDigit x) 0 t
+
+-- ---- words
+
+-- a place in a list of words counts from 1
+abbrev pub placeOf : ℕ → Option Value
+placeOf zero = none
+placeOf (suc n) = some (place (suc n))
+
+abbrev pub truthOf : List ℕ → Option Value
+truthOf t = cond (same t (ascii "true") || same t (ascii "1")) (some (truth true)) (when (same t (ascii "false") || same t (ascii "0")) (truth false))
+
+-- ---- amounts
+
+abbrev pub moneyOf : List ℕ → Judged → Option Value
+moneyOf w Refused = none
+moneyOf w (Text n) = none
+moneyOf w (Truth b) = none
+moneyOf w (Natural n) = none
+moneyOf w (Amount c k) = some (amount w k c)
+moneyOf w (Day y m d) = none
+moneyOf w (Moment m) = none
+
+-- ---- days and moments: the digits as they stand, and whether what they say is written so
+
+abbrev pub twoAt : ℕ → List ℕ → ℕ
+twoAt i t = (getD t i 0 - 48) * 10 + (getD t (i + 1) 0 - 48)
+
+abbrev pub threeAt : ℕ → List ℕ → ℕ
+threeAt i t = (getD t i 0 - 48) * 100 + twoAt (i + 1) t
+
+abbrev pub dayWhen : List ℕ → ℕ → ℕ → ℕ → Option Value
+dayWhen t y m d = when (isReal y m d && same t (dayText y m d [])) (day y m d)
+
+unfoldable pub dayOf : List ℕ → Option Value
+unfolding isReal
+dayOf t = dayWhen t (twoAt 0 t * 100 + twoAt 2 t) (twoAt 5 t) (twoAt 8 t)
+
+abbrev pub isClock : ℕ → ℕ → ℕ → Bool
+isClock h m s = leb h 23 && (leb m 59 && leb s 59)
+
+-- a point, and three digits or six
+unfoldable pub fractionOf : List ℕ → Fraction
+fractionOf l = cond (eqb (getD l 0 0) 46) (cond (isDigit (getD l 4 0)) (six (threeAt 1 l * 1000 + threeAt 4 l)) (three (threeAt 1 l))) absent
+
+abbrev pub fractionLength : Fraction → ℕ
+fractionLength absent = 0
+fractionLength (three n) = 4
+fractionLength (six n) = 7
+
+abbrev pub isFraction : Fraction → Bool
+isFraction absent = true
+isFraction (three n) = ltb n 1000
+isFraction (six n) = ltb n 1000000
+
+unfoldable pub zoneOf : List ℕ → Zone
+zoneOf l = cond (eqb (getD l 0 0) 43) (ahead (twoAt 1 l) (twoAt 4 l)) (cond (eqb (getD l 0 0) 45) (behind (twoAt 1 l) (twoAt 4 l)) zulu)
+
+abbrev pub isOffset : ℕ → ℕ → Bool
+isOffset h m = leb m 59 && leb (h * 60 + m) 840
+
+abbrev pub isZone : Zone → Bool
+isZone zulu = true
+isZone (ahead h m) = isOffset h m
+isZone (behind h m) = isOffset h m
+
+abbrev pub momentWhen : List ℕ → ℕ → ℕ → ℕ → ℕ → ℕ → ℕ → Fraction → Zone → Option Value
+momentWhen t y mo d h mi s f z =
+    when (isReal y mo d && (isClock h mi s && (isFraction f && (isZone z && same t (dayText y mo d (84 ∷ clockText h mi s (fractionText f (zoneText z []))))))))
+    (moment y mo d h mi s (micros f) (offset z))
+
+-- l is what stands behind the seconds
+abbrev pub momentBehind : List ℕ → List ℕ → Option Value
+momentBehind t l =
+    momentWhen t (twoAt 0 t * 100 + twoAt 2 t) (twoAt 5 t) (twoAt 8 t) (twoAt 11 t) (twoAt 14 t) (twoAt 17 t) (fractionOf l) (zoneOf (drop (fractionLength (fractionOf l)) l))
+
+unfoldable pub momentOf : List ℕ → Option Value
+unfolding isReal
+momentOf t = momentBehind t (drop 19 t)
+
+-- ---- all kinds
+
+-- "NUM, AMT, BOOL, DATE and DTM first lose blanks at both ends"
+abbrev pub leftOf : Leaf → List ℕ → List ℕ
+leftOf ref cs = cs
+leftOf iban cs = cs
+leftOf ccy cs = cs
+leftOf bool cs = trim cs
+leftOf num cs = trim cs
+leftOf amt cs = trim cs
+leftOf date cs = trim cs
+leftOf dtm cs = trim cs
+leftOf (txt k) cs = cs
+leftOf (enum ws) cs = cs
+
+-- the value that t spells, which lost its blanks; w are the characters of the attribute Ccy
+abbrev pub formOf : Leaf → List ℕ → List ℕ → Option Value
+formOf ref w t = when (textOf true 35 t) (text t)
+formOf iban w t = when (isIban t) (text t)
+formOf ccy w t = when (isCcy t) (text t)
+formOf bool w t = truthOf t
+formOf num w t = when (isNum t) (natural (decimal t))
+formOf amt w t = cond (isCcy w) (moneyOf w (answer (readOf t))) none
+formOf date w t = dayOf t
+formOf dtm w t = momentOf t
+formOf (txt k) w t = when (textOf false k t) (text t)
+formOf (enum ws) w t = placeOf (placeIn ws t)
+
+unfoldable pub spell : Leaf → List ℕ → List ℕ → Option Value
+spell k w cs = formOf k w (leftOf k cs)

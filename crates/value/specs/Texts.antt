@@ -1,0 +1,49 @@
+-- A mirror: REF and TXTk in one pass over the characters. Assumes nothing.
+use mathlib.Core.Path.{_≡_}
+use mathlib.Core.Bool.{Bool, true, false, cond, _&&_, _||_, not}
+use mathlib.Core.List.{List, [], _∷_}
+use Prim.Native.Nat.{ℕ, suc}
+use lib.Dec.{ltb, eqb}
+use lib.ListN.{length}
+use Rattle.text.specs.Bytes.{inRange}
+use Rattle.text_characters.specs.Utf8.{encodeAll}
+use Rattle.text_characters.specs.Passing.{Passes}
+use Rattle.value.specs.Text.{isTxt, isRef, notSpace}
+use Rattle.value.specs.declared.judged.Judged.{Judged}
+use Rattle.value.specs.declared.judged.Judged.the-variants.{Refused, Text}
+
+-- strict: of a reference, else of a text
+abbrev pub classOf : Bool → ℕ → Bool
+classOf true x = isRef x
+classOf false x = isTxt x
+
+-- at most k characters, n were read; ink: one was no space; slash: none may come next, as at the start of a reference and behind a slash in it
+unfoldable pub textFrom : Bool → ℕ → ℕ → Bool → Bool → List ℕ → Bool
+textFrom strict k n ink slash [] = ink && not slash
+textFrom strict k n ink slash (c ∷ cs) =
+    cond (ltb n k)
+    (cond (classOf strict c) (cond (slash && eqb c 47) false (textFrom strict k (suc n) (ink || notSpace c) (strict && eqb c 47) cs)) false)
+    false
+
+abbrev pub textOf : Bool → ℕ → List ℕ → Bool
+textOf strict k cs = textFrom strict k 0 false strict cs
+
+-- the raw text s: the bytes of its characters, or refused
+pub data Spelled (g : List ℕ → Bool) (s : List ℕ) (r : Judged) : Type 0 where
+  spelled : (p : Passes g s) → r ≡ Text (length (encodeAll (p .chars))) → Spelled g s r
+  unspelled : r ≡ Refused → (Passes g s → ⊥) → Spelled g s r
+
+-- the bytes of a character that is spelled by len bytes: an entity stands for one byte
+unfoldable pub widthOf : ℕ → ℕ → ℕ
+widthOf len code = cond (ltb code 128) 1 len
+
+-- quiet bytes: each is a character of the class by itself, and no slash of a reference
+unfoldable pub quietTxt : ℕ → Bool
+quietTxt x = inRange 32 37 x || inRange 39 59 x || inRange 61 95 x || inRange 97 126 x
+
+unfoldable pub quietRef : ℕ → Bool
+quietRef x = eqb x 32 || inRange 39 41 x || inRange 43 46 x || inRange 48 58 x || eqb x 63 || inRange 65 90 x || inRange 97 122 x
+
+abbrev pub quietOf : Bool → ℕ → Bool
+quietOf true x = quietRef x
+quietOf false x = quietTxt x

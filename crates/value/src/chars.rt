@@ -1,0 +1,183 @@
+// REF and TXTk: one loop for both, over raw text with entities. Its turn is a character of any kind, and the run of quiet bytes behind it,
+// each of which is a character of the class by itself: these are counted at once.
+
+use crate::judged::Judged;
+use text_characters::piece::next_char;
+ghost use mathlib.Core.Path.{_≡_};
+ghost use mathlib.Core.Bool.{cond, _&&_, _||_};
+ghost use Prim.Native.Nat.{_+_};
+ghost use lib.Dec.{eqb};
+ghost use lib.ListN.{drop};
+ghost use Rattle.text.specs.Lists.{span};
+ghost use Rattle.value.specs.Text.{isTxt, isRef, notSpace};
+ghost use Rattle.value.specs.Texts.{classOf, textOf, Spelled, widthOf, quietTxt, quietRef, quietOf};
+
+fn is_txt(c: u32) -> bool
+    ensures { λ r. ⌜ r ≡ isTxt c ⌝ }
+{
+    match c {
+        32..=95 => true,
+        97..=126 => true,
+        0xA7 | 0xB0 | 0xC4 | 0xD6 | 0xDC | 0xDF | 0xE4 | 0xF6 | 0xFC | 0x20AC => true,
+        _ => false,
+    }
+}
+
+fn is_ref(c: u32) -> bool
+    ensures { λ r. ⌜ r ≡ isRef c ⌝ }
+{
+    match c {
+        32 => true,
+        39..=41 => true,
+        43..=58 => true,
+        63 => true,
+        65..=90 => true,
+        97..=122 => true,
+        _ => false,
+    }
+}
+
+// Whether a character may stand in a reference (strict) or in a text.
+fn fits(strict: bool, c: u32) -> bool
+    ensures { λ r. ⌜ r ≡ classOf strict c ⌝ }
+{
+    if strict {
+        return is_ref(c);
+    }
+    is_txt(c)
+}
+
+fn inked(ink: bool, c: u32) -> bool
+    ensures { λ r. ⌜ r ≡ (ink || notSpace c) ⌝ }
+{
+    if ink {
+        return true;
+    }
+    c != 32
+}
+
+fn slash_and(flag: bool, c: u32) -> bool
+    ensures { λ r. ⌜ r ≡ (flag && eqb c 47) ⌝ }
+{
+    if flag {
+        return c == 47;
+    }
+    false
+}
+
+fn width(len: usize, code: u32) -> usize
+    ensures { λ r. ⌜ r ≡ widthOf len code ⌝ }
+{
+    if code < 128 {
+        return 1;
+    }
+    len
+}
+
+// Whether a reference may not go on with a slash: a character and a run of bytes that are none stand before.
+fn slash_behind(strict: bool, code: u32, run: usize) -> bool
+    ensures { λ r. ⌜ r ≡ (eqb run 0 && (strict && eqb code 47)) ⌝ }
+{
+    if run == 0 {
+        return slash_and(strict, code);
+    }
+    false
+}
+
+// A byte that a text may have and that stands for itself.
+fn is_quiet_txt(b: u8) -> bool
+    ensures { λ r. ⌜ r ≡ quietTxt b ⌝ }
+{
+    match b {
+        38 | 60 | 96 => false,
+        32..=126 => true,
+        _ => false,
+    }
+}
+
+// A byte that a reference may have and that stands for itself; a slash must be looked at.
+fn is_quiet_ref(b: u8) -> bool
+    ensures { λ r. ⌜ r ≡ quietRef b ⌝ }
+{
+    match b {
+        42 | 47 | 59 | 61 | 64 | 91 | 93 | 95 => false,
+        60 | 62 | 92 | 94 | 96 => false,
+        39..=122 => true,
+        32 => true,
+        _ => false,
+    }
+}
+
+fn is_quiet(strict: bool, b: u8) -> bool
+    ensures { λ r. ⌜ r ≡ quietOf strict b ⌝ }
+{
+    if strict {
+        return is_quiet_ref(b);
+    }
+    is_quiet_txt(b)
+}
+
+fn quiet_end(s: &[u8], at: usize, strict: bool) -> usize
+    ensures { λ r. ⌜ r ≡ at + span (quietOf strict) (drop at (now (s .entry))) ⌝ }
+{
+    let mut i = at;
+    while i < s.len() {
+        if !is_quiet(strict, s[i]) {
+            return i;
+        }
+        i += 1;
+    }
+    i
+}
+
+// How many quiet bytes follow. While only spaces were read, none is passed over: one that is no space is looked for.
+fn run_of(s: &[u8], at: usize, strict: bool, ink: bool) -> usize
+    ensures { λ r. ⌜ r ≡ cond ink (span (quietOf strict) (drop at (now (s .entry)))) 0 ⌝ }
+{
+    if ink {
+        return quiet_end(s, at, strict) - at;
+    }
+    0
+}
+
+// The raw text of a reference (strict, k is 35) or of TXTk: how many bytes its characters have.
+pub fn spelled(s: &[u8], strict: bool, k: usize) -> Judged
+    ensures { λ r. ⌜ Spelled (textOf strict k) (now (s .entry)) r ⌝ }
+{
+    let mut i = 0;
+    let mut n: usize = 0;
+    let mut size: usize = 0;
+    let mut ink = false;
+    let mut slash = strict;
+    while i < s.len() {
+        if k <= n {
+            return Judged::Refused;
+        }
+        let c = next_char(s, i);
+        let len = c.len;
+        let code = c.code;
+        if !fits(strict, code) {
+            return Judged::Refused;
+        }
+        if slash_and(slash, code) {
+            return Judged::Refused;
+        }
+        n += 1;
+        ink = inked(ink, code);
+        let run = run_of(s, i + len, strict, ink);
+        if k - n < run {
+            return Judged::Refused;
+        }
+        i += len + run;
+        n += run;
+        size += width(len, code) + run;
+        slash = slash_behind(strict, code, run);
+    }
+    if slash {
+        return Judged::Refused;
+    }
+    if ink {
+        return Judged::Text(size);
+    }
+    Judged::Refused
+}

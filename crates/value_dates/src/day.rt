@@ -1,0 +1,119 @@
+// DATE: digits by two, and real days.
+
+use text::class::is_digit;
+use value::judged::Judged;
+ghost use mathlib.Core.Path.{_≡_};
+ghost use lib.ListN.{drop};
+ghost use Rattle.list.specs.Listing.{date};
+ghost use Rattle.value.specs.Day.{monthDays};
+ghost use Rattle.value.specs.Digits.{Two, Mark, DayAt};
+ghost use Rattle.value.specs.Judged.{FormedAny};
+
+// How many days a month of a year has, 0 where there is no such month.
+pub fn month_days(y: u16, m: u8) -> u8
+    ensures { λ r. ⌜ r ≡ monthDays y m ⌝ }
+{
+    if m == 0 {
+        return 0;
+    }
+    if 12 < m {
+        return 0;
+    }
+    match m {
+        2 => {
+            if y % 4 == 0 {
+                if y % 100 == 0 {
+                    if y % 400 == 0 {
+                        return 29;
+                    }
+                    return 28;
+                }
+                return 29;
+            }
+            28
+        }
+        4 | 6 | 9 | 11 => 30,
+        _ => 31,
+    }
+}
+
+// The number of two digits, 100 where there are none.
+pub(crate) fn two(s: &[u8], at: usize) -> u8
+    ensures { λ r. ⌜ Two (drop at (now (s .entry))) r ⌝ }
+{
+    if s.len() <= at {
+        return 100;
+    }
+    let x = s[at];
+    let next = at + 1;
+    if s.len() <= next {
+        return 100;
+    }
+    let y = s[next];
+    if !is_digit(x) {
+        return 100;
+    }
+    if !is_digit(y) {
+        return 100;
+    }
+    (x - 48) * 10 + (y - 48)
+}
+
+// Whether this byte stands there.
+pub(crate) fn mark(s: &[u8], at: usize, b: u8) -> bool
+    ensures { λ r. ⌜ Mark (drop at (now (s .entry))) b r ⌝ }
+{
+    if s.len() <= at {
+        return false;
+    }
+    s[at] == b
+}
+
+fn wide16(x: u8) -> u16
+    ensures { λ r. ⌜ r ≡ x ⌝ }
+{
+    x as u16
+}
+
+// The day that a text begins with.
+pub(crate) fn day_at(t: &[u8]) -> Judged
+    ensures { λ r. ⌜ DayAt (now (t .entry)) r ⌝ }
+{
+    let hi = two(t, 0);
+    let lo = two(t, 2);
+    let m = two(t, 5);
+    let d = two(t, 8);
+    if 99 < hi {
+        return Judged::Refused;
+    }
+    if 99 < lo {
+        return Judged::Refused;
+    }
+    if !mark(t, 4, 45) {
+        return Judged::Refused;
+    }
+    if !mark(t, 7, 45) {
+        return Judged::Refused;
+    }
+    let y = wide16(hi) * 100 + wide16(lo);
+    if y == 0 {
+        return Judged::Refused;
+    }
+    if d == 0 {
+        return Judged::Refused;
+    }
+    if month_days(y, m) < d {
+        return Judged::Refused;
+    }
+    Judged::Day(y, m, d)
+}
+
+// The day that a text is.
+pub fn day(t: &[u8]) -> Judged
+    ensures { λ r. ⌜ FormedAny date (now (t .entry)) r ⌝ }
+{
+    if t.len() != 10 {
+        return Judged::Refused;
+    }
+    day_at(t)
+}

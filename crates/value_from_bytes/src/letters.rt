@@ -1,0 +1,175 @@
+// REF and TXTk: the bytes of their characters.
+
+use text::class::is_digit;
+use text::class::is_letter;
+use text_characters::utf8::decode;
+ghost use mathlib.Core.Path.{_≡_};
+ghost use mathlib.Core.Bool.{true, _&&_};
+ghost use Prim.Native.Nat.{_+_, _≤_, _<_};
+ghost use lib.ListN.{drop};
+ghost use Rattle.text.specs.Lists.{span};
+ghost use Rattle.value.specs.Text.{isTxt, isRef, notSpace};
+ghost use Rattle.value_from_bytes.specs.Tests.{every, some, apart};
+ghost use Rattle.value_from_bytes.specs.Judges.{isWord, isReference, isAsciiTxt, txtLen, isWriting};
+
+// Of a reference, but no slash. The bytes that a range lacks stand in rows without neighbours: each row is one test of a mask.
+fn is_sign(x: u8) -> bool
+    ensures { λ r. ⌜ r ≡ isWord x ⌝ }
+{
+    match x {
+        42 | 47 | 59 | 61 | 64 | 91 | 93 | 95 => false,
+        60 | 62 | 92 | 94 | 96 => false,
+        32 => true,
+        39..=122 => true,
+        _ => false,
+    }
+}
+
+// The same; most are digits and letters, which come in runs.
+fn is_word(x: u8) -> bool
+    ensures { λ r. ⌜ r ≡ isWord x ⌝ }
+{
+    if is_digit(x) {
+        return true;
+    }
+    if is_letter(x) {
+        return true;
+    }
+    is_sign(x)
+}
+
+// Whether one is no space; it mostly is the first.
+fn inked(b: &[u8]) -> bool
+    ensures { λ r. ⌜ r ≡ some notSpace (now (b .entry)) ⌝ }
+{
+    let mut i = 0;
+    while i < b.len() {
+        if b[i] != 32 {
+            return true;
+        }
+        i += 1;
+    }
+    false
+}
+
+// Characters of a reference, no slash first or last, none beside another: in one pass, and most bytes are no slash.
+fn is_spaced(b: &[u8]) -> bool
+    ensures { λ r. ⌜ r ≡ (every isRef (now (b .entry)) && apart true (now (b .entry))) ⌝ }
+{
+    let mut i = 0;
+    let mut slash = true;
+    while i < b.len() {
+        let x = b[i];
+        i += 1;
+        if is_word(x) {
+            slash = false;
+        } else {
+            if x != 47 {
+                return false;
+            }
+            if slash {
+                return false;
+            }
+            slash = true;
+        }
+    }
+    !slash
+}
+
+pub(crate) fn is_reference(b: &[u8]) -> bool
+    ensures { λ r. ⌜ r ≡ isReference (now (b .entry)) ⌝ }
+{
+    if 35 < b.len() {
+        return false;
+    }
+    if !inked(b) {
+        return false;
+    }
+    is_spaced(b)
+}
+
+fn is_ascii_txt(x: u8) -> bool
+    ensures { λ r. ⌜ r ≡ isAsciiTxt x ⌝ }
+{
+    match x {
+        96 => false,
+        32..=126 => true,
+        _ => false,
+    }
+}
+
+// How far ASCII characters of a text reach from a place.
+fn ascii_end(b: &[u8], at: usize) -> usize
+    ensures { λ r. ⌜ r ≡ at + span isAsciiTxt (drop at (now (b .entry))) ⌝ }
+{
+    let mut i = at;
+    while i < b.len() {
+        if !is_ascii_txt(b[i]) {
+            return i;
+        }
+        i += 1;
+    }
+    i
+}
+
+fn is_low_txt(c: u32) -> bool
+    requires { ⌜ c < 128 ⌝ }
+    ensures { λ r. ⌜ r ≡ isTxt c ⌝ }
+{
+    match c {
+        32..=95 => true,
+        97..=126 => true,
+        _ => false,
+    }
+}
+
+fn is_high_txt(c: u32) -> bool
+    requires { ⌜ 128 ≤ c ⌝ }
+    ensures { λ r. ⌜ r ≡ isTxt c ⌝ }
+{
+    match c {
+        0xA7 | 0xB0 | 0xC4 | 0xD6 | 0xDC | 0xDF | 0xE4 | 0xF6 | 0xFC | 0x20AC => true,
+        _ => false,
+    }
+}
+
+// In two halves, so that ASCII is not asked for the ten characters beyond it.
+fn is_txt(c: u32) -> bool
+    ensures { λ r. ⌜ r ≡ isTxt c ⌝ }
+{
+    if c < 128 {
+        return is_low_txt(c);
+    }
+    is_high_txt(c)
+}
+
+// How many bytes the character of a text has that begins at a place; 0 where none does. `decode` finds the code 0 there, which no text has.
+fn char_len(b: &[u8], at: usize) -> usize
+    ensures { λ r. ⌜ r ≡ txtLen (drop at (now (b .entry))) ⌝ }
+{
+    let c = decode(b, at);
+    if is_txt(c.code) {
+        return c.len;
+    }
+    0
+}
+
+// TXTk: runs of ASCII, one byte a character, and the characters between them; `more` counts the bytes behind the first of each.
+pub(crate) fn is_writing(b: &[u8], k: usize) -> bool
+    ensures { λ r. ⌜ r ≡ isWriting k (now (b .entry)) ⌝ }
+{
+    if !inked(b) {
+        return false;
+    }
+    let mut i = ascii_end(b, 0);
+    let mut more: usize = 0;
+    while i < b.len() {
+        let n = char_len(b, i);
+        if n == 0 {
+            return false;
+        }
+        more = more + (n - 1);
+        i = ascii_end(b, i + n);
+    }
+    b.len() - more <= k
+}

@@ -1,0 +1,63 @@
+-- `values::write_amount` meets its contract. Assumes nothing.
+use mathlib.Core.Bool.{true≢false}
+use mathlib.Core.Path.{sym, _∙_}
+use native.Mathlib.Omega.{arith}
+use borrow.Author.Needs.{needs}
+use borrow.Author.Tests.{not-true, not-false}
+use Rattle.value_to_bytes.proofs.Putting.{fits, amount-no-room, amount-put, amount-none}
+use Rattle.value_to_bytes.proofs.values.write_amount.Statement.{statement}
+use Rattle.value_to_bytes.proofs.values.write_amount.Tie as tie
+
+is-currency-requires : tie.Need-is-currency-requires
+is-currency-requires c κs = search needs
+
+returns : tie.Need-returns
+returns c =
+    amount-none _ _ _ _ _ (λ g. true≢false (sym (c .before .is-currency .ensures .1 g) ∙ not-true _ (c .if1 .taken)))
+
+has-room-requires : tie.Need-has-room-requires
+has-room-requires c κs = search needs
+
+returns-2 : tie.Need-returns-2
+returns-2 c =
+    amount-no-room _ _ _ _ _ (c .before .before .before .is-currency .ensures .0 (not-false _ (c .before .before .if1 .left))) _ (c .before .has-room .ensures) (c .if2 .taken)
+
+copy-requires : tie.Need-copy-requires
+copy-requires c κs = search needs
+
+add-place : tie.Need-add-place
+add-place c =
+    omega (arith, fits _ (c .before .before .before .before .before .before .has-room .ensures) (c .before .before .before .before .before .if2 .left))
+
+place-requires : tie.Need-place-requires
+place-requires c κs = search needs
+
+add-put64 : tie.Need-add-put64
+add-put64 c =
+    omega (arith, fits _ (c .before .before .before .before .before .before .before .before .before .before .has-room .ensures) (c .before .before .before .before .before .before .before .before .before .if2 .left))
+
+put64-requires : tie.Need-put64-requires
+put64-requires c κs = search needs
+
+same-length : tie.Need-same-length
+same-length c = search needs
+
+returns-3 : tie.Need-returns-3
+returns-3 c =
+    amount-put _ _ _ _ _ _ _ _ (c .before .before .before .before .before .before .before .before .before .before .before .before .before .before .before .is-currency .ensures .0 (not-false _ (c .before .before .before .before .before .before .before .before .before .before .before .before .before .before .if1 .left))) (fits _ (c .before .before .before .before .before .before .before .before .before .before .before .before .before .has-room .ensures) (c .before .before .before .before .before .before .before .before .before .before .before .before .if2 .left)) (c .before .before .before .before .before .before .before .before .before .before .copy .ensures) (c .before .before .before .before .before .before .place .ensures) (c .before .before .put64 .ensures)
+
+pub write-amount-spec : {M : Type 1} → statement M
+write-amount-spec =
+    tie.close
+    (tie.spec
+    is-currency-requires
+    returns
+    has-room-requires
+    returns-2
+    copy-requires
+    add-place
+    place-requires
+    add-put64
+    put64-requires
+    same-length
+    returns-3)

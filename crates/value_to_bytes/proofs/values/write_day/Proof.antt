@@ -1,0 +1,51 @@
+-- `values::write_day` meets its contract. Assumes nothing.
+use native.Mathlib.Omega.{arith}
+use borrow.Author.Needs.{needs}
+use Rattle.value_to_bytes.proofs.Putting.{fits, day-no-room, day-put}
+use Rattle.value_to_bytes.proofs.values.write_day.Statement.{statement}
+use Rattle.value_to_bytes.proofs.values.write_day.Tie as tie
+
+has-room-requires : tie.Need-has-room-requires
+has-room-requires c κs = search needs
+
+returns : tie.Need-returns
+returns c =
+    day-no-room _ _ (c .before .before .before .args .y) (c .before .before .before .args .m) (c .before .before .before .args .d) _ (c .before .has-room .ensures) (c .if1 .taken)
+
+put16-requires : tie.Need-put16-requires
+put16-requires c κs = search needs
+
+add-place : tie.Need-add-place
+add-place c =
+    omega (arith, fits _ (c .before .before .before .before .before .before .has-room .ensures) (c .before .before .before .before .before .if1 .left))
+
+place-requires : tie.Need-place-requires
+place-requires c κs = search needs
+
+add-place-2 : tie.Need-add-place-2
+add-place-2 c =
+    omega (arith, fits _ (c .before .before .before .before .before .before .before .before .before .before .has-room .ensures) (c .before .before .before .before .before .before .before .before .before .if1 .left))
+
+place-requires-2 : tie.Need-place-requires-2
+place-requires-2 c κs = search needs
+
+same-length : tie.Need-same-length
+same-length c = search needs
+
+returns-2 : tie.Need-returns-2
+returns-2 c =
+    day-put _ _ (c .before .before .before .before .before .before .before .before .before .before .before .before .before .before .before .args .y) (c .before .before .before .before .before .before .before .before .before .before .before .before .before .before .before .args .m) (c .before .before .before .before .before .before .before .before .before .before .before .before .before .before .before .args .d) _ _ _ (fits _ (c .before .before .before .before .before .before .before .before .before .before .before .before .before .has-room .ensures) (c .before .before .before .before .before .before .before .before .before .before .before .before .if1 .left)) (c .before .before .before .before .before .before .before .before .before .before .put16 .ensures) (c .before .before .before .before .before .before .place .ensures) (c .before .before .place2 .ensures)
+
+pub write-day-spec : {M : Type 1} → statement M
+write-day-spec =
+    tie.close
+    (tie.spec
+    has-room-requires
+    returns
+    put16-requires
+    add-place
+    place-requires
+    add-place-2
+    place-requires-2
+    same-length
+    returns-2)

@@ -1,0 +1,61 @@
+-- `values::write_moment` meets its contract. Assumes nothing.
+use native.Mathlib.Omega.{arith}
+use borrow.Author.Needs.{needs}
+use Rattle.value_to_bytes.proofs.Putting.{fits, kept, moment-no-room, moment-put}
+use Rattle.value_to_bytes.proofs.values.write_moment.Statement.{statement}
+use Rattle.value_to_bytes.proofs.values.write_moment.Tie as tie
+
+has-room-requires : tie.Need-has-room-requires
+has-room-requires c κs = search needs
+
+returns : tie.Need-returns
+returns c =
+    moment-no-room _ _ (c .before .before .before .args .m) _ (c .before .has-room .ensures) (c .if1 .taken)
+
+write-day-requires : tie.Need-write-day-requires
+write-day-requires c κs = search needs
+
+add-put-clock : tie.Need-add-put-clock
+add-put-clock c =
+    omega (arith, fits _ (c .before .before .before .before .before .before .has-room .ensures) (c .before .before .before .before .before .if1 .left))
+
+put-clock-requires : tie.Need-put-clock-requires
+put-clock-requires c κs =
+    omega (arith, fits _ (c .before .before .before .before .before .before .has-room .ensures) (c .before .before .before .before .before .if1 .left), kept _ _ _ _ (c .before .before .before .write-day .ensures .is))
+
+add-put32 : tie.Need-add-put32
+add-put32 c =
+    omega (arith, fits _ (c .before .before .before .before .before .before .before .before .before .before .has-room .ensures) (c .before .before .before .before .before .before .before .before .before .if1 .left))
+
+put32-requires : tie.Need-put32-requires
+put32-requires c κs = search needs
+
+add-put16 : tie.Need-add-put16
+add-put16 c =
+    omega (arith, fits _ (c .before .before .before .before .before .before .before .before .before .before .before .before .before .before .has-room .ensures) (c .before .before .before .before .before .before .before .before .before .before .before .before .before .if1 .left))
+
+put16-requires : tie.Need-put16-requires
+put16-requires c κs = search needs
+
+same-length : tie.Need-same-length
+same-length c = search needs
+
+returns-2 : tie.Need-returns-2
+returns-2 c =
+    moment-put _ _ (c .before .before .before .before .before .before .before .before .before .before .before .before .before .before .before .before .before .before .before .args .m) _ _ _ _ _ (fits _ (c .before .before .before .before .before .before .before .before .before .before .before .before .before .before .before .before .before .has-room .ensures) (c .before .before .before .before .before .before .before .before .before .before .before .before .before .before .before .before .if1 .left)) (c .before .before .before .before .before .before .before .before .before .before .before .before .before .before .write-day .ensures) (c .before .before .before .before .before .before .before .before .before .before .put-clock .ensures) (c .before .before .before .before .before .before .put32 .ensures) (c .before .before .put16 .ensures)
+
+pub write-moment-spec : {M : Type 1} → statement M
+write-moment-spec =
+    tie.close
+    (tie.spec
+    has-room-requires
+    returns
+    write-day-requires
+    add-put-clock
+    put-clock-requires
+    add-put32
+    put32-requires
+    add-put16
+    put16-requires
+    same-length
+    returns-2)

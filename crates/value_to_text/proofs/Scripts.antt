@@ -1,0 +1,240 @@
+-- The text that is written for a value spells that value. Assumes nothing.
+use mathlib.Core.Path.{_≡_, refl, sym, _∙_, ap}
+use mathlib.Core.Bool.{Bool, true, false, cond}
+use mathlib.Core.Logic.{_↔_, inl}
+use mathlib.Core.List.{List, [], _∷_, _++_, append-assoc, append-nil}
+use Prim.Native.Nat.{ℕ, zero, suc, _+_, _*_, _-_, _/_, _%_, _^_, _≤_, _<_}
+use native.Mathlib.Nat.{pow-suc, div-one, div-div-eq-div-mul, mul-comm}
+use native.Mathlib.Decide.{decLt}
+use native.Mathlib.Omega.{arith}
+use lib.Dec.{eqb, ltb}
+use lib.ListN.{length, length-append}
+use borrow.Author.Tests.{eqb-true, ltb-true, ltb-false}
+use Rattle.text.specs.Bytes.{ascii, isDigit}
+use Rattle.text.specs.Lists.{All}
+use Rattle.program_line.specs.Line.{digits as figuresIn, decimal as inDigits}
+use Rattle.program_line.proofs.Digits.{decimal-one, decimal-more, length-some, length-most}
+use Rattle.list.specs.Listing.{Leaf, ref, iban, ccy, bool, num, amt, date, dtm, txt, enum}
+use Rattle.value.specs.Plain.{decimalFrom, decimal, Num, Says, Trimmed}
+use Rattle.value.specs.Amount.{Decimal, Bounded, Amount, absent as whole, point}
+use Rattle.value.specs.Amount as A
+use Rattle.value.specs.Moment.{FractionOk, micros, Zone, zulu, ahead, behind, ZoneOk, offset, Parts, MomentText}
+use Rattle.value.specs.Value.{Value, text, day, moment, IsValue, Form, Left, Spelt}
+use Rattle.value.proofs.Classes.{digit-yes}
+use Rattle.value.proofs.Decimals.{canon}
+use Rattle.value.proofs.Values.{value-laws}
+use Rattle.value_to_text.specs.Script.{padded, amountText, truthText, fractionOf, zoneOf, scriptOf, currencyOf}
+use Rattle.value_to_text.specs.Spelled.{Spelled}
+
+-- ---- digits: which number they write
+
+last-digit : (a : ℕ) (ds : List ℕ) (d : ℕ) → decimalFrom a (ds ++ ((48 + d) ∷ [])) ≡ decimalFrom a ds * 10 + d
+unfolding decimalFrom
+last-digit a [] d = let e : 48 + d - 48 ≡ d = omega arith in ap (λ (x : ℕ). a * 10 + x) e
+last-digit a (x ∷ ds) d = last-digit (a * 10 + (x - 48)) ds d
+
+all-append : (p : ℕ → Bool) (a b : List ℕ) → All p a → All p b → All p (a ++ b)
+all-append p [] b h k = k
+all-append p (x ∷ a) b h k = (h .0, all-append p a b (h .1) k)
+
+-- the written digits of a number: digits, of that number
+record Figures (n : ℕ) : Type 0 where
+  digits : All isDigit (inDigits n)
+  is : decimal (inDigits n) ≡ n
+
+figures-one : (n : ℕ) → n < 10 → Figures n
+unfolding decimalFrom
+figures-one n h =
+    let e = decimal-one n h in
+    let i : 0 * 10 + (48 + n - 48) ≡ n = omega arith in
+    record { digits = rw e (digit-yes n h, tt); is = ap decimal e ∙ i }
+
+figures-more : (n : ℕ) → 10 ≤ n → Figures (n / 10) → Figures n
+figures-more n h f =
+    let e = decimal-more n h in
+    let i : n / 10 * 10 + n % 10 ≡ n = omega arith in
+    record {
+      digits = rw e (all-append isDigit (inDigits (n / 10)) ((48 + n % 10) ∷ []) (f .digits) (digit-yes (n % 10) (omega arith), tt));
+      is = ap decimal e ∙ last-digit 0 (inDigits (n / 10)) (n % 10) ∙ ap (λ (x : ℕ). x * 10 + n % 10) (f .is) ∙ i;
+    }
+
+figures-in : (f n : ℕ) → n ≤ f → Figures n
+figures-in zero n h = figures-one n (omega arith)
+figures-in (suc f) n h = go (decLt n 10) (figures-in f (n / 10))
+  where
+    go : Dec (n < 10) → (n / 10 ≤ f → Figures (n / 10)) → Figures n
+    go (yes d) ih = figures-one n d
+    go (no d) ih = figures-more n (omega arith) (ih (omega arith))
+
+figures : (n : ℕ) → Figures n
+figures n = figures-in n n (omega arith)
+
+-- "NUM without leading zeros (zero is `0`)"
+first-digit : (f n : ℕ) → n ≤ f → 0 < n → (t : List ℕ) → inDigits n ≡ 48 ∷ t → ⊥
+first-digit zero n h z t e = omega arith
+first-digit (suc f) n h z t e = go (decLt n 10) (first-digit f (n / 10)) (inDigits (n / 10)) refl
+  where
+    go : Dec (n < 10) → (n / 10 ≤ f → 0 < n / 10 → (t : List ℕ) → inDigits (n / 10) ≡ 48 ∷ t → ⊥) → (u : List ℕ) → inDigits (n / 10) ≡ u → ⊥
+    go (yes d) ih u q = let p = decimal-one n d in let w : 48 + n ≡ 48 = cc in omega arith
+    go (no d) ih [] q = omega (arith, ap length q, length-some (n / 10))
+    go (no d) ih (x ∷ u) q =
+        let p : 48 ∷ t ≡ (x ∷ u) ++ ((48 + n % 10) ∷ []) = sym e ∙ decimal-more n (omega arith) ∙ ap (λ (l : List ℕ). l ++ ((48 + n % 10) ∷ [])) q in
+        let w : x ≡ 48 = cc in
+        ih (omega arith) (omega arith) u (q ∙ ap (λ (y : ℕ). y ∷ u) w)
+
+pub no-leading-zero : (n : ℕ) → 0 < n → (t : List ℕ) → inDigits n ≡ 48 ∷ t → ⊥
+no-leading-zero n = first-digit n n (omega arith)
+
+pub number-spelt : (n : ℕ) → n < 10 ^ 18 → Num (inDigits n) n
+number-spelt n h = record { lengths = (length-some n, length-most 17 n h); digits = figures n .digits; is = sym (figures n .is) }
+
+-- ---- amounts
+
+length-padded : (k n : ℕ) → length (padded k n) ≡ k
+unfolding padded
+length-padded zero n = refl
+length-padded (suc k) n = omega (arith, length-append (padded k (n / 10)) ((48 + n % 10) ∷ []), length-padded k (n / 10))
+
+digits-padded : (k n : ℕ) → All isDigit (padded k n)
+unfolding padded
+digits-padded zero n = tt
+digits-padded (suc k) n = all-append isDigit (padded k (n / 10)) ((48 + n % 10) ∷ []) (digits-padded k (n / 10)) (digit-yes (n % 10) (omega arith), tt)
+
+-- the digits before the point and those behind it, read as one number
+joined : (k c : ℕ) → decimal (inDigits (c / 10 ^ k) ++ padded k c) ≡ c
+unfolding padded
+joined zero c = ap decimal (append-nil (inDigits (c / 1))) ∙ figures (c / 1) .is ∙ div-one c
+joined (suc k) c =
+    let e : c / 10 ^ suc k ≡ c / 10 / 10 ^ k = ap (λ (w : ℕ). c / w) (pow-suc 10 k ∙ mul-comm (10 ^ k) 10) ∙ sym (div-div-eq-div-mul c 10 (10 ^ k)) in
+    let i : c / 10 * 10 + c % 10 ≡ c = omega arith in
+    ap (λ (w : ℕ). decimal (inDigits w ++ (padded k (c / 10) ++ ((48 + c % 10) ∷ [])))) e
+    ∙ ap decimal (sym (append-assoc (inDigits (c / 10 / 10 ^ k)) (padded k (c / 10)) ((48 + c % 10) ∷ [])))
+    ∙ last-digit 0 (inDigits (c / 10 / 10 ^ k) ++ padded k (c / 10)) (c % 10)
+    ∙ ap (λ (w : ℕ). w * 10 + c % 10) (joined k (c / 10)) ∙ i
+
+-- without a sign
+unsigned : {t : List ℕ} {c k : ℕ} (d : Decimal t c k) → d .text .sign ≡ A.none → Bounded c k → Amount t c k
+unsigned d n b = record { spells = d; bounds = b; sign = λ e. let q : A.none ≡ A.minus = sym n ∙ e in absurd (let z : _≡_ {A = ℕ} 0 1 = cc in omega arith) }
+
+pub amount-spelt : (k c : ℕ) → Bounded c k → Amount (amountText k c) c k
+amount-spelt zero c b =
+    unsigned (record {
+      text = record { sign = A.none; whole = inDigits c; places = whole; is = sym (append-nil (inDigits c)); digits = (figures c .digits, tt); some = omega (arith, length-some c, ap length (append-nil (inDigits c))) };
+      same = ap (λ (w : ℕ). w * 10 ^ 0) (ap decimal (append-nil (inDigits c)) ∙ figures c .is);
+      least = b .least;
+    }) refl b
+amount-spelt (suc k) c b =
+    let n = c / 10 ^ suc k in
+    unsigned (record {
+      text = record {
+        sign = A.none;
+        whole = inDigits n;
+        places = point (padded (suc k) c);
+        is = refl;
+        digits = (figures n .digits, digits-padded (suc k) c);
+        some = omega (arith, length-some n, length-append (inDigits n) (padded (suc k) c));
+      };
+      same = ap (λ (w : ℕ). w * 10 ^ suc k) (joined (suc k) c) ∙ ap (λ (w : ℕ). c * 10 ^ w) (sym (length-padded (suc k) c));
+      least = b .least;
+    }) refl b
+
+-- "amounts with their smallest scale": the last digit behind a point is no zero
+last-same : (s t : List ℕ) (x y : ℕ) → s ++ (x ∷ []) ≡ t ++ (y ∷ []) → x ≡ y
+last-same [] [] x y e = cc
+last-same [] (b ∷ t) x y e = absurd (omega (arith, ap length e, length-append t (y ∷ [])))
+last-same (a ∷ s) [] x y e = absurd (omega (arith, ap length e, length-append s (x ∷ [])))
+last-same (a ∷ s) (b ∷ t) x y e = last-same s t x y (cc)
+
+pub no-last-zero : (k c : ℕ) → Bounded c (suc k) → (t : List ℕ) → amountText (suc k) c ≡ t ++ (48 ∷ []) → ⊥
+unfolding padded
+no-last-zero k c b t e =
+    let w = inDigits (c / 10 ^ suc k) in
+    let p = padded k (c / 10) in
+    let q : w ++ (46 ∷ (p ++ ((48 + c % 10) ∷ []))) ≡ (w ++ (46 ∷ p)) ++ ((48 + c % 10) ∷ []) = sym (append-assoc w (46 ∷ p) ((48 + c % 10) ∷ [])) in
+    canon c k (b .least) (omega (arith, last-same (w ++ (46 ∷ p)) t (48 + c % 10) 48 (sym q ∙ e)))
+
+-- "(as `0.5` and `7`)"; "(zero is `0`)"
+pub half : amountText 1 5 ≡ ascii "0.5"
+unfolding inDigits padded figuresIn
+half = refl
+
+pub seven : amountText 0 7 ≡ ascii "7"
+unfolding inDigits figuresIn
+seven = refl
+
+pub nought : inDigits 0 ≡ ascii "0"
+unfolding inDigits figuresIn
+nought = refl
+
+-- ---- moments
+
+fraction-ok : (u : ℕ) → u < 1000000 → FractionOk (fractionOf u)
+fraction-ok zero h = tt
+fraction-ok (suc u) h = h
+
+fraction-is : (u : ℕ) → u ≡ micros (fractionOf u)
+fraction-is zero = refl
+fraction-is (suc u) = refl
+
+-- the zone of z, behind the tests
+abbrev zoneBy : Bool → Bool → ℕ → Zone
+zoneBy a b z = cond a zulu (cond b (behind ((840 - z) / 60) ((840 - z) % 60)) (ahead ((z - 840) / 60) ((z - 840) % 60)))
+
+record Zoned (t : Zone) (z : ℕ) : Type 0 where
+  good : ZoneOk t
+  is : z ≡ offset t
+
+zone-by : (a b : Bool) (z : ℕ) → eqb z 840 ≡ a → ltb z 840 ≡ b → z ≤ 1680 → Zoned (zoneBy a b z) z
+zone-by true b z e f h = record { good = tt; is = eqb-true z 840 e }
+zone-by false true z e f h = let l = ltb-true z 840 f in record { good = record { minutes = omega arith; most = omega arith }; is = omega arith }
+zone-by false false z e f h = let l = ltb-false z 840 f in record { good = record { minutes = omega arith; most = omega arith }; is = omega arith }
+
+zoned : (z : ℕ) → z ≤ 1680 → Zoned (zoneOf z) z
+zoned z h = zone-by (eqb z 840) (ltb z 840) z refl refl h
+
+pub moment-spelt : {y mo d h mi s u z : ℕ} → Parts y mo d h mi s u z → MomentText (scriptOf dtm (moment y mo d h mi s u z)) y mo d h mi s u z
+moment-spelt {y} {mo} {d} {h} {mi} {s} {u} {z} p =
+    let w = zoned z (p .zone) in
+    record { day = p .day; clock = p .clock; fraction = fractionOf u; zone = zoneOf z; good = (fraction-ok u (p .fraction), w .good); is = refl; parts = (fraction-is u, w .is) }
+
+-- ---- all kinds
+
+says : (b : Bool) → Says (truthText b) b
+says true = inl refl
+says false = inl refl
+
+pub script-form : (f : Leaf) (v : Value) → IsValue f v → Form f (currencyOf v) (scriptOf f v) v
+script-form f v (IsValue.reference r) = Form.reference r
+script-form f v (IsValue.writing r) = Form.writing r
+script-form f v (IsValue.account r) = Form.account r
+script-form f v (IsValue.currency r) = Form.currency r
+script-form f v (IsValue.listed {ws = ws} {n = n} a b) = Form.listed {ws = ws} {n = n} (record { before = n - 1; from = omega arith; within = omega arith; is = refl })
+script-form f v (IsValue.either {b = b}) = Form.either (says b)
+script-form f v (IsValue.count {n = n} h) = Form.count (number-spelt n h)
+script-form f v (IsValue.money {k = k} {c = c} r b) = Form.money r (amount-spelt k c b)
+script-form f v (IsValue.dated r) = Form.dated r refl
+script-form f v (IsValue.timed p) = Form.timed (moment-spelt p)
+
+-- nothing is lost: no blank stands around it
+bare : (t : List ℕ) → Trimmed t t
+bare t = record { lead = []; tail = []; blanks = (tt, tt); is = sym (append-nil t) }
+
+left-all : (f : Leaf) (t : List ℕ) → Left f t t
+left-all ref t = refl
+left-all iban t = refl
+left-all ccy t = refl
+left-all bool t = bare t
+left-all num t = bare t
+left-all amt t = bare t
+left-all date t = bare t
+left-all dtm t = bare t
+left-all (txt k) t = refl
+left-all (enum ws) t = refl
+
+-- the text that is written for a value spells it
+pub script-spelt : (f : Leaf) (v : Value) → IsValue f v → Spelt f (currencyOf v) (scriptOf f v) v
+script-spelt f v h = record { left = scriptOf f v; lost = left-all f (scriptOf f v); form = script-form f v h }
+
+-- a type has exactly the values that some text spells
+pub every-spelt : (f : Leaf) (v : Value) → IsValue f v ↔ Spelled f v
+every-spelt f v = (λ h. record { coin = currencyOf v; chars = scriptOf f v; spelt = script-spelt f v h }, λ s. value-laws .is f (s .coin) (s .chars) v (s .spelt))

@@ -1,0 +1,67 @@
+-- The text that is written for a value: of all that spell it, this one. Assumes nothing.
+use mathlib.Core.Bool.{Bool, true, false, cond}
+use mathlib.Core.List.{List, [], _∷_, _++_}
+use Prim.Native.Nat.{ℕ, zero, suc, _+_, _-_, _/_, _%_, _^_}
+use lib.Dec.{eqb, ltb}
+use lib.ListN.{getD}
+use Rattle.text.specs.Bytes.{ascii}
+use Rattle.program_line.specs.Line.{decimal}
+use Rattle.list.specs.Listing.{Leaf, ref, iban, ccy, bool, num, amt, date, dtm, txt, enum}
+use Rattle.value.specs.Day.{dayText}
+use Rattle.value.specs.Moment.{Fraction, absent, six, fractionText, Zone, zulu, ahead, behind, zoneText, clockText}
+use Rattle.value.specs.Value.{Value, text, place, truth, natural, amount, day, moment}
+
+-- the last k digits of n
+unfoldable pub padded : ℕ → ℕ → List ℕ
+padded zero n = []
+padded (suc k) n = padded k (n / 10) ++ ((48 + n % 10) ∷ [])
+
+-- "amounts with their smallest scale and digits written most significant first (as `0.5` and `7`)"
+abbrev pub amountText : ℕ → ℕ → List ℕ
+amountText zero c = decimal c
+amountText (suc k) c = decimal (c / 10 ^ suc k) ++ (46 ∷ padded (suc k) c)
+
+-- "BOOL as `true` or `false`"
+abbrev pub truthText : Bool → List ℕ
+truthText true = ascii "true"
+truthText false = ascii "false"
+
+-- "fractions of a second only where not zero and then six digits"
+abbrev pub fractionOf : ℕ → Fraction
+fractionOf zero = absent
+fractionOf (suc u) = six (suc u)
+
+-- "offset zero as `Z`"
+abbrev pub zoneOf : ℕ → Zone
+zoneOf z = cond (eqb z 840) zulu (cond (ltb z 840) (behind ((840 - z) / 60) ((840 - z) % 60)) (ahead ((z - 840) / 60) ((z - 840) % 60)))
+
+abbrev pub wordsOf : Leaf → List (List ℕ)
+wordsOf ref = []
+wordsOf iban = []
+wordsOf ccy = []
+wordsOf bool = []
+wordsOf num = []
+wordsOf amt = []
+wordsOf date = []
+wordsOf dtm = []
+wordsOf (txt k) = []
+wordsOf (enum ws) = ws
+
+abbrev pub scriptOf : Leaf → Value → List ℕ
+scriptOf f (text cs) = cs
+scriptOf f (place n) = getD (wordsOf f) (n - 1) []
+scriptOf f (truth b) = truthText b
+scriptOf f (natural n) = decimal n
+scriptOf f (amount w k c) = amountText k c
+scriptOf f (day y m d) = dayText y m d []
+scriptOf f (moment y mo d h mi s u z) = dayText y mo d (84 ∷ clockText h mi s (fractionText (fractionOf u) (zoneText (zoneOf z) [])))
+
+-- the currency that a value has, which an amount alone does
+abbrev pub currencyOf : Value → List ℕ
+currencyOf (text cs) = []
+currencyOf (place n) = []
+currencyOf (truth b) = []
+currencyOf (natural n) = []
+currencyOf (amount w k c) = w
+currencyOf (day y m d) = []
+currencyOf (moment y mo d h mi s u z) = []

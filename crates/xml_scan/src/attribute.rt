@@ -1,0 +1,103 @@
+// An attribute, whose name is none of those before it.
+use text::part::same_part;
+use text::span::blanks_end;
+use xml_pieces::Went;
+use xml_pieces::piece::piece;
+use xml_pieces::run::run_end;
+ghost use mathlib.Core.Path.{_≡_};
+ghost use Prim.Native.Nat.{_≤_, _<_};
+ghost use lib.ListN.{length, getD};
+ghost use lib.Seq.{slice};
+ghost use mathlib.Core.Bool.{true};
+ghost use Rattle.text.specs.Bytes.{isNameStart};
+ghost use Rattle.xml.specs.Auto.{member};
+ghost use Rattle.xml_scan.specs.Classes.{Classed};
+ghost use Rattle.xml_scan.specs.Goes.{Marked, GoesValue, GoesEquals};
+ghost use Rattle.xml_scan.specs.Tags.{names, Held, GoesAttribute};
+
+// Over a value and the quote that ends it.
+fn value(s: &[u8], at: usize, quote: u8) -> Went
+    requires { ⌜ (at ≤ length (now s)) × Marked quote ⌝ }
+    ensures { λ r. ⌜ GoesValue (now (s .entry)) at quote r ⌝ }
+{
+    let mut i = at;
+    while i < s.len() {
+        if s[i] == quote {
+            return Went::On(i + 1);
+        }
+        match piece(s, i) {
+            Went::Stopped(n) => return Went::Stopped(n),
+            Went::On(j) => i = j,
+        }
+    }
+    Went::Stopped(i)
+}
+
+// Over blanks, `=`, blanks, and the quoted value.
+fn equals(s: &[u8], at: usize) -> Went
+    requires { ⌜ at ≤ length (now s) ⌝ }
+    ensures { λ r. ⌜ GoesEquals (now (s .entry)) at r ⌝ }
+{
+    let sign = blanks_end(s, at);
+    if s.len() <= sign {
+        return Went::Stopped(sign);
+    }
+    if s[sign] != b'=' {
+        return Went::Stopped(sign);
+    }
+    let mark = blanks_end(s, sign + 1);
+    if s.len() <= mark {
+        return Went::Stopped(mark);
+    }
+    let quote = s[mark];
+    match quote {
+        b'"' | b'\'' => value(s, mark + 1, quote),
+        _ => Went::Stopped(mark),
+    }
+}
+
+// Whether the name from a to e is one of the first n, which stand from from[k] to to[k].
+fn seen(s: &[u8], from: &[usize; 4], to: &[usize; 4], n: usize, a: usize, e: usize) -> bool
+    requires { ⌜ n ≤ 4 ⌝ }
+    ensures { λ r. ⌜ r ≡ member (slice a e (now (s .entry))) (names (now (s .entry)) (now (from .entry)) (now (to .entry)) n) ⌝ }
+{
+    let mut k = n;
+    while 0 < k {
+        k -= 1;
+        let f = from[k];
+        let t = to[k];
+        if same_part(s, a, e, s, f, t) {
+            return true;
+        }
+    }
+    false
+}
+
+// Over an attribute that begins at a name, behind n others: "At most four attributes", "all names different".
+pub(crate) fn attribute(
+    s: &[u8],
+    at: usize,
+    from: &mut [usize; 4],
+    to: &mut [usize; 4],
+    n: usize,
+    classes: &[u8; 256],
+) -> Went
+    requires { ⌜
+        (at < length (now s)) × (isNameStart (getD (now s) at 0) ≡ true) × Held 4 (now s) (now from) (now to) n
+        × Classed (now classes)
+        ⌝ }
+    ensures { λ r. ⌜
+        GoesAttribute (now (s .entry)) at n (now (from .entry)) (now (to .entry)) (now (from .exit)) (now (to .exit)) r
+        ⌝ }
+{
+    if 3 < n {
+        return Went::Stopped(at);
+    }
+    let e = run_end(s, at + 1, classes, 1);
+    if seen(s, from, to, n, at, e) {
+        return Went::Stopped(e);
+    }
+    from[n] = at;
+    to[n] = e;
+    equals(s, e)
+}

@@ -1,0 +1,51 @@
+-- `skim::tag_at` meets its contract. Assumes nothing.
+use borrow.Author.Needs.{needs}
+use Rattle.xml_tags.proofs.skim.tag_at.Statement.{statement}
+use Rattle.xml_tags.proofs.skim.tag_at.Tie as tie
+use mathlib.Core.Path.{refl, sym, ap, _∙_}
+use native.Mathlib.Omega.{arith}
+use denote.Ref.{now}
+use Rattle.xml_tags.proofs.Passing.{head-in}
+use Rattle.xml_tags.proofs.Steps.{open-end, tail-greater, open-tail}
+use Rattle.xml_tags.specs.Skimmed.{tagOf}
+
+returns : tie.Need-returns
+returns c =
+    ap tagOf (open-end _ _ (c .if1 .taken))
+
+add-tag-name-end : tie.Need-add-tag-name-end
+add-tag-name-end c = search needs
+
+tag-name-end-requires : tie.Need-tag-name-end-requires
+tag-name-end-requires c κs = search needs
+
+byte-is-requires : tie.Need-byte-is-requires
+byte-is-requires c κs = search needs
+
+add-end : tie.Need-add-end
+add-end c =
+    omega (arith, head-in 62 (now (c .before .before .before .before .before .args .s)) (c .before .before .tag-name-end .result) (sym (c .before .byte-is .ensures) ∙ c .if2 .taken))
+
+returns-2 : tie.Need-returns-2
+returns-2 c =
+    ap tagOf (tail-greater _ _ _ _ (sym (c .before .byte-is .ensures) ∙ c .if2 .taken) refl ∙ open-tail _ _ _ (c .before .before .before .if1 .left) (c .before .before .tag-name-end .ensures))
+
+opening-requires : tie.Need-opening-requires
+opening-requires c κs = search needs
+
+returns-3 : tie.Need-returns-3
+returns-3 c =
+    ap tagOf (c .opening .ensures)
+
+pub tag-at-spec : {M : Type 1} → statement M
+tag-at-spec =
+    tie.close
+    (tie.spec
+    returns
+    add-tag-name-end
+    tag-name-end-requires
+    byte-is-requires
+    add-end
+    returns-2
+    opening-requires
+    returns-3)

@@ -1,0 +1,150 @@
+// A text and the tag behind it, by their places.
+
+use crate::attribute::Attribute;
+use crate::attribute::attribute_at;
+use crate::attribute::attributes_at;
+use crate::pass::byte_is;
+use crate::pass::past;
+use crate::pass::tag_name_end;
+use crate::pass::until;
+use text::span::blanks_end;
+ghost use mathlib.Core.Path.{_≡_};
+ghost use lib.ListN.{drop};
+ghost use Rattle.xml_tags.specs.Tokens.{bare, shutAt, tailAt, openAt, tokenAt, isDeclared, startOf};
+
+// What stands behind a text.
+pub enum Kind {
+    // `<a ..>`
+    Open,
+    // `<a ../>`
+    Empty,
+    // `</a>`
+    Close,
+    // Nothing: the bytes end.
+    End,
+}
+
+// A text up to less, then a tag whose `<` is there; its name stands at less + 1 .. stop. A close or an end has neither name nor
+// attributes here: its stop is less.
+pub struct Token {
+    pub kind: Kind,
+    pub less: usize,
+    pub stop: usize,
+    pub attributes: usize,
+    pub first: Attribute,
+    pub end: usize,
+}
+
+impl Token {
+    fn bare(kind: Kind, less: usize, end: usize) -> Token
+        ensures { λ r. ⌜ r ≡ bare kind less end ⌝ }
+    {
+        let first = Attribute::nowhere(less);
+        Token {
+            kind,
+            less,
+            stop: less,
+            attributes: 0,
+            first,
+            end,
+        }
+    }
+}
+
+// The tag whose `/` or `>` is at a place.
+fn shut(s: &[u8], less: usize, stop: usize, attributes: usize, first: Attribute, at: usize) -> Token
+    ensures { λ r. ⌜ r ≡ shutAt less stop attributes first at (drop at (now (s .entry))) ⌝ }
+{
+    if byte_is(s, at, b'/') {
+        let end = past(s, at + 1);
+        return Token {
+            kind: Kind::Empty,
+            less,
+            stop,
+            attributes,
+            first,
+            end,
+        };
+    }
+    let end = past(s, at);
+    Token {
+        kind: Kind::Open,
+        less,
+        stop,
+        attributes,
+        first,
+        end,
+    }
+}
+
+// The tag whose name ends at a place. Most have no attribute: then the place behind the blanks is known already.
+fn tail(s: &[u8], less: usize, stop: usize) -> Token
+    ensures { λ r. ⌜ r ≡ tailAt less stop (drop stop (now (s .entry))) ⌝ }
+{
+    let first = attribute_at(s, stop);
+    if first.stop == first.name {
+        return shut(s, less, stop, 0, first, first.name);
+    }
+    let more = attributes_at(s, first.end);
+    shut(s, less, stop, more.count + 1, first, more.end)
+}
+
+// The text from a place on, and the tag behind it.
+pub fn next(s: &[u8], at: usize) -> Token
+    ensures { λ r. ⌜ r ≡ tokenAt at (drop at (now (s .entry))) ⌝ }
+{
+    let less = until(s, at, b'<');
+    if s.len() <= less {
+        return Token::bare(Kind::End, less, less);
+    }
+    let name = less + 1;
+    if byte_is(s, name, b'/') {
+        let end = past(s, until(s, name, b'>'));
+        return Token::bare(Kind::Close, less, end);
+    }
+    // Nearly all names have a `>` behind them: of these no more is asked.
+    let stop = tag_name_end(s, name);
+    if byte_is(s, stop, b'>') {
+        let end = stop + 1;
+        let first = Attribute::nowhere(stop);
+        return Token {
+            kind: Kind::Open,
+            less,
+            stop,
+            attributes: 0,
+            first,
+            end,
+        };
+    }
+    tail(s, less, stop)
+}
+
+// The opening tag whose `<` is at a place. The root's is read by this, so that `next` has the one caller that it is quick in.
+pub fn opening(s: &[u8], less: usize) -> Token
+    ensures { λ r. ⌜ r ≡ openAt less (drop less (now (s .entry))) ⌝ }
+{
+    if s.len() <= less {
+        return Token::bare(Kind::End, less, less);
+    }
+    tail(s, less, tag_name_end(s, less + 1))
+}
+
+// Whether s begins as a declaration does.
+fn is_declared(s: &[u8]) -> bool
+    ensures { λ r. ⌜ r ≡ isDeclared (now (s .entry)) ⌝ }
+{
+    if byte_is(s, 0, b'<') {
+        return byte_is(s, 1, b'?');
+    }
+    false
+}
+
+// Where the root begins.
+pub fn start(s: &[u8]) -> usize
+    ensures { λ r. ⌜ r ≡ startOf (now (s .entry)) ⌝ }
+{
+    if is_declared(s) {
+        return blanks_end(s, past(s, until(s, 0, b'>')));
+    }
+    blanks_end(s, 0)
+}
