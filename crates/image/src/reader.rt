@@ -8,7 +8,7 @@ use list::table::KIND;
 use list::table::MOST;
 use list::table::WORD_COUNT;
 use text::part::least;
-use value_from_bytes::value::value_end;
+use value_from_bytes::kinds::value_end;
 ghost use mathlib.Core.Path.{_≡_};
 ghost use Prim.Native.Nat.{_+_, _≤_, _<_};
 ghost use lib.ListN.{length};

@@ -4,4 +4,4 @@ mod amount; // amount.rt: amounts
 mod day; // day.rt: days
 mod moment; // moment.rt: moments
 mod letters; // letters.rt: references and texts
-pub mod value; // value.rt: a value of any kind
+pub mod kinds; // kinds.rt: a value of any kind

@@ -38,7 +38,7 @@ use denote.Exit.{yes}
 use Rattle.image_hold.specs.declared.held.Held.{Held}
 use Rattle.image_hold.proofs.held.Held as T
 use Rattle.image_hold.proofs.held.Held.Laws as T′
-use Rattle.image_hold.proofs.held.hold.Key.{name as #hold·held·hold}
+use Rattle.image_hold.proofs.held.hold.Key.{name as #image-hold·held·hold}
 use Rattle.image_hold.proofs.held.hold as hold
 use Rattle.image_hold.proofs.held.hold.Statement as stated
 use Rattle.image_hold.proofs.held.hold.Code as code
@@ -95,5 +95,5 @@ pub hold-spec : {M : Type 1} → stated.statement M
 unfolding code.routine tablesOf
 hold-spec 𝓤 H 𝓜 𝓖 𝓡 =
     entered 𝓤 H (tripleOf 𝓤 H (𝓖 .A) hold.signature (hold.spec 𝓤 H (𝓖 .A) (𝓜 .mem) (𝓡 .run)))
-    (tables 𝓤 H 𝓜 𝓡 code.env .C) (tables 𝓤 H 𝓜 𝓡 code.env .Λ) #hold·held·hold code.function (code.unfolded 𝓤 H 𝓜 𝓡)
+    (tables 𝓤 H 𝓜 𝓡 code.env .C) (tables 𝓤 H 𝓜 𝓡 code.env .Λ) #image-hold·held·hold code.function (code.unfolded 𝓤 H 𝓜 𝓡)
     (hold-meets 𝓤 H (𝓖 .A) (givenOf 𝓤 H 𝓜 𝓖) (𝓜 .mem) (𝓡 .run) (tablesOf 𝓤 H 𝓜 (tables 𝓤 H 𝓜 𝓡 code.env)))

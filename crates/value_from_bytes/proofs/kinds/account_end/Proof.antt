@@ -1,7 +1,7 @@
 -- `value::account_end` meets its contract. Assumes nothing.
 use borrow.Author.Needs.{needs}
-use Rattle.value_from_bytes.proofs.value.account_end.Statement.{statement}
-use Rattle.value_from_bytes.proofs.value.account_end.Tie as tie
+use Rattle.value_from_bytes.proofs.kinds.account_end.Statement.{statement}
+use Rattle.value_from_bytes.proofs.kinds.account_end.Tie as tie
 use Rattle.value.proofs.Ones.{exactly-one}
 use Rattle.value_from_bytes.proofs.Codes.{account-exactly}
 use native.Mathlib.Omega.{arith}

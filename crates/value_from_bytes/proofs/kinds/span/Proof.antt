@@ -1,7 +1,7 @@
 -- `value::span` meets its contract. Assumes nothing.
 use borrow.Author.Needs.{needs}
-use Rattle.value_from_bytes.proofs.value.span.Statement.{statement}
-use Rattle.value_from_bytes.proofs.value.span.Tie as tie
+use Rattle.value_from_bytes.proofs.kinds.span.Statement.{statement}
+use Rattle.value_from_bytes.proofs.kinds.span.Tie as tie
 use native.Mathlib.Omega.{arith}
 use lib.ListN.{length-drop}
 

@@ -1,7 +1,7 @@
 -- `value::currency_end` meets its contract. Assumes nothing.
 use borrow.Author.Needs.{needs}
-use Rattle.value_from_bytes.proofs.value.currency_end.Statement.{statement}
-use Rattle.value_from_bytes.proofs.value.currency_end.Tie as tie
+use Rattle.value_from_bytes.proofs.kinds.currency_end.Statement.{statement}
+use Rattle.value_from_bytes.proofs.kinds.currency_end.Tie as tie
 use Rattle.value.proofs.Ones.{exactly-one}
 use Rattle.value_from_bytes.proofs.Codes.{currency-exactly}
 use native.Mathlib.Omega.{arith}

@@ -1,7 +1,7 @@
 -- `value::value_end` meets its contract. Assumes nothing.
 use borrow.Author.Needs.{needs}
-use Rattle.value_from_bytes.proofs.value.value_end.Statement.{statement}
-use Rattle.value_from_bytes.proofs.value.value_end.Tie as tie
+use Rattle.value_from_bytes.proofs.kinds.value_end.Statement.{statement}
+use Rattle.value_from_bytes.proofs.kinds.value_end.Tie as tie
 use Rattle.value_from_bytes.specs.Ends.{isValue, begins, valueEnd}
 use mathlib.Core.Path.{sym}
 use Rattle.value_from_bytes.proofs.Numbered.{other-value}

@@ -1,7 +1,7 @@
 -- `value::truth_end` meets its contract. Assumes nothing.
 use borrow.Author.Needs.{needs}
-use Rattle.value_from_bytes.proofs.value.truth_end.Statement.{statement}
-use Rattle.value_from_bytes.proofs.value.truth_end.Tie as tie
+use Rattle.value_from_bytes.proofs.kinds.truth_end.Statement.{statement}
+use Rattle.value_from_bytes.proofs.kinds.truth_end.Tie as tie
 use mathlib.Core.Path.{refl}
 use native.Mathlib.Omega.{arith}
 use Rattle.value_from_bytes.specs.Ends.{head, width, isValue}
