@@ -10,7 +10,8 @@ import pathlib
 import re
 import sys
 
-import believe
+sys.dont_write_bytecode = True
+import believe  # noqa: E402
 
 ROOT = pathlib.Path(__file__).resolve().parent.parent
 CRATES = ROOT / 'crates'
