@@ -20,7 +20,8 @@ PROMISING = ('unit', 'image_hold', 'kto')
 # Reading order where the imports leave a choice: by floor.
 FLOORS = ('answer', 'text', 'list', 'xml', 'value', 'image', 'file', 'unit', 'program', 'kto')
 
-# Known exceptions, each with its reason: files of mirrors, and names with how many meanings each has. To be emptied; one that is not needed is a fault.
+# Known exceptions, each with its reason: files of mirrors, and names with how many meanings each has. To be emptied; one that is not
+# needed is a fault.
 MIRRORS = {
     'codes 9 and 12 of the first violation ask the computed `spell` (D44)':
         'value/specs/Layout.antt value/specs/Reading.antt value/specs/Spell.antt value/specs/Texts.antt',
@@ -148,7 +149,7 @@ class Definition:
             else:
                 start = run(ts, 0)
                 yield from free(ts[start:], kept)
-                kept |= {ts[0].text} if self.kind == 'record' else set()
+                kept |= {t.text for t in ts[:start]} if self.kind == 'record' else set()
 
 
 class File:
@@ -240,7 +241,10 @@ def found(path, name):
         raise Fault(f'{path}.{name}: a promise rests on what is no file of specs/')
     if m[3].startswith('declared.'):
         return f'`{m[1]}`, its code', name
-    file = File.at(CRATES / m[1] / 'specs' / (m[3].replace('.', '/') + '.antt'))
+    at = CRATES / m[1] / 'specs' / (m[3].replace('.', '/') + '.antt')
+    if not at.exists():
+        raise Fault(f'{path}.{name}: no such file')
+    file = File.at(at)
     if name in file.passed:
         return found(*file.passed[name])
     if file.meaning(None, name) is None:
