@@ -1,3 +1,3 @@
--- The laws of `house`.
+-- The laws of `list_house`.
 -- the house list is what its constants say
 pub mod HouseSound

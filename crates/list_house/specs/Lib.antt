@@ -1,4 +1,4 @@
--- The definitions of `house`.
+-- The definitions of `list_house`.
 -- the house list
 pub mod House
 -- its tables

@@ -1,4 +1,4 @@
--- The laws of `line`.
+-- The laws of `program_line`.
 -- decimal digits, one by one
 pub mod Digits
 -- an answer's line, piece by piece

@@ -1,4 +1,4 @@
--- The laws of `types`.
+-- The laws of `value`.
 -- what the classes say of numbers
 pub mod Classes
 -- texts by their bytes
