@@ -2,11 +2,11 @@
 use mathlib.Core.Path.{_≡_, refl, sym, _∙_, ap, subst}
 use mathlib.Core.Logic.{_≢_, _⊎_, _↔_, inl, inr}
 use mathlib.Core.Bool.{Bool, true, false}
-use mathlib.Core.List.{List, [], _++_}
+use mathlib.Core.List.{List, [], _++_, append-assoc}
 use Prim.Native.Nat.{ℕ, _+_, _≤_, _<_}
 use native.Mathlib.Omega.{arith}
 use native.Mathlib.Decide.{decLt, ℕ-discrete}
-use lib.ListN.{length, take, drop, take-append-drop}
+use lib.ListN.{length, take, drop, take-append-drop, length-append}
 use lib.Seq.{length-take-le, drop-at}
 use Rattle.answer.specs.declared.Answer.{Answer}
 use Rattle.answer.specs.Table.{limit, tooLong, noHeader, wrongVersion, brokenImage}
@@ -18,9 +18,9 @@ use Rattle.list_house.specs.House.{house}
 use Rattle.list_house.specs.HouseTable.{houseRows, housePool}
 use Rattle.list_house.proofs.HouseSound.{house-is, house-sound, house-well}
 use Rattle.value.specs.Value.{Value, IsValue}
-use Rattle.image.specs.Image.{body}
+use Rattle.image.specs.Image.{header, body, image}
 use Rattle.image.specs.Kinds.{values}
-use Rattle.image.specs.Place.{Holds, Tells, held, broke, Among, Apart, over, foreign, version, broken, whole}
+use Rattle.image.specs.Place.{Holds, Tells, held, broke, Front, now, Among, Apart, over, foreign, version, broken, whole}
 use Rattle.image.specs.Pick.{Selects, none-such, one-such, refused, missing, found}
 use Rattle.image.specs.Ends.{itemEnd}
 use Rattle.image.specs.Run.{Behind, Chooses, Answered, Handed}
@@ -131,6 +131,30 @@ module _ (run : List ℕ) where
   -- the first image has one length and one content
   pub house-accepts-one : (m n : ℕ) (a : HouseAccepts run m) (b : HouseAccepts run n) → (m ≡ n) × (a .holds .content ≡ b .holds .content)
   house-accepts-one m n a b = (accepts-one values stored lawful wells lists-apart run m n a b, accepts-content values stored lawful wells lists-apart run m n a b)
+
+  -- which stands at the start of the run
+  pub house-begins : (n : ℕ) (w : HouseAccepts run n) → Meets IsValue house (w .holds .content) × (run ≡ image values house (w .holds .content) ++ w .holds .rest) × (n ≡ length (image values house (w .holds .content)))
+  unfolding image
+  house-begins n w = (
+    subst (λ (l : Listing). Meets IsValue l c) its (w .holds .meets),
+    w .at ∙ ap (λ (z : List ℕ). w .head ++ z) (w .holds .at) ∙ sym (append-assoc (w .head) b (w .holds .rest)) ∙ ap (λ (z : List ℕ). z ++ w .holds .rest) is,
+    w .long ∙ ap (λ (k : ℕ). length (w .head) + k) (w .holds .long) ∙ sym (length-append (w .head) b) ∙ ap length is,
+  )
+    where
+      c : Content Value
+      c = w .holds .content
+
+      b : List ℕ
+      b = body values (w .list) c
+
+      its : w .list ≡ house
+      its = only (w .list) (w .among)
+
+      headed : Front (w .list) (w .head) → w .head ≡ header (w .list)
+      headed (now e) = e
+
+      is : w .head ++ b ≡ header house ++ body values house c
+      is = ap (λ (z : List ℕ). z ++ b) (headed (w .front)) ∙ ap (λ (l : Listing). header l ++ body values l c) its
 
   -- no second answer fits
   pub house-reads-one : (a b : Answer) → HouseReads run a → HouseReads run b → a ≡ b
