@@ -32,7 +32,7 @@ NAMES = {
     'one meaning goes with the computed `spell`':
         'Amount 2, Found 2, answer 2, spell 2, textOf 2',
     'to be renamed in the definitions':
-        'Answers 2, Begins 2, Content 2, Counts 2, Good 2, Parts 2, Says 2, absent 4, behind 2, bytes 3, char 2, currency 3, decimal 2, '
+        'Answers 2, Begins 2, Content 2, Counts 2, Good 2, Parts 2, Says 2, absent 4, behind 2, bytes 3, char 2, currency 3, '
         'empty 3, end 2, found 3, image 2, listed 3, none 3, now 2, over 2, refused 2, single 2, some 2, whole 2',
 }
 

@@ -95,13 +95,13 @@ def codes():
         seen.add(code)
         if known.get(code) != name:
             yield f'{code} is {known.get(code)} in answer, not {name}'
-        if header.get(code) != name:
-            yield f'{code} is KTO_{header.get(code)} in include/kto.h, not KTO_{name}'
+        if header.get(code, name) != name:
+            yield f'{code} is KTO_{header[code]} in include/kto.h, not KTO_{name}'
         for example in ticked(' '.join(cells[6:])):
             shown.add(example)
             if answers.get(example) != str(code):
                 yield f'{example} gets {answers.get(example)}, not {code}'
-    yield from (f'{code}: not in the tables' for code in sorted(set(known) - seen))
+    yield from (f'{code}: not in the tables' for code in sorted((set(known) | set(header)) - seen))
     yield from (f'{file}: not in the tables' for file in sorted(answers) if file.startswith('damaged/') and file not in shown)
 
 
