@@ -17,11 +17,15 @@ use Rattle.list.specs.Content.{Content, end, value, node, Meets, ValueOf, Group
 use Rattle.list_house.specs.House.{house}
 use Rattle.list_house.proofs.HouseSound.{house-well}
 use Rattle.xml.specs.House.{HouseXml, Longest}
+use Rattle.xml.specs.Message.{messageOf, rootAt}
+use Rattle.xml.proofs.Coded.{house-utf8}
 use Rattle.value.specs.Value.{Value, IsValue}
 use Rattle.value.specs.Spell.{spell}
 use Rattle.value_to_text.specs.Spelled.{Spelled}
 use Rattle.value_to_text.proofs.Scripts.{every-spelt}
 use Rattle.file_walk.specs.First.{found, firstViolation}
+use Rattle.file_walk.proofs.Accept as walk
+use Rattle.file_walk.proofs.Beginning.{one-element}
 use Rattle.image.specs.Kinds.{values}
 use Rattle.image.specs.Place.{over, foreign, version, broken, whole}
 use Rattle.image.specs.Pick.{refused, missing, found as at}
@@ -30,8 +34,6 @@ use Rattle.image.proofs.Images.{told, image-long}
 use Rattle.image.proofs.Answers.{image-begins}
 use Rattle.image_reading.specs.Reads.{stored, HouseAccepts, HouseReads, HousePicks}
 use Rattle.image_reading.proofs.House.{house-reads-some, house-reads-one, house-reads-exactly, house-begins, house-picks-some, house-picks-one}
-use Rattle.image_hold.specs.Held.{Next}
-use Rattle.image_hold.specs.declared.held.Held.{Held}
 use Rattle.image_hold.proofs.Holding.{next-one, next-some}
 use Rattle.file.specs.Instance.{houseTypes, houseKinds}
 use Rattle.file.specs.File.{Whole, messageIn}
@@ -41,7 +43,10 @@ use Rattle.file.proofs.One.{of-long, of-bytes, of-markup, of-violation, of-room
 use Rattle.file.proofs.Accepted as general
 use Rattle.file.proofs.House.{spelling, image-no-longer, one-content, checks-one, finds-one, accepted-image}
 use Rattle.file.proofs.Some.{checks-some}
-use Rattle.demands.specs.Demands.{HouseFile, houseImage, Only, Within, FileRefused, RunRefused, PickRefused, Demand1, Told, Begins, Demand2, Written, Imaged, Laid, Tells, Demand3}
+use Rattle.file_letter.specs.Letter.{treeOf, letterOf}
+use Rattle.file_letter.proofs.Has.{letter-has}
+use Rattle.file_letter.proofs.Good.{letter-good}
+use Rattle.demands.specs.Demands.{HouseFile, houseImage, Within, FileRefused, RunRefused, PickRefused, Demand1, Told, Begins, Message, Demand2, Written, Imaged, Laid, Tells, Demand3}
 use Rattle.demands.proofs.Causes.{causes, spell-decides, answers-on}
 
 code : {a x : Answer} → a ≡ x → a .code ≡ x .code
@@ -129,8 +134,8 @@ module _ (s d : List ℕ) where
       (Choice (eqb (a .code) 14) ((c : Content Value) × HouseFile s c × (a .place ≡ length (houseImage c)) × (length d < a .place)) (Walked a)))))
 
   -- of a violation it is the walk
-  walk : (a : Answer) → Within 4 13 a → Why a ↔ Walked a
-  walk a h = rw (
+  on-walk : (a : Answer) → Within 4 13 a → Why a ↔ Walked a
+  on-walk a h = rw (
     ne-eqb (a .code) 0 (λ z. omega (arith, h)),
     ne-eqb (a .code) 1 (λ z. omega (arith, h)),
     ne-eqb (a .code) 2 (λ z. omega (arith, h)),
@@ -145,7 +150,7 @@ module _ (s d : List ℕ) where
     why (markup h u x n p e f) = subst Why (sym e) (h, u, x, p)
     why (violation w c r o p e f) =
         let v = violation-code houseTypes house (messageIn w) c r o p in
-        subst Why (sym e) (walk (answer c r o) (v .0, v .1) .1 (w, p))
+        subst Why (sym e) (on-walk (answer c r o) (v .0, v .1) .1 (w, p))
     why (room c w h e f) = subst Why (sym e) (c, w, refl, h)
     why (image c w h e f) = subst Why (sym e) (c, w, refl, h)
 
@@ -155,7 +160,7 @@ module _ (s d : List ℕ) where
         t .buffer ∙ ap₂ (λ (x : Content Value) (k : ℕ). houseImage x ++ drop k d) (one-content s (t .content) c (t .file) f) (sym (place (t .is)) ∙ place z)
 
     cause : Checks s d a d′ → Within 4 13 a → (w : Whole s) × (firstViolation houseTypes house (messageIn w) ≡ found (a .code) (a .row) (a .place))
-    cause p h = walk a h .0 (why p)
+    cause p h = on-walk a h .0 (why p)
 
     all-told : Checks s d a d′ → Told s d a d′
     all-told p = record {
@@ -164,7 +169,7 @@ module _ (s d : List ℕ) where
       long = ((λ z. subst Why z (why p)), λ h. of-long houseKinds spelling house house-well s d a d′ h p .answer);
       bytes = λ n. ((λ z. subst Why z (why p)), λ g. of-bytes houseKinds spelling house house-well s d a d′ (g .0) (g .1) n (g .2) p .answer);
       markup = λ n. ((λ z. subst Why z (why p)), λ g. of-markup houseKinds spelling house house-well s d a d′ (g .0) (g .1) (g .2) n (g .3) p .answer);
-      walked = λ c r o m n. ((λ z. walk (answer c r o) (m, n) .0 (subst Why z (why p))), λ g. of-violation houseKinds spelling house house-well s d a d′ (g .0) c r o (g .1) p .answer);
+      walked = λ c r o m n. ((λ z. on-walk (answer c r o) (m, n) .0 (subst Why z (why p))), λ g. of-violation houseKinds spelling house house-well s d a d′ (g .0) c r o (g .1) p .answer);
       room = λ n. ((λ z. subst Why z (why p)), λ g. of-room houseKinds spelling house house-well s d a d′ (g .0) (g .1) (omega (arith, g .2, g .3)) p .answer ∙ ap noRoom (sym (g .2)));
       value = λ e. let v = cause p (omega arith, omega arith) in (v .0, causes (messageIn (v .0)) (a .code) (a .row) (a .place) (v .1) .0 e);
       attributes = λ e. let v = cause p (omega arith, omega arith) in (v .0, causes (messageIn (v .0)) (a .code) (a .row) (a .place) (v .1) .1 e);
@@ -205,6 +210,20 @@ module _ (P Q : Leaf → Value → Type 0) (f : (k : Leaf) (v : Value) → P k v
   meets-on : (c : Content Value) → Meets P house c → Meets Q house c
   meets-on c m = record { root = m .root; good = good-on c (m .good) }
 
+-- every content that meets the rules has a message, the one that is written for it; and what has one meets them
+message : (c : Content Value) → Meets IsValue house c → Message (letterOf house c) c
+unfolding letterOf
+message c m =
+    let h = letter-has house house-well c m in
+    let g = letter-good house house-well c m in
+    record { utf8 = house-utf8 (record { tree = treeOf house c; good = g; is = refl }); xml = record { tree = treeOf house c; good = g; is = refl }; good = walk.accepted houseTypes spelling house house-well (messageOf (treeOf house c)) c m h; has = h }
+
+rules : (c : Content Value) (s : List ℕ) → Message s c → Meets IsValue house c
+rules c s w =
+    let t = w .xml .tree in
+    let o = walk.accept houseTypes spelling house house-well (messageOf t) (one-element (t .root) (rootAt t) (w .xml .good .one)) (w .good) in
+    subst (Meets IsValue house) (walk.unique houseTypes spelling house house-well (messageOf t) (o .0) c (o .2) (w .has)) (o .1)
+
 pub demand2 : Demand2
 demand2 = record {
   told = all-told;
@@ -212,6 +231,11 @@ demand2 = record {
   speller = (spell, spell-decides);
   reads = reads-image;
   values = every-spelt;
+  messages = λ c. ((λ m. (letterOf house c, message c m)), (λ w. rules c (w .0) (w .1)));
+  spelt = λ run a r n. (
+    (λ z. let g = reads-image run a r n .0 z in (g .0, (g .1 .0, (letterOf house (g .1 .0), message (g .1 .0) (g .1 .1)), g .1 .2))),
+    (λ g. reads-image run a r n .1 (g .0, (g .1 .0, rules (g .1 .0) (g .1 .1 .0) (g .1 .1 .1), g .1 .2))),
+  );
   same = λ c. (meets-on IsValue Spelled (λ k v. every-spelt k v .0) c, meets-on Spelled IsValue (λ k v. every-spelt k v .1) c);
 }
 

@@ -1,16 +1,16 @@
 -- The three demands on the unit, each as one statement. Read this first: `demand1`, `demand2` and `demand3` of proofs/Demands prove them. Assumes nothing.
 --
 -- What the statements speak of, and where it is defined, in document 01's words:
---   Answer, accepted, tooLong ..   an answer, and each line of the table "Numbers handed back"        answer/specs/Table
---   Checks s d a d′                what `check` answers to a file s and a buffer d, and leaves there   file/specs/Checks
---   Finds s a                      what it answers to every buffer with room for the file's image      file/specs/Checks
---   Whole s, messageIn w           a file within the limit, of UTF-8, of house XML; its message        file/specs/File
---   File .. s c, imageOf .. c      a good file with its content; the image of a content                file/specs/File, image/specs/Image
---   firstViolation                 the first violation of a message in document order, 4 to 13         file_walk/specs/First
---   Meets IsValue house c          a content that meets the list, its types and its rules              list/specs/Content
---   HouseReads, HousePicks         what `read`, and `pick` with `picked`, answer and hand back         image_reading/specs/Reads
---   Next h a h′                    what `next` of the reader that holds its run answers                image_hold/specs/Held
--- The public calls promise exactly these: `unit::check`, `read`, `pick`, `picked`, `file_measure::measure`, `image_hold::next`.
+--   Answer, accepted, tooLong ..   an answer, and each line of the table "Numbers handed back"          answer/specs/Table
+--   Checks s d a d′                what `check` answers to a file s and a buffer d, and leaves there     file/specs/Checks
+--   Finds s a                      what it answers to every buffer that is as long as the file           file/specs/Checks
+--   Whole s, messageIn w           a file within the limit, of UTF-8, of house XML; its message          file/specs/File
+--   File .. s c, imageOf .. c      a good file with its content; the image of a content                  file/specs/File, image/specs/Image
+--   firstViolation                 the first violation of a message in document order, 4 to 13           file_walk/specs/First
+--   Meets IsValue house c          a content that meets the list, its types and its rules                list/specs/Content
+--   HouseReads, HousePicks         what `read` answers; what `pick` answers and `picked` hands back      image_reading/specs/Reads
+--   Next h a h′                    what `next` of the reader that holds its run answers, and its place   image_hold/specs/Held
+-- These are what the public calls promise: `unit::check`, `unit::read`, `unit::pick`, `unit::picked`, `file_measure::measure`, `image_hold::next`.
 use mathlib.Core.Path.{_≡_}
 use mathlib.Core.Logic.{_⊎_, _↔_}
 use mathlib.Core.List.{List, [], _∷_, _++_}
@@ -24,9 +24,11 @@ use Rattle.list.specs.Listing.{Leaf}
 use Rattle.list.specs.Content.{Content, Meets}
 use Rattle.list_house.specs.House.{house}
 use Rattle.xml.specs.House.{HouseXml, Longest}
+use Rattle.xml.specs.Message.{messageOf}
 use Rattle.value.specs.Value.{Value, IsValue}
 use Rattle.value_to_text.specs.Spelled.{Spelled}
-use Rattle.file_walk.specs.First.{found, firstViolation}
+use Rattle.file_walk.specs.First.{fine, found, firstViolation}
+use Rattle.file_walk.specs.Denotes.{Has}
 use Rattle.image_reading.specs.Reads.{HouseReads, HousePicks}
 use Rattle.image_hold.specs.Held.{Next}
 use Rattle.image_hold.specs.declared.held.Held.{Held}
@@ -106,6 +108,13 @@ pub record Begins (run : List ℕ) (n : ℕ) (c : Content Value) : Type 0 where
   pub at : run ≡ houseImage c ++ rest
   pub long : n ≡ length (houseImage c)
 
+-- s is a message of the content c: UTF-8, house XML, without a violation. Its size is not asked, so that a file with it may be too long (D26)
+pub record Message (s : List ℕ) (c : Content Value) : Type 0 where
+  pub utf8 : Utf8 s
+  pub xml : HouseXml s
+  pub good : firstViolation houseTypes house (messageOf (xml .tree)) ≡ fine
+  pub has : Has houseTypes house (messageOf (xml .tree)) c
+
 pub record Demand2 : Type 0 where
   pub told : (s d : List ℕ) (a : Answer) (d′ : List ℕ) → Checks s d a d′ → Told s d a d′
   -- however the value that a leaf spells is computed, as long as it is the relation's, the same is asked of check; and it can be computed
@@ -116,6 +125,9 @@ pub record Demand2 : Type 0 where
   -- "the same": each of the ten kinds has exactly the values that some text spells, and so a content meets the list with the one as with the other
   pub values : (k : Leaf) (v : Value) → IsValue k v ↔ Spelled k v
   pub same : (c : Content Value) → Meets IsValue house c ↔ Meets Spelled house c
+  -- and so the contents that meet the rules are those that some message spells, and the reader accepts exactly the images of these
+  pub messages : (c : Content Value) → Meets IsValue house c ↔ ((s : List ℕ) × Message s c)
+  pub spelt : (run : List ℕ) (a : Answer) → HouseReads run a → (n : ℕ) → (a ≡ accepted n) ↔ ((length run ≤ limit) × ((c : Content Value) × ((s : List ℕ) × Message s c) × Begins run n c))
 
 -- ---- demand 3
 
