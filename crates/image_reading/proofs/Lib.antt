@@ -5,3 +5,5 @@ pub mod Heads
 pub mod House
 -- document 01's example
 pub mod Example
+-- some answer fits every run
+pub mod Some

@@ -1,4 +1,5 @@
--- The worked examples of document 01 on values, shown for the definitions themselves: one table and one statement. Assumes nothing.
+-- Examples of document 01 on values that are not starred, and two that it calls easy to get wrong, shown for the definitions themselves. The starred ones stand in one
+-- table, that of `file`. Assumes nothing.
 use mathlib.Core.Path.{_≡_, refl, sym, _∙_}
 use mathlib.Core.List.{List, [], _∷_}
 use mathlib.Core.Option.{Option, some, none}
@@ -43,10 +44,10 @@ euros (suc n) = 0x20AC ∷ euros n
 
 abbrev pub examples : List Example
 examples =
-    is (ascii "1250.50") 12505 1 ∷ is (ascii "-0.00") 0 0 ∷ is (ascii ".5") 5 1 ∷ is (ascii "7.") 7 0 ∷ is (ascii "0.000010") 1 5 ∷ is (ascii "999999999999999999") 999999999999999999 0
-    ∷ is (ascii " 5.0 ") 5 0 ∷ is (ascii "5.00") 5 0
-    ∷ no-amount (ascii "0.000001") ∷ no-amount (ascii "1000000000000000000") ∷ no-amount (ascii "-0.01") ∷ no-amount (ascii ".")
-    ∷ good ref (ascii "A/B") ∷ bad ref (ascii "A//B") ∷ good ref (ascii "12345678901234567890123456789012345") ∷ bad ref (ascii "123456789012345678901234567890123456")
+    -- "`7.`"; "holding `5.0` and `5.00` different"; "Refused with 12: .. `-0.01`"
+    is (ascii "7.") 7 0 ∷ is (ascii " 5.0 ") 5 0 ∷ is (ascii "5.00") 5 0 ∷ no-amount (ascii "-0.01")
+    -- "35 good, 36 bad"; "Nm of 140 `€` (420 bytes) good, 141 bad"
+    ∷ good ref (ascii "12345678901234567890123456789012345") ∷ bad ref (ascii "123456789012345678901234567890123456")
     ∷ good (txt 140) (euros 140) ∷ bad (txt 140) (euros 141) ∷ []
 
 -- by the definition: this value and no other, or none
@@ -84,8 +85,7 @@ all-of (x ∷ xs) k (e then c) = (shown (x .type) (k .0) (x .chars) (x .value) e
 
 computed : Computed examples
 unfolding spell frontOff backOff passesFrom readOf signedOf pointOf wholeOf fracOf answer textFrom isBlank isCapital isDigit isRef isTxt
-computed =
-    refl then refl then refl then refl then refl then refl then refl then refl then refl then refl then refl then refl then refl then refl then refl then refl then refl then refl then done
+computed = refl then refl then refl then refl then refl then refl then refl then refl then done
 
 pub all-shown : AllShown examples
 all-shown = all-of examples (omega arith) computed

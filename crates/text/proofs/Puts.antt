@@ -4,12 +4,9 @@ use mathlib.Core.List.{List, [], _∷_, _++_}
 use Prim.Native.Nat.{ℕ, _+_}
 use native.Mathlib.Omega.{arith}
 use lib.ListN.{length, length-append}
 use Rattle.text.specs.Pasting.{pasted}
-use Rattle.text.specs.Numbers.{bigEndian}
-use Rattle.list.specs.Listing.{Listing}
-use Rattle.image.specs.Image.{header}
+use Rattle.text.specs.Puts.{Puts}
 use Rattle.text.proofs.Pasting.{pasted-none, pasted-then, length-pasted}
-use Rattle.file_measure.specs.Pass.{Puts}
 
 -- nothing
 pub puts-none : (d : List ℕ) (at : ℕ) → Puts d at [] at d
@@ -44,11 +41,3 @@ empty-of (x ∷ d) e = absurd (omega arith)
 
 pub pasted-nowhere : (at : ℕ) (bs : List ℕ) → [] ≡ pasted [] at bs
 pasted-nowhere at bs = empty-of (pasted [] at bs) (length-pasted [] at bs)
-
-head-long : (l : Listing) → 6 ≡ length (header l ++ (1 ∷ []))
-unfolding header bigEndian
-head-long l = refl
-
--- the header and the root's row byte
-pub head-nowhere : (l : Listing) → Puts [] 0 (header l ++ (1 ∷ [])) 6 []
-head-nowhere l = record { behind = omega (arith, head-long l); long = refl; is = λ h. pasted-nowhere 0 (header l ++ (1 ∷ [])) }
