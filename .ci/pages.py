@@ -85,7 +85,7 @@ def rules():
 def codes():
     source = (CRATES / 'answer' / 'src' / 'lib.rt').read_text()
     known = {int(n): name for name, n in re.findall(r'pub const (\w+): u8 = (\d+);', source)}
-    header = {int(n): name for name, n in re.findall(r'\bKTO_(\w+) = (\d+)', (ROOT / 'include' / 'kto.h').read_text())}
+    header = {int(n): name for name, n in re.findall(r'\bKTO_(?!\w*ROW_)(\w+) = (\d+)', (ROOT / 'include' / 'kto.h').read_text())}
     answers = dict(re.findall(r'^(\S+\.xml) +(\d+) ', (ROOT / 'examples' / 'ANSWERS.txt').read_text(), re.M))
     seen, shown = set(), set()
     for cells in rows((DOCS / 'CODES.md').read_text()):

@@ -3,3 +3,5 @@
 pub mod House
 -- its tables
 pub mod HouseTable
+-- the kind of a row, as a number
+pub mod Kind
