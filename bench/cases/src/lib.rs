@@ -12,6 +12,8 @@
 //! | [`message`] | whole messages: made, chosen, damaged |
 //! | [`checks`] | chosen files for every code and the order of the codes |
 //! | [`runs`] | runs of images: chosen, joined, damaged |
+//! | [`writes`] | runs for the writer: every value, every code, files at the limit |
+//! | [`inputs`] | inputs for the programs over standard input |
 
 pub mod any;
 pub mod checks;
@@ -21,4 +23,5 @@ pub mod message;
 pub mod random;
 pub mod runs;
 pub mod values;
+pub mod writes;
 pub mod xml;

@@ -8,6 +8,10 @@ use std::thread;
 
 use cases::feed::Case;
 
+/// The ops that the proved `replay` answers; any other breaks its feed. What it learns is put in here: the comparison and the
+/// stored feed then have it too.
+pub const KNOWN_OPS: &[u8] = &[0, 1, 2];
+
 /// Who answers.
 #[derive(Clone, Debug)]
 pub enum Unit {
