@@ -36,15 +36,17 @@ pub fn image_for_file_of(length: usize) -> Vec<u8> {
     put_together(&[&before.concat(), &short.concat().repeat(times), &last.concat()])
 }
 
-/// A run or a file with the limit's length, one byte less or one more, with enough room and with too little; or an image
-/// whose file is far too long.
+/// A run or a file with the limit's length, or one byte less or more, with enough room and with too little; or an image whose
+/// file is far too long.
 pub fn at_the_limit(image: Vec<u8>, random: &mut Random) -> Case {
-    let length = LIMIT - 1 + random.below(3);
-    match random.below(4) {
-        0 => Case::write(LIMIT, filled(image, length)),
-        1 => Case::write(LIMIT, image_for_file_of(length)),
-        2 => Case::write(length - 1 - random.below(2), image_for_file_of(length)),
-        _ => Case::write(random.below(LIMIT), image_for_file_of(length + random.below(LIMIT))),
+    let about = LIMIT - 1 + random.below(3);
+    match random.below(6) {
+        0 => Case::write(LIMIT, filled(image, about)),
+        1 => Case::write(LIMIT, image_for_file_of(LIMIT)),
+        2 => Case::write(LIMIT - 1, image_for_file_of(LIMIT)),
+        3 => Case::write(LIMIT, image_for_file_of(LIMIT + 1)),
+        4 => Case::write(about - 1 - random.below(2), image_for_file_of(about)),
+        _ => Case::write(random.below(LIMIT), image_for_file_of(about + random.below(LIMIT))),
     }
 }
 
