@@ -79,8 +79,12 @@ fn in_words(line: &str) -> String {
     }
 }
 
+/// The bytes that an answer hands back; none of a line that is no answer.
 fn hex(line: &str) -> &str {
-    line.split(' ').nth(3).unwrap_or("")
+    match line.split(' ').collect::<Vec<_>>()[..] {
+        [_, _, _, hex] => hex,
+        _ => "",
+    }
 }
 
 /// The first byte in which the handed-back parts differ.

@@ -65,8 +65,8 @@ impl Unit {
         })
     }
 
-    /// The line for one case.
-    pub fn ask(&self, case: &Case) -> io::Result<String> {
+    /// The answer to one case.
+    pub fn ask(&self, case: &Case) -> io::Result<Line> {
         let mut answer = None;
         self.answer(
             1,
@@ -76,6 +76,48 @@ impl Unit {
                 ControlFlow::Continue(())
             },
         )?;
-        answer.ok_or_else(|| io::Error::other("no answer from replay"))
+        Line::parse(&answer.ok_or_else(|| io::Error::other("no answer from replay"))?)
+    }
+}
+
+/// A line of `replay`, taken apart.
+#[derive(Clone, PartialEq, Eq, Debug)]
+pub struct Line {
+    pub code: u8,
+    pub row: u8,
+    pub place: usize,
+    /// The image, the part or the file that is handed back.
+    pub bytes: Vec<u8>,
+}
+
+impl Line {
+    pub fn parse(line: &str) -> io::Result<Line> {
+        Line::taken_apart(line).ok_or_else(|| io::Error::other(format!("replay says \"{line}\"")))
+    }
+
+    fn taken_apart(line: &str) -> Option<Line> {
+        let words: Vec<&str> = line.split(' ').collect();
+        let [code, row, place, hex] = words[..] else {
+            return None;
+        };
+        let digits = |i: usize| u8::from_str_radix(hex.get(2 * i..2 * i + 2)?, 16).ok();
+        let bytes = (0..hex.len() / 2).map(digits).collect::<Option<_>>()?;
+        Some(Line { code: code.parse().ok()?, row: row.parse().ok()?, place: place.parse().ok()?, bytes })
+    }
+}
+
+#[cfg(test)]
+mod tests {
+    use super::*;
+
+    #[test]
+    fn lines_of_replay_are_taken_apart() {
+        let line = Line::parse("0 0 2 4b54").unwrap();
+        assert_eq!(line, Line { code: 0, row: 0, place: 2, bytes: b"KT".to_vec() });
+        assert!(Line::parse("3 0 5 ").is_ok());
+        assert_eq!(
+            Line::parse("feed broken at case 0").unwrap_err().to_string(),
+            "replay says \"feed broken at case 0\""
+        );
     }
 }
