@@ -17,7 +17,7 @@ pub fn fixed_set() -> Vec<Case> {
         cases.extend(followed(&image).into_iter().map(|run| Case::write(LIMIT, run)));
     }
     cases.extend(every_value().into_iter().map(|run| Case::write(LIMIT, run)));
-    cases.extend(refused().into_iter().flat_map(|run| [Case::write(0, &run[..]), Case::write(LIMIT, run)]));
+    cases.extend(refused().into_iter().zip([0, LIMIT].into_iter().cycle()).map(|(run, room)| Case::write(room, run)));
     cases.extend(at_the_limit());
     cases
 }
@@ -35,18 +35,16 @@ fn followed(image: &[u8]) -> Vec<Vec<u8>> {
     behind.map(|behind| [image, behind].concat()).to_vec()
 }
 
-/// "1 and 15 to 17 as in the reader": the chosen runs that the reader refuses.
+/// "1 and 15 to 17 as in the reader": the chosen runs that the reader refuses. They are asked with no room and with all.
 fn refused() -> Vec<Vec<u8>> {
     reads().into_iter().filter(|run| !independent::read(run).is_accepted()).collect()
 }
 
-/// "then 19 .., then 14": at the limit and one byte over it, with the limit's room, one byte less, and none. A file of the
-/// limit's length isn't written here: its line would be longer than all the others together.
+/// "then 19 .., then 14": a file of the limit's length with one byte of room less, and one that is a byte longer, with the limit's
+/// room and with none. A file of the limit's length isn't written here: its line would be longer than all the others together.
 fn at_the_limit() -> Vec<Case> {
     let (full, over) = (image_for_file_of(LIMIT), image_for_file_of(LIMIT + 1));
-    let mut cases = [0, LIMIT - 1].map(|room| Case::write(room, &full[..])).to_vec();
-    cases.extend([0, LIMIT, LIMIT + 1].map(|room| Case::write(room, &over[..])));
-    cases
+    vec![Case::write(LIMIT - 1, full), Case::write(LIMIT, &over[..]), Case::write(0, over)]
 }
 
 /// The rows of a message up to its first transaction, without what can be left out.
