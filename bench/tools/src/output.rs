@@ -1,6 +1,7 @@
 //! Standard output of the bench's programs, and how they end.
 
 use std::io::{self, BufWriter, ErrorKind, Write};
+use std::path::Path;
 use std::process::ExitCode;
 
 /// The status of a program that wrote to a pipe which nobody reads any more, as a shell gives it: 128 and the signal's number.
@@ -22,4 +23,9 @@ pub fn run(name: &str, program: impl FnOnce(&mut dyn Write) -> io::Result<u8>) -
         }
     };
     ExitCode::from(status)
+}
+
+/// An error with the path that it came up at. Its kind is lost: only a closed pipe of standard output ends a program quietly.
+pub fn named(path: &Path) -> impl Fn(io::Error) -> io::Error + '_ {
+    move |error| io::Error::other(format!("{}: {error}", path.display()))
 }

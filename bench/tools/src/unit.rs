@@ -8,6 +8,8 @@ use std::thread;
 
 use cases::feed::Case;
 
+use crate::output::named;
+
 /// The ops that the proved `replay` answers; any other breaks its feed. What it learns is put in here: the comparison and the
 /// stored feed then have it too.
 pub const KNOWN_OPS: &[u8] = &[0, 1, 2];
@@ -37,8 +39,8 @@ impl Unit {
                 return Ok(());
             }
         };
-        let named = |error: io::Error| io::Error::new(error.kind(), format!("{}: {error}", path.display()));
-        let mut child = Command::new(path).stdin(Stdio::piped()).stdout(Stdio::piped()).spawn().map_err(named)?;
+        let named = named(path);
+        let mut child = Command::new(path).stdin(Stdio::piped()).stdout(Stdio::piped()).spawn().map_err(&named)?;
         let mut feed = BufWriter::new(child.stdin.take().expect("a pipe"));
         let lines = BufReader::new(child.stdout.take().expect("a pipe")).lines();
         thread::scope(|scope| {
@@ -48,7 +50,7 @@ impl Unit {
             });
             let mut broken_off = false;
             for (number, text) in (0..).zip(lines) {
-                if line(number, text.map_err(named)?).is_break() {
+                if line(number, text.map_err(&named)?).is_break() {
                     broken_off = true;
                     break;
                 }
@@ -56,7 +58,7 @@ impl Unit {
             if broken_off {
                 child.kill().ok();
             }
-            let ended = child.wait().map_err(named)?;
+            let ended = child.wait().map_err(&named)?;
             match writer.join().expect("the writer ends") {
                 Err(error) if error.kind() != ErrorKind::BrokenPipe => Err(named(error)),
                 _ if broken_off || ended.success() => Ok(()),

@@ -9,7 +9,7 @@ use std::time::{Instant, SystemTime, UNIX_EPOCH};
 
 use cases::feed::ALL_OPS;
 use tools::compare::{compare, Asked};
-use tools::output;
+use tools::output::{self, named};
 use tools::unit::{Unit, KNOWN_OPS};
 
 struct Options {
@@ -85,8 +85,7 @@ fn compare_all(Options { asked, keep, unit }: &Options, out: &mut dyn Write) -> 
     write!(out, "{difference}")?;
     writeln!(out, "  again: compare {}", again(asked, difference.number))?;
     if let Some(path) = keep {
-        let named = |error| io::Error::other(format!("{}: {error}", path.display()));
-        fs::write(path, &difference.case.bytes).map_err(named)?;
+        fs::write(path, &difference.case.bytes).map_err(named(path))?;
         writeln!(out, "  its bytes are in {}", path.display())?;
     }
     Ok(1)

@@ -11,7 +11,7 @@ use cases::statement::CODES;
 use tools::grade::{
     find_files, judge, keep, make_files, object, show, write_files, Found, Order, Outcome, Page, Report, Tally,
 };
-use tools::output;
+use tools::output::{self, named};
 use tools::unit::Unit;
 
 const USAGE: &str = "usage: grade [OPTIONS] FILE..                 judge statement files, and the .xml files of folders
@@ -185,8 +185,7 @@ fn grade_all(options: &Options, out: &mut dyn Write) -> io::Result<u8> {
         say_all(&found, &tally, out)?;
     }
     if let Some(path) = &options.html {
-        let named = |error| io::Error::other(format!("{}: {error}", path.display()));
-        fs::write(path, page.text()).map_err(named)?;
+        fs::write(path, page.text()).map_err(named(path))?;
     }
     Ok(match (tally.unreadable, tally.refused()) {
         (0, 0) => 0,

@@ -12,7 +12,7 @@ use std::process::ExitCode;
 use cases::feed::{hexadecimal, Case};
 use cases::inputs::{self, Said};
 use independent::house;
-use tools::output;
+use tools::output::{self, named};
 use tools::unit::KNOWN_OPS;
 
 const USAGE: &str = "usage: sets xml|values|runs|checks|feed|kto|writes|images DIR";
@@ -52,19 +52,18 @@ fn main() -> ExitCode {
 
 /// Writes the set of a kind, if there is such a kind, and says how large it is.
 fn write(kind: &str, folder: &Path) -> io::Result<Option<String>> {
-    let named = |error| io::Error::other(format!("{}: {error}", folder.display()));
     let set = match kind {
         "xml" => xml(),
         "values" => values(),
         "runs" => replayed(cases::runs::fixed_set()),
         "checks" => replayed(cases::checks::fixed_set()),
         "feed" => broken_off(replayed(known())),
-        "kto" => return write_inputs(folder, inputs::kto()).map(Some).map_err(named),
-        "writes" => return write_inputs(folder, inputs::writes()).map(Some).map_err(named),
-        "images" => return write_inputs(folder, inputs::images()).map(Some).map_err(named),
+        "kto" => return write_inputs(folder, inputs::kto()).map(Some).map_err(named(folder)),
+        "writes" => return write_inputs(folder, inputs::writes()).map(Some).map_err(named(folder)),
+        "images" => return write_inputs(folder, inputs::images()).map(Some).map_err(named(folder)),
         _ => return Ok(None),
     };
-    write_pair(folder, ("stdin", &set.feed), ("stdout", set.lines.as_bytes())).map_err(named)?;
+    write_pair(folder, ("stdin", &set.feed), ("stdout", set.lines.as_bytes())).map_err(named(folder))?;
     Ok(Some(format!("{} cases, {} bytes of feed", set.count, set.feed.len())))
 }
 
