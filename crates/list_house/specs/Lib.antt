@@ -3,3 +3,5 @@
 pub mod House
 -- its tables
 pub mod HouseTable
+-- the lists of files and of images
+pub mod Lists
