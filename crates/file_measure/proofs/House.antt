@@ -7,6 +7,7 @@ use native.Mathlib.Omega.{arith}
 use lib.ListN.{length}
 use lib.Seq.{slice}
 use Rattle.text.specs.Pasting.{pasted}
+use Rattle.text.specs.Puts.{Puts}
 use Rattle.list.specs.Table.{listOf}
 use Rattle.list.specs.Sound.{Sound}
 use Rattle.xml.specs.House.{HouseXml}
@@ -20,7 +21,7 @@ use Rattle.file_walk.specs.Begin.{beginIn}
 use Rattle.image.specs.Image.{header}
 use Rattle.file.specs.Instance.{houseKinds}
 use Rattle.file_measure.specs.Measured.{verdict, Measured}
-use Rattle.file_measure.specs.Pass.{Puts, Opens, Shuts, Ready, Passes, Passed}
+use Rattle.file_measure.specs.Pass.{Opens, Shuts, Ready, Passes, Passed}
 use Rattle.file.proofs.House.{spelling}
 use Rattle.file_measure.proofs.Coin.{coins}
 use Rattle.file_measure.proofs.End.{says-of}

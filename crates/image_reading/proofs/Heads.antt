@@ -5,6 +5,7 @@ use mathlib.Core.Bool.{Bool, true, false, true≢false, false≢true}
 use mathlib.Core.List.{List, [], _∷_, head-eq-of-cons-eq, tail-eq-of-cons-eq}
 use Prim.Native.Nat.{ℕ, _≤_, _<_}
 use native.Mathlib.Omega.{arith}
+use native.Mathlib.Decide.{decLt, ℕ-discrete}
 use lib.Dec.{eqb}
 use lib.ListN.{length, getD, take}
 use borrow.Author.Tests.{eqb-true, eqb-false}
@@ -80,3 +81,20 @@ module _ (s : List ℕ) where
       go : (r : Bool) → eqb (getD s 4 0) 1 ≡ r → OfVersion s r
       go true e = record { yes′ = λ y. first-five s (k .0) ∙ rw (a, b, c, z, eqb-true (getD s 4 0) 1 e) (sym versioned-is); no′ = λ y. absurd (true≢false y) }
       go false e = other (λ y. eqb-false (getD s 4 0) 1 e (head-eq-of-cons-eq (tail-eq-of-cons-eq (tail-eq-of-cons-eq (tail-eq-of-cons-eq (tail-eq-of-cons-eq (five (k .0) y)))))))
+
+  -- whether a run is named, and of which version, is always told
+  pub named-some : (b : Bool) × Named s b
+  named-some = go (decLt (length s) 5) (ℕ-discrete (getD s 0 0) 75) (ℕ-discrete (getD s 1 0) 84)
+    where
+      go : Dec (length s < 5) → Dec (getD s 0 0 ≡ 75) → Dec (getD s 1 0 ≡ 84) → (b : Bool) × Named s b
+      go (yes h) a b = (false, short h)
+      go (no h) (no a) b = (false, not-k (omega arith) a)
+      go (no h) (yes a) (no b) = (false, not-t (omega arith) b)
+      go (no h) (yes a) (yes b) = (eqb (getD s 2 0) 79, last-letter (omega arith) a b)
+
+  pub version-some : Kto s → (b : Bool) × OfVersion s b
+  version-some k = go (ℕ-discrete (getD s 3 0) 0)
+    where
+      go : Dec (getD s 3 0 ≡ 0) → (b : Bool) × OfVersion s b
+      go (no a) = (false, high-byte k a)
+      go (yes a) = (eqb (getD s 4 0) 1, low-byte k a)

@@ -1,10 +1,12 @@
 -- What the reader and the picker answer over the house list: the defined answers, and no other. Assumes nothing.
 use mathlib.Core.Path.{_≡_, refl, sym, _∙_, ap, ap₂, subst}
-use mathlib.Core.Logic.{_≢_, _⊎_, inl, inr}
-use mathlib.Core.List.{List, [], _++_}
+use mathlib.Core.Logic.{_≢_, _⊎_, _↔_, inl, inr}
+use mathlib.Core.Bool.{Bool, true, false}
+use mathlib.Core.List.{List, [], _++_, append-assoc}
 use Prim.Native.Nat.{ℕ, _+_, _≤_, _<_}
 use native.Mathlib.Omega.{arith}
-use lib.ListN.{length, take, drop, take-append-drop}
+use native.Mathlib.Decide.{decLt, ℕ-discrete}
+use lib.ListN.{length, take, drop, take-append-drop, length-append}
 use lib.Seq.{length-take-le, drop-at}
 use Rattle.answer.specs.declared.Answer.{Answer}
 use Rattle.answer.specs.Table.{limit, accepted, tooLong, noHeader, wrongVersion}
@@ -19,20 +21,22 @@ use Rattle.list_house.specs.HouseTable.{housePool}
 use Rattle.list_house.specs.Lists.{kept, keptRows}
 use Rattle.list_house.proofs.Lists.{kept-is, kept-sound, kept-well}
 use Rattle.value.specs.Value.{Value, IsValue}
-use Rattle.image.specs.Image.{versioned, body}
+use Rattle.image.specs.Image.{versioned, header, body, image}
 use Rattle.image.specs.Kinds.{values}
 use Rattle.image.specs.Place.{Holds, Tells, held, broke, Front, now, Among, Apart, over, foreign, version, broken, whole}
 use Rattle.image.specs.Pick.{Selects, none-such, one-such, refused, missing, found}
 use Rattle.image.specs.Ends.{itemEnd}
 use Rattle.image.specs.Run.{Behind, Chooses, Answered, Handed}
 use Rattle.image.proofs.Heads.{header-is, apart}
-use Rattle.image.proofs.Answers.{accepts-one, accepts-head, accepts-content, reads-one, picks-one, answers-one, hands-one}
+use Rattle.image.proofs.Answers.{accepts-one, accepts-head, accepts-content, reads-one, reads-exactly, picks-one, answers-one, hands-one}
 use Rattle.image.proofs.Lawful.{lawful}
-use Rattle.image.proofs.Meaning.{body-means, pick-means}
+use Rattle.image.proofs.Meaning.{body-means, body-some, pick-means}
+use Rattle.image.proofs.Some.{picks-some}
 use Rattle.image_reading.specs.Reads.{stored, HouseAccepts, HouseReads, HousePicks, HouseAnswers, HouseHands}
 use Rattle.image_reading.specs.Forms.{Formed, first, Begun, refuses, accepts}
-use Rattle.image_reading.specs.Front.{Kto, Fronts, nothing, headed}
+use Rattle.image_reading.specs.Front.{Kto, Named, OfVersion, Fronts, nothing, headed}
 use Rattle.image_reading.specs.declared.front.Reading.{Reading}
+use Rattle.image_reading.proofs.Heads.{named-some, version-some}
 
 pub only : (l : Listing) → Among l stored → l ≡ kept
 only l (inl e) = e
@@ -107,6 +111,9 @@ module _ (run : List ℕ) where
   kept-tells : (t : List ℕ) → Says t → (from : ℕ) (a : Answer) → Behind t (itemEnd t run) run from a → Tells values kept (drop from run) from a
   kept-tells t y from a h = subst (λ (l : Listing). Tells values l (drop from run) from a) (y .is) (body-means t housePool (y .sound) run from a h)
 
+  kept-body : (from : ℕ) → (a : Answer) × Tells values kept (drop from run) from a
+  kept-body from = let o = body-some (laid keptRows) housePool kept-sound run from in (o .0, subst (λ (l : Listing). Tells values l (drop from run) from (o .0)) kept-is (o .1))
+
   -- behind a header
   module _ (lim : length run ≤ limit) (f : ℕ) (l : Listing) (h s : List ℕ) (k : Formed f l h) (at : run ≡ h ++ s) (from : ℕ) (e : from ≡ length h) where
     behind-tells : (a : Answer) → Tells values kept (drop from run) from a → Tells values l s (length h) a
@@ -133,6 +140,10 @@ module _ (run : List ℕ) where
   begins-none x (headed lim l h s k at e) z = absurd (formed-some (x .form) l h k z)
 
   -- where one may, by what its items say
+  front-reads : (x : Reading) → Fronts run x → x .form ≢ 0 → (a : Answer) → Tells values kept (drop (x .from) run) (x .from) a → HouseReads run a
+  front-reads x (nothing h n f i) z a b = absurd (z f)
+  front-reads x (headed lim l h s k at i) z a b = tells-reads lim (x .form) l h s k at (x .from) i a (behind-tells lim (x .form) l h s k at (x .from) i a b)
+
   module _ (x : Reading) (g : Fronts run x) (z : x .form ≢ 0) (t : List ℕ) (y : Says t) (a : Answer) (b : Behind t (itemEnd t run) run (x .from) a) where
     pub begins : a .code ≡ 0 → Begun run (record { answer = a; form = x .form; from = x .from })
     begins c = go g
@@ -142,11 +153,9 @@ module _ (run : List ℕ) where
         go (headed lim l h s k at i) = tells-begun lim (x .form) l h s k at (x .from) i a (behind-tells lim (x .form) l h s k at (x .from) i a (kept-tells t y (x .from) a b)) c
 
     pub begins-not : a .code ≢ 0 → (v : Reading) → Refused v a → Begun run v × (v .answer .code ≢ 0)
-    begins-not c v r = let n = refused-code run v a r c in (refuses (refused-reads run v a r (go g)) n (r .1) (r .2), n)
-      where
-        go : Fronts run x → HouseReads run a
-        go (nothing h n f i) = absurd (z f)
-        go (headed lim l h s k at i) = tells-reads lim (x .form) l h s k at (x .from) i a (behind-tells lim (x .form) l h s k at (x .from) i a (kept-tells t y (x .from) a b))
+    begins-not c v r =
+        let n = refused-code run v a r c in
+        (refuses (refused-reads run v a r (front-reads x g z a (kept-tells t y (x .from) a b))) n (r .1) (r .2), n)
 
   pub begun-reads : (x : Reading) → Begun run x → HouseReads run (x .answer)
   begun-reads x (refuses h n f g) = h
@@ -203,6 +212,30 @@ module _ (run : List ℕ) where
   pub house-accepts-one : (m n : ℕ) (a : HouseAccepts run m) (b : HouseAccepts run n) → (m ≡ n) × (a .holds .content ≡ b .holds .content)
   house-accepts-one m n a b = (accepts-one values stored lawful wells lists-apart run m n a b, accepts-content values stored lawful wells lists-apart run m n a b)
 
+  -- which stands at the start of the run
+  pub house-begins : (n : ℕ) (w : HouseAccepts run n) → Meets IsValue kept (w .holds .content) × (run ≡ image values kept (w .holds .content) ++ w .holds .rest) × (n ≡ length (image values kept (w .holds .content)))
+  unfolding image
+  house-begins n w = (
+    subst (λ (l : Listing). Meets IsValue l c) its (w .holds .meets),
+    w .at ∙ ap (λ (z : List ℕ). w .head ++ z) (w .holds .at) ∙ sym (append-assoc (w .head) b (w .holds .rest)) ∙ ap (λ (z : List ℕ). z ++ w .holds .rest) is,
+    w .long ∙ ap (λ (k : ℕ). length (w .head) + k) (w .holds .long) ∙ sym (length-append (w .head) b) ∙ ap length is,
+  )
+    where
+      c : Content Value
+      c = w .holds .content
+
+      b : List ℕ
+      b = body values (w .list) c
+
+      its : w .list ≡ kept
+      its = only (w .list) (w .among)
+
+      headed : Front (w .list) (w .head) → w .head ≡ header (w .list)
+      headed (now e) = e
+
+      is : w .head ++ b ≡ header kept ++ body values kept c
+      is = ap (λ (z : List ℕ). z ++ b) (headed (w .front)) ∙ ap (λ (l : Listing). header l ++ body values l c) its
+
   -- no second answer fits
   pub house-reads-one : (a b : Answer) → HouseReads run a → HouseReads run b → a ≡ b
   house-reads-one = reads-one values stored lawful wells lists-apart run
@@ -234,3 +267,31 @@ module _ (run : List ℕ) where
       go e (accepts l k w d f g) (accepts l′ k′ w′ d′ f′ g′) =
           alike e (formed-one (x .form) (y .form) (w .list) (w′ .list) (w .head) (w′ .head) f f′)
           (g ∙ ap length (accepts-head values stored lawful wells lists-apart run k k′ w w′) ∙ sym g′)
+
+  -- some answer fits: how the run begins tells it, or what stands behind its header
+  pub house-reads-some : (a : Answer) × HouseReads run a
+  house-reads-some = elim (decLt limit (length run)) [
+    | yes h ↦ (tooLong, over h refl)
+    | no h ↦ let n = named-some run in named (omega arith) (n .0) (n .1)
+  ]
+    where
+      of-version : length run ≤ limit → Kto run → (b : Bool) → OfVersion run b → (a : Answer) × HouseReads run a
+      of-version h k false v = (wrongVersion, version h (k .0) (k .1) (v .no′ refl) refl)
+      of-version h k true v =
+          let o = kept-body run 5 in
+          (o .0, front-reads run (record { answer = accepted 5; form = 1; from = 5 }) (front-first run (accepted 5) h k (v .yes′ refl)) (λ z. omega arith) (o .0) (o .1))
+
+      named : length run ≤ limit → (b : Bool) → Named run b → (a : Answer) × HouseReads run a
+      named h false n = (noHeader, foreign h (n .no′ refl) refl)
+      named h true n = let k = n .yes′ refl in let v = version-some run k in of-version h k (v .0) (v .1)
+
+  -- and of the picker, with some part
+  pub house-picks-some : (r n : ℕ) → (a : Answer) × (part : List ℕ) × HousePicks run r n a part
+  house-picks-some r n =
+      let x = house-reads-some in
+      let o = picks-some values stored lawful wells run r n (x .0) (x .1) in
+      (o .answer, o .part, o .picks)
+
+  -- code 0 and place n exactly of a run within the limit that begins with an image of n bytes
+  pub house-reads-exactly : (a : Answer) → HouseReads run a → (n : ℕ) → ((a .code ≡ 0) × (a .place ≡ n)) ↔ ((length run ≤ limit) × HouseAccepts run n)
+  house-reads-exactly = reads-exactly values stored lawful wells lists-apart run
