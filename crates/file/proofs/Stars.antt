@@ -36,7 +36,9 @@ use Rattle.value.specs.Reading.{readOf, signedOf, pointOf, wholeOf, fracOf, ans
 use Rattle.list.specs.Table.{placeFrom}
 use Rattle.value.specs.Spell.{spell, frontOff, backOff, passesFrom, dayOf, fractionOf, zoneOf, momentOf}
 use Rattle.value.specs.Value.{Value}
-use Rattle.file_walk.specs.First.{Found, fine, found, absent, childRows, inside, firstViolation}
+use Rattle.file_walk.specs.declared.found.Found.{Found}
+use Rattle.file_walk.specs.declared.found.Found.the-variants.{Fine, Violation}
+use Rattle.file_walk.specs.First.{absent, childRows, inside, firstViolation}
 use Rattle.file_walk.specs.Machine.{before, fresh, advance, emits}
 use Rattle.file_walk.proofs.Accept.{accept}
 use Rattle.file_walk.proofs.Items.{items-are}
@@ -90,8 +92,8 @@ fits e x true = sameAnswer (e .answer) (accepted (length x)) && same (e .image) 
 fits e x false = sameAnswer (e .answer) (noRoom (length x)) && isNil (e .image)
 
 abbrev walked : Star → List ℕ → Found → Bool
-walked e x fine = fits e x (leb (length x) (e .room))
-walked e x (found c r o) = sameAnswer (e .answer) (answer c r o) && isNil (e .image)
+walked e x Fine = fits e x (leb (length x) (e .room))
+walked e x (Violation a) = sameAnswer (e .answer) a && isNil (e .image)
 
 abbrev wayTest : Star → Way → Bool
 wayTest e (tree i) = contentTest 16 i && (oneTest i && (same (e .file) (whole (rootTree i)) && walked e (imageIn i) (foundIn i)))
@@ -149,7 +151,7 @@ module _ (e : Star) (chars : asciiTest (e .file) ≡ true) (size : leb (length (
       its : File houseKinds house (e .file) content
       pictured : imageOf houseKinds house content ≡ imageIn i
 
-    right : foundIn i ≡ fine → Right
+    right : foundIn i ≡ Fine → Right
     unfolding file image
     right z =
         let c = accept houseTypes spelling house house-well (messageOf (rootTree i)) (one-element i 0 one) z in
@@ -159,7 +161,7 @@ module _ (e : Star) (chars : asciiTest (e .file) ≡ true) (size : leb (length (
           pictured = ap (λ is′. header house ++ (bytes values house is′ ++ (0 ∷ []))) (sym (items-are houseTypes spelling house house-well (messageOf (rootTree i)) (c .0) (c .2)));
         }
 
-    fits-shown : foundIn i ≡ fine → (b : Bool) → leb (length (imageIn i)) (e .room) ≡ b → fits e (imageIn i) b ≡ true → Checks (e .file) d (e .answer) (left (e .image))
+    fits-shown : foundIn i ≡ Fine → (b : Bool) → leb (length (imageIn i)) (e .room) ≡ b → fits e (imageIn i) b ≡ true → Checks (e .file) d (e .answer) (left (e .image))
     fits-shown z true h t =
         let r = right z in
         let n : length (imageOf houseKinds house (r .content)) ≡ length (imageIn i) = ap length (r .pictured) in
@@ -175,10 +177,10 @@ module _ (e : Star) (chars : asciiTest (e .file) ≡ true) (size : leb (length (
 
     walked-shown : (f : Found) → foundIn i ≡ f → walked e (imageIn i) f ≡ true → Checks (e .file) d (e .answer) (left (e .image))
     unfolding file
-    walked-shown fine z t = fits-shown z (leb (length (imageIn i)) (e .room)) refl t
-    walked-shown (found c r o) z t =
-        let a = and-is (sameAnswer (e .answer) (answer c r o)) (isNil (e .image)) t in
-        checks.violation file c r o z (same-answer (e .answer) (answer c r o) (a .0)) (kept (a .1))
+    walked-shown Fine z t = fits-shown z (leb (length (imageIn i)) (e .room)) refl t
+    walked-shown (Violation v) z t =
+        let a = and-is (sameAnswer (e .answer) v) (isNil (e .image)) t in
+        checks.violation file (z ∙ ap Violation (sym (same-answer (e .answer) v (a .0)))) (kept (a .1))
 
   way-shown : (w : Way) → wayTest e w ≡ true → Checks (e .file) d (e .answer) (left (e .image))
   way-shown (tree i) t =
