@@ -12,6 +12,7 @@ use Rattle.answer.specs.declared.Answer.{Answer}
 use Rattle.answer.specs.Table.{accepted, badValue}
 use Rattle.text.specs.Pasting.{pasted}
 use Rattle.text.specs.Numbers.{bigEndian}
+use Rattle.text.specs.Puts.{Puts}
 use Rattle.list.specs.Listing.{Leaf, amt, Kind, group, choice, leaf, Listing, rowAt, Child, isGroup}
 use Rattle.list.specs.WellFormed.{LeafOk, KindOk}
 use Rattle.list.specs.Content.{Content, items, Meets}
@@ -47,9 +48,9 @@ use Rattle.file_walk.proofs.Turned.{Stands, Nested, Enters, Leaves, Ends, Turne
 use Rattle.image.specs.Image.{bytes, itemBytes, valueBytes, header, image}
 use Rattle.file.specs.Instance.{Kinds, valuesOf}
 use Rattle.file.specs.File.{imageOf}
-use Rattle.file_measure.specs.Pass.{Puts, kindIn, Shut, Shuts, Opens, ItemPut, Passes, violates, holds}
+use Rattle.text.proofs.Puts.{puts-none, puts-pasted, puts-then, puts-as}
+use Rattle.file_measure.specs.Pass.{kindIn, Shut, Shuts, Opens, ItemPut, Passes, violates, holds}
 use Rattle.file_measure.proofs.Coin.{coin-is}
-use Rattle.file_measure.proofs.Puts.{puts-none, puts-pasted, puts-then, puts-as}
 
 -- ---- what a step met
 

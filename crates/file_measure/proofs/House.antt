@@ -10,6 +10,7 @@ use lib.Seq.{slice}
 use Rattle.answer.specs.declared.Answer.{Answer}
 use Rattle.answer.specs.Table.{accepted, badValue}
 use Rattle.text.specs.Pasting.{pasted}
+use Rattle.text.specs.Puts.{Puts}
 use Rattle.list.specs.Table.{listOf}
 use Rattle.list.specs.Sound.{Sound}
 use Rattle.xml.specs.House.{HouseXml}
@@ -23,7 +24,7 @@ use Rattle.file_walk.specs.Begin.{beginIn}
 use Rattle.image.specs.Image.{header}
 use Rattle.file.specs.Instance.{houseKinds}
 use Rattle.file_measure.specs.Measured.{Measured}
-use Rattle.file_measure.specs.Pass.{Puts, Opens, Shuts, Ready, Passes, Passed}
+use Rattle.file_measure.specs.Pass.{Opens, Shuts, Ready, Passes, Passed}
 use Rattle.file.proofs.House.{spelling}
 use Rattle.file_measure.proofs.Coin.{coins}
 use Rattle.file_measure.proofs.End.{says-of}

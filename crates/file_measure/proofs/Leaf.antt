@@ -9,14 +9,15 @@ use native.Mathlib.Omega.{arith}
 use lib.ListN.{length}
 use Rattle.text.specs.Bytes.{inRange}
 use Rattle.text.specs.Pasting.{pasted}
+use Rattle.text.specs.Puts.{Puts}
 use Rattle.text.proofs.Pasting.{length-pasted}
+use Rattle.text.proofs.Puts.{puts-none, puts-pasted, puts-then}
 use Rattle.list.specs.Listing.{Leaf, leaf, isGroup}
 use Rattle.list.specs.Table.{cell, wordsIn}
 use Rattle.list.proofs.Codes.{group-is}
 use Rattle.file_walk.specs.Tables.{isGroupIn}
 use Rattle.file.specs.Instance.{Kinds}
-use Rattle.file_measure.specs.Pass.{Puts, kindIn, given, Valued, ItemPut, Shuts, Opens}
-use Rattle.file_measure.proofs.Puts.{puts-none, puts-pasted, puts-then}
+use Rattle.file_measure.specs.Pass.{kindIn, given, Valued, ItemPut, Shuts, Opens}
 
 -- the test of the code is that of the list
 module _ (t : List ℕ) (row q : ℕ) (e : q ≡ cell t row 2) (g : Bool) (f : g ≡ isGroupIn q) where

@@ -1,8 +1,8 @@
--- What the proofs of `measure` share.
+-- What the proofs of `file_measure` share.
 -- an answer, from what the calls told
 pub mod Saying
--- bytes put one behind the other
-pub mod Puts
+-- the first bytes of an image
+pub mod Head
 -- where a pass stands, and what each step adds
 pub mod Going
 -- what is put at the beginning and at the end of an element

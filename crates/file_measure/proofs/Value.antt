@@ -10,10 +10,12 @@ use native.Mathlib.Decide.{ℕ-discrete}
 use lib.ListN.{length}
 use Rattle.text.specs.Bytes.{inRange}
 use Rattle.text.specs.Pasting.{pasted}
+use Rattle.text.specs.Puts.{Puts}
 use Rattle.text_characters.specs.Pieces.{Spells}
 use Rattle.text_characters.specs.Utf8.{encodeAll}
 use Rattle.text.proofs.Classes.{in-range-is}
 use Rattle.text.proofs.Pasting.{length-pasted}
+use Rattle.text.proofs.Puts.{puts-none, puts-pasted, puts-as}
 use Rattle.text_characters.proofs.Spelling.{one-text}
 use Rattle.list.specs.Listing.{Leaf, ref, enum, Kind, group, choice, leaf, isGroup}
 use Rattle.list.specs.WellFormed.{LeafOk}
@@ -32,8 +34,7 @@ use Rattle.value_to_bytes.proofs.Putting.{text-long, natural-long, amount-long,
 use Rattle.value_to_bytes.proofs.Unique.{spelt-any, euro, euro-is}
 use Rattle.value_to_bytes.proofs.Theorems.{bytes-some, write-is, write-none, size-is, size-none}
 use Rattle.file.specs.Instance.{houseKinds}
-use Rattle.file_measure.specs.Pass.{Puts, Worded, Shut, given, Valued}
-use Rattle.file_measure.proofs.Puts.{puts-none, puts-pasted, puts-as}
+use Rattle.file_measure.specs.Pass.{Worded, Shut, given, Valued}
 
 -- ---- no value has many bytes
 

@@ -8,6 +8,7 @@ use lib.ListN.{length}
 use Rattle.answer.specs.declared.Answer.{Answer}
 use Rattle.answer.specs.Table.{accepted, limit}
 use Rattle.text.specs.Pasting.{pasted}
+use Rattle.text.specs.Puts.{Puts}
 use Rattle.text_characters.specs.Pieces.{Spells}
 use Rattle.list.specs.Listing.{Leaf, amt, Kind, leaf, Listing, isGroup}
 use Rattle.list.specs.WellFormed.{LeafOk}
@@ -22,12 +23,6 @@ use Rattle.file_walk.specs.First.{firstViolation}
 use Rattle.file_walk.specs.Denotes.{Has}
 use Rattle.file.specs.Instance.{Kinds}
 use Rattle.file.specs.File.{imageOf}
-
--- bs stand in the buffer from `at` on where they fit in, and r is the place behind them; the buffer keeps its length
-pub record Puts (d : List ℕ) (at : ℕ) (bs : List ℕ) (r : ℕ) (d′ : List ℕ) : Type 0 where
-  pub behind : r ≡ at + length bs
-  pub long : length d′ ≡ length d
-  pub is : at + length bs ≤ length d → d′ ≡ pasted d at bs
 
 -- the place of the word raw in its list, as one byte: n is 1, or 0 where it has none
 pub record Worded (ws : List (List ℕ)) (raw d : List ℕ) (at n : ℕ) (d′ : List ℕ) : Type 0 where

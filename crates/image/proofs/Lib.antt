@@ -37,6 +37,8 @@ pub mod Alike
 pub mod Run
 -- the turns of the picker
 pub mod Choose
+-- what is not missing is found
+pub mod Some
 -- each turn of its loop
 pub mod Hunting
 -- document 01's values are lawful

@@ -29,7 +29,7 @@ use Rattle.image.specs.Run.{Behind, headOf, Chooses}
 use Rattle.image.proofs.Rows.{well}
 use Rattle.image.proofs.Lines.{lines}
 use Rattle.image.proofs.Lawful.{lawful}
-use Rattle.image.proofs.Run.{Ending, behind-tells}
+use Rattle.image.proofs.Run.{Ending, behind-tells, behind-some}
 use Rattle.image.proofs.Choose.{chooses-selects}
 
 -- two bytes stand before a text, by the number of its kind
@@ -119,6 +119,10 @@ module _ (t pool : List ℕ) (so : Sound t pool) (s : List ℕ) where
   -- the reader's promise, in sound tables
   pub body-means : (from : ℕ) (a : Answer) → Behind t (itemEnd t s) s from a → Tells values l (drop from s) from a
   body-means from a h = behind-tells t (itemEnd t s) s values lawful l (so .well) (lines t pool so) ending from a h
+
+  -- some answer fits
+  pub body-some : (from : ℕ) → (a : Answer) × Tells values l (drop from s) from a
+  body-some from = let o = behind-some t (itemEnd t s) s values lawful l (so .well) (lines t pool so) ending from in (o .0, body-means from (o .0) (o .1))
 
   head-is : (r : ℕ) (f : Leaf) → 0 < r → r ≤ size l → rowAt l r .kind ≡ leaf f → headOf t r ≡ lengthBytes f
   unfolding headOf

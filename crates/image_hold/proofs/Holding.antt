@@ -22,7 +22,7 @@ use Rattle.image_hold.specs.declared.held.Held.{Held}
 use Rattle.image_hold.specs.declared.held.Step.{Step}
 use Rattle.image.proofs.Answers.{accepting, accepts-in, image-begins}
 use Rattle.image_reading.specs.Reads.{stored, HouseAccepts, HouseReads}
-use Rattle.image_reading.proofs.House.{house-reads-one}
+use Rattle.image_reading.proofs.House.{house-reads-one, house-reads-some}
 
 -- ---- one step
 
@@ -51,6 +51,14 @@ next-one h a b p q x y =
     let f : p .at ≡ q .at = moves-one b (h .at) (p .at) (q .at) (subst (λ (c : Answer). Moves c (h .at) (p .at)) e (x .moves)) (y .moves) in
     let g : p .run ≡ q .run = x .holds ∙ sym (y .holds) in
     (e, λ i. record { run = g i; at = f i })
+
+-- wherever it stands, some answer and some place fit
+pub next-some : (h : Held) → (a : Answer) × (p : Held) × Next h a p
+next-some h = let x = house-reads-some (left h) in go (x .0) (x .1) (ℕ-discrete (x .0 .code) 0)
+  where
+    go : (a : Answer) → HouseReads (left h) a → Dec (a .code ≡ 0) → (b : Answer) × (p : Held) × Next h b p
+    go a r (yes z) = (a, record { run = h .run; at = h .at + a .place }, record { reads = r; moves = record { on = λ e. refl; stays = λ e. absurd (e z) }; holds = refl })
+    go a r (no z) = (a, h, record { reads = r; moves = record { on = λ e. absurd (z e); stays = λ e. refl }; holds = refl })
 
 -- ---- at the run's end and past it
 

@@ -5,6 +5,7 @@ use mathlib.Core.Bool.{Bool, true, false, true≢false, false≢true}
 use mathlib.Core.List.{List, [], _∷_, head-eq-of-cons-eq, tail-eq-of-cons-eq}
 use Prim.Native.Nat.{ℕ, _≤_, _<_}
 use native.Mathlib.Omega.{arith}
+use native.Mathlib.Decide.{decLt, ℕ-discrete}
 use lib.Dec.{eqb}
 use lib.ListN.{length, getD, take}
 use borrow.Author.Tests.{eqb-true, eqb-false}
@@ -81,3 +82,21 @@ module _ (s : List ℕ) where
 
       c : getD s 2 0 ≡ 79
       c = head-eq-of-cons-eq (tail-eq-of-cons-eq (tail-eq-of-cons-eq t))
+
+  -- whether a run is named, and where its items begin, is always told
+  pub named-some : (b : Bool) × Named s b
+  named-some = go (decLt (length s) 5) (ℕ-discrete (getD s 0 0) 75) (ℕ-discrete (getD s 1 0) 84)
+    where
+      go : Dec (length s < 5) → Dec (getD s 0 0 ≡ 75) → Dec (getD s 1 0 ≡ 84) → (b : Bool) × Named s b
+      go (yes h) a b = (false, short h)
+      go (no h) (no a) b = (false, not-k (omega arith) a)
+      go (no h) (yes a) (no b) = (false, not-t (omega arith) b)
+      go (no h) (yes a) (yes b) = (eqb (getD s 2 0) 79, last-letter (omega arith) a b)
+
+  pub fronts-some : Kto s → (n : ℕ) × Fronts s n
+  fronts-some k = go (ℕ-discrete (getD s 3 0) 0) (ℕ-discrete (getD s 4 0) 1)
+    where
+      go : Dec (getD s 3 0 ≡ 0) → Dec (getD s 4 0 ≡ 1) → (n : ℕ) × Fronts s n
+      go (no a) b = (0, high-byte k a)
+      go (yes a) (no b) = (0, low-byte k b)
+      go (yes a) (yes b) = (5, version-one k a b)

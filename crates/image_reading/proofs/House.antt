@@ -1,10 +1,12 @@
 -- What the reader and the picker answer over the house list: the defined answers, and no other. Assumes nothing.
 use mathlib.Core.Path.{_≡_, refl, sym, _∙_, ap, subst}
-use mathlib.Core.Logic.{_≢_, _⊎_, inl, inr}
-use mathlib.Core.List.{List, [], _++_}
+use mathlib.Core.Logic.{_≢_, _⊎_, _↔_, inl, inr}
+use mathlib.Core.Bool.{Bool, true, false}
+use mathlib.Core.List.{List, [], _++_, append-assoc}
 use Prim.Native.Nat.{ℕ, _+_, _≤_, _<_}
 use native.Mathlib.Omega.{arith}
-use lib.ListN.{length, take, drop, take-append-drop}
+use native.Mathlib.Decide.{decLt, ℕ-discrete}
+use lib.ListN.{length, take, drop, take-append-drop, length-append}
 use lib.Seq.{length-take-le, drop-at}
 use Rattle.answer.specs.declared.Answer.{Answer}
 use Rattle.answer.specs.Table.{limit, tooLong, noHeader, wrongVersion, brokenImage}
@@ -16,19 +18,21 @@ use Rattle.list_house.specs.House.{house}
 use Rattle.list_house.specs.HouseTable.{houseRows, housePool}
 use Rattle.list_house.proofs.HouseSound.{house-is, house-sound, house-well}
 use Rattle.value.specs.Value.{Value, IsValue}
-use Rattle.image.specs.Image.{body}
+use Rattle.image.specs.Image.{header, body, image}
 use Rattle.image.specs.Kinds.{values}
-use Rattle.image.specs.Place.{Holds, Tells, held, broke, Among, Apart, over, foreign, version, broken, whole}
+use Rattle.image.specs.Place.{Holds, Tells, held, broke, Front, now, Among, Apart, over, foreign, version, broken, whole}
 use Rattle.image.specs.Pick.{Selects, none-such, one-such, refused, missing, found}
 use Rattle.image.specs.Ends.{itemEnd}
 use Rattle.image.specs.Run.{Behind, Chooses, Answered, Handed}
 use Rattle.image.proofs.Heads.{apart}
-use Rattle.image.proofs.Answers.{accepting, accepts-one, accepts-content, reads-one, picks-one, answers-one, hands-one}
+use Rattle.image.proofs.Answers.{accepting, accepts-one, accepts-content, reads-one, reads-exactly, picks-one, answers-one, hands-one}
 use Rattle.image.proofs.Lawful.{lawful}
-use Rattle.image.proofs.Meaning.{body-means, pick-means}
-use Rattle.image_reading.specs.Front.{Kto, Fronts}
+use Rattle.image.proofs.Meaning.{body-means, body-some, pick-means}
+use Rattle.image.proofs.Some.{picks-some}
+use Rattle.image_reading.specs.Front.{Kto, Named, Fronts}
 use Rattle.image_reading.specs.Reads.{stored, HouseAccepts, HouseReads, HousePicks, HouseAnswers, HouseHands, Begun}
 use Rattle.image_reading.specs.declared.first.Reading.{Reading}
+use Rattle.image_reading.proofs.Heads.{named-some, fronts-some}
 
 pub only : (l : Listing) → Among l stored → l ≡ house
 only l (inl e) = e
@@ -128,6 +132,30 @@ module _ (run : List ℕ) where
   pub house-accepts-one : (m n : ℕ) (a : HouseAccepts run m) (b : HouseAccepts run n) → (m ≡ n) × (a .holds .content ≡ b .holds .content)
   house-accepts-one m n a b = (accepts-one values stored lawful wells lists-apart run m n a b, accepts-content values stored lawful wells lists-apart run m n a b)
 
+  -- which stands at the start of the run
+  pub house-begins : (n : ℕ) (w : HouseAccepts run n) → Meets IsValue house (w .holds .content) × (run ≡ image values house (w .holds .content) ++ w .holds .rest) × (n ≡ length (image values house (w .holds .content)))
+  unfolding image
+  house-begins n w = (
+    subst (λ (l : Listing). Meets IsValue l c) its (w .holds .meets),
+    w .at ∙ ap (λ (z : List ℕ). w .head ++ z) (w .holds .at) ∙ sym (append-assoc (w .head) b (w .holds .rest)) ∙ ap (λ (z : List ℕ). z ++ w .holds .rest) is,
+    w .long ∙ ap (λ (k : ℕ). length (w .head) + k) (w .holds .long) ∙ sym (length-append (w .head) b) ∙ ap length is,
+  )
+    where
+      c : Content Value
+      c = w .holds .content
+
+      b : List ℕ
+      b = body values (w .list) c
+
+      its : w .list ≡ house
+      its = only (w .list) (w .among)
+
+      headed : Front (w .list) (w .head) → w .head ≡ header (w .list)
+      headed (now e) = e
+
+      is : w .head ++ b ≡ header house ++ body values house c
+      is = ap (λ (z : List ℕ). z ++ b) (headed (w .front)) ∙ ap (λ (l : Listing). header l ++ body values l c) its
+
   -- no second answer fits
   pub house-reads-one : (a b : Answer) → HouseReads run a → HouseReads run b → a ≡ b
   house-reads-one = reads-one values stored lawful wells lists-apart run
@@ -141,3 +169,32 @@ module _ (run : List ℕ) where
   -- nor a second part
   pub house-hands-one : (r n : ℕ) (s t : List ℕ) → HouseHands run r n s → HouseHands run r n t → s ≡ t
   house-hands-one = hands-one values stored lawful wells lists-apart run
+
+  -- some answer fits: how the run begins tells it, or what stands behind its header
+  house-body : (from : ℕ) → (a : Answer) × Tells values house (drop from run) from a
+  house-body from = let o = body-some houseRows housePool house-sound run from in (o .0, subst (λ (l : Listing). Tells values l (drop from run) from (o .0)) house-is (o .1))
+
+  pub house-reads-some : (a : Answer) × HouseReads run a
+  house-reads-some = elim (decLt limit (length run)) [
+    | yes h ↦ (tooLong, over h refl)
+    | no h ↦ let n = named-some run in named (omega arith) (n .0) (n .1)
+  ]
+    where
+      fronted : length run ≤ limit → Kto run → (from : ℕ) → Fronts run from → Dec (from ≡ 0) → (a : Answer) × HouseReads run a
+      fronted h k from f (yes z) = (wrongVersion, version h (k .0) (k .1) (f .unknown z) refl)
+      fronted h k from f (no nz) = let o = house-body from in (o .0, tells-reads run from nz f h (o .0) (o .1))
+
+      named : length run ≤ limit → (b : Bool) → Named run b → (a : Answer) × HouseReads run a
+      named h false n = (noHeader, foreign h (n .no′ refl) refl)
+      named h true n = let k = n .yes′ refl in let f = fronts-some run k in fronted h k (f .0) (f .1) (ℕ-discrete (f .0) 0)
+
+  -- and of the picker, with some part
+  pub house-picks-some : (r n : ℕ) → (a : Answer) × (part : List ℕ) × HousePicks run r n a part
+  house-picks-some r n =
+      let x = house-reads-some in
+      let o = picks-some values stored lawful wells run r n (x .0) (x .1) in
+      (o .answer, o .part, o .picks)
+
+  -- code 0 and place n exactly of a run within the limit that begins with an image of n bytes
+  pub house-reads-exactly : (a : Answer) → HouseReads run a → (n : ℕ) → ((a .code ≡ 0) × (a .place ≡ n)) ↔ ((length run ≤ limit) × HouseAccepts run n)
+  house-reads-exactly = reads-exactly values stored lawful wells lists-apart run

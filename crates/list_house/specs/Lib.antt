@@ -1,5 +1,7 @@
--- The definitions of `house`.
+-- The definitions of `list_house`.
 -- the house list
 pub mod House
 -- its tables
 pub mod HouseTable
+-- the kind of a row, as a number
+pub mod Kind

@@ -8,10 +8,11 @@ use lib.Dec.{leb}
 use lib.ListN.{length, take, length-append}
 use borrow.Author.Tests.{le-leb, lt-leb}
 use Rattle.text.specs.Bytes.{ascii}
+use Rattle.text.specs.Digits.{inDigits}
 use Rattle.text.specs.Pasting.{pasted}
 use Rattle.text.proofs.Pasting.{pasted-no}
 use Rattle.answer.specs.declared.Answer.{Answer}
-use Rattle.program_line.specs.Line.{decimal, numbers}
+use Rattle.program_line.specs.Line.{numbers}
 use Rattle.program_line.specs.Hex.{hexadecimal}
 use Rattle.program_line.proofs.Hexadecimal.{length-hex}
 use Rattle.program_line.proofs.Lines.{list-behind, taken-out}
@@ -43,19 +44,19 @@ module _ (a : Answer) (p : List ℕ) where
 
 -- ---- a feed that is broken
 
-pub length-broken : (n : ℕ) → length (brokenLine n) ≡ 20 + length (decimal n) + 1
+pub length-broken : (n : ℕ) → length (brokenLine n) ≡ 20 + length (inDigits n) + 1
 unfolding brokenLine
 length-broken n = simp length-append (omega arith)
 
-pub broken : (n : ℕ) (d : List ℕ) (end : ℕ) → end ≡ 20 + length (decimal n) → end + 1 ≤ length d →
-    pasted (pasted (pasted d 0 (ascii "feed broken at case ")) 20 (decimal n)) end (10 ∷ []) ≡ pasted d 0 (brokenLine n)
+pub broken : (n : ℕ) (d : List ℕ) (end : ℕ) → end ≡ 20 + length (inDigits n) → end + 1 ≤ length d →
+    pasted (pasted (pasted d 0 (ascii "feed broken at case ")) 20 (inDigits n)) end (10 ∷ []) ≡ pasted d 0 (brokenLine n)
 unfolding brokenLine
 broken n d end e h =
     let w = ascii "feed broken at case " in
-    let l : end ≡ length (w ++ decimal n) = omega (arith, length-append w (decimal n)) in
-    ap (λ (k : List ℕ). pasted k end (10 ∷ [])) (list-behind d w 20 refl (decimal n) (omega arith))
-    ∙ list-behind d (w ++ decimal n) end l (10 ∷ []) h
-    ∙ ap (pasted d 0) (append-assoc w (decimal n) (10 ∷ []))
+    let l : end ≡ length (w ++ inDigits n) = omega (arith, length-append w (inDigits n)) in
+    ap (λ (k : List ℕ). pasted k end (10 ∷ [])) (list-behind d w 20 refl (inDigits n) (omega arith))
+    ∙ list-behind d (w ++ inDigits n) end l (10 ∷ []) h
+    ∙ ap (pasted d 0) (append-assoc w (inDigits n) (10 ∷ []))
 
 -- ---- where a line fits, and where it does not
 

@@ -6,9 +6,10 @@ use Prim.Native.Nat.{ℕ}
 use lib.Dec.{leb}
 use lib.ListN.{length}
 use Rattle.text.specs.Bytes.{ascii}
+use Rattle.text.specs.Digits.{inDigits}
 use Rattle.text.specs.Pasting.{pasted}
 use Rattle.answer.specs.declared.Answer.{Answer}
-use Rattle.program_line.specs.Line.{decimal, numbers}
+use Rattle.program_line.specs.Line.{numbers}
 use Rattle.program_line.specs.Hex.{hexadecimal}
 
 -- "For each case it writes `CODE ROW PLACE HEX` and LF": an answer with the bytes that are handed back, "else nothing behind the third blank"
@@ -17,7 +18,7 @@ answerLine a part = numbers a ++ (32 ∷ (hexadecimal part ++ (10 ∷ [])))
 
 -- "ends with the line `feed broken at case N` (N from 0)"
 unfoldable pub brokenLine : ℕ → List ℕ
-brokenLine n = ascii "feed broken at case " ++ (decimal n ++ (10 ∷ []))
+brokenLine n = ascii "feed broken at case " ++ (inDigits n ++ (10 ∷ []))
 
 -- a line put to the start of a buffer: r is its length, 0 where the buffer is too short; the buffer before and after
 pub record Put (l before : List ℕ) (r : ℕ) (after : List ℕ) : Type 0 where

@@ -1,8 +1,8 @@
 // The lines that answer a feed. A line is written whole from the start of a buffer on, or not at all.
 use answer::Answer;
 use program_line::answer_line::put_numbers;
-use program_line::decimal;
 use program_line::hex;
+use text::decimal;
 use text::number::copy;
 use text::part::part_len;
 ghost use mathlib.Core.Path.{_≡_};

@@ -7,10 +7,11 @@ use native.Mathlib.Omega.{arith}
 use lib.ListN.{length, length-append, take}
 use lib.Seq.{slice, length-take-le}
 use Rattle.text.specs.Bytes.{ascii}
+use Rattle.text.specs.Digits.{inDigits}
 use Rattle.text.specs.Pasting.{pasted}
 use Rattle.text.proofs.Pasting.{pasted-then, slice-pasted}
 use Rattle.answer.specs.declared.Answer.{Answer}
-use Rattle.program_line.specs.Line.{decimal, numbers, refusal}
+use Rattle.program_line.specs.Line.{numbers, refusal}
 
 module _ (d u : List ℕ) (n : ℕ) (e : n ≡ length u) where
   pub list-behind : (v : List ℕ) → n + length v ≤ length d → pasted (pasted d 0 u) n v ≡ pasted d 0 (u ++ v)
@@ -19,13 +20,13 @@ module _ (d u : List ℕ) (n : ℕ) (e : n ≡ length u) where
 -- the three numbers of an answer
 module _ (a : Answer) where
   abbrev c : List ℕ
-  c = decimal (a .code)
+  c = inDigits (a .code)
 
   abbrev r : List ℕ
-  r = decimal (a .row)
+  r = inDigits (a .row)
 
   abbrev p : List ℕ
-  p = decimal (a .place)
+  p = inDigits (a .place)
 
   pub length-numbers : length (numbers a) ≡ length c + 1 + length r + 1 + length p
   unfolding numbers

@@ -1,5 +1,5 @@
--- The definitions of `line`.
--- decimal digits, the line of an answer
+-- The definitions of `program_line`.
+-- the line of an answer
 pub mod Line
 -- bytes in hexadecimal
 pub mod Hex

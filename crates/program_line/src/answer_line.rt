@@ -1,18 +1,19 @@
 // An answer as the programs write it.
-use crate::decimal::put;
 use answer::Answer;
+use text::decimal::put;
 use text::number::copy;
 ghost use mathlib.Core.Path.{_≡_};
 ghost use mathlib.Core.List.{_∷_};
 ghost use Prim.Native.Nat.{_+_, _≤_};
 ghost use lib.ListN.{length, take};
+ghost use Rattle.text.specs.Digits.{inDigits};
 ghost use Rattle.text.specs.Pasting.{pasted};
-ghost use Rattle.program_line.specs.Line.{decimal, numbers, refusal};
+ghost use Rattle.program_line.specs.Line.{numbers, refusal};
 
 // A blank at a place, and a number of at most twenty digits behind it; how many bytes they are.
 fn spread_next(buf: &mut [u8], at: usize, n: u64) -> usize
     requires { ⌜ at + 21 ≤ length (now buf) ⌝ }
-    ensures { λ r. ⌜ (r ≡ 1 + length (decimal n)) × ((r ≤ 21) × (now (buf .exit) ≡ pasted (now (buf .entry)) at (32 ∷ decimal n))) ⌝ }
+    ensures { λ r. ⌜ (r ≡ 1 + length (inDigits n)) × ((r ≤ 21) × (now (buf .exit) ≡ pasted (now (buf .entry)) at (32 ∷ inDigits n))) ⌝ }
 {
     copy(b" ", 0, 1, buf, at);
     1 + put(buf, at + 1, n)

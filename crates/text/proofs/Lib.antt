@@ -7,5 +7,11 @@ pub mod Spans
 pub mod Parts
 -- a list written into another
 pub mod Pasting
+-- what a number writes, put from the last element on
+pub mod Lasts
 -- numbers as big-endian bytes, and back
 pub mod Numbers
+-- bytes put one behind the other
+pub mod Puts
+-- decimal digits, one by one
+pub mod Digits

@@ -5,13 +5,14 @@ use Prim.Native.Nat.{ℕ, zero, suc, _+_, _*_, _-_, _/_, _%_, _^_, _≤_, _<_, z
 use native.Mathlib.Nat.{pow-suc, pow-le-pow-right}
 use native.Mathlib.Numerals.{add-one}
 use native.Mathlib.Omega.{arith}
-use lib.ListN.{length, getD, take, drop, set, length-append, length-take, length-drop, length-set, drop-of-length-le}
+use lib.ListN.{length, getD, take, drop, length-append, length-take, length-drop, drop-of-length-le}
 use lib.Seq.{slice, take-suc, take-all, length-take-le, drop-cons, getD-take, getD-drop, take-at, drop-at}
 use Rattle.text.specs.Lists.{Each}
 use Rattle.text.specs.Numbers.{bigEndian, numberFrom, number}
 use Rattle.text.specs.Pasting.{pasted}
 use Rattle.text.proofs.Parts.{part-length}
-use Rattle.text.proofs.Pasting.{pasted-none, pasted-last, rest-pasted, pasted-no}
+use Rattle.text.proofs.Pasting.{rest-pasted}
+use Rattle.text.proofs.Lasts.{Made}
 
 abbrev pub Byte : ℕ → Type 0
 Byte x = x < 256
@@ -113,41 +114,10 @@ got-put d at w n h k =
     ∙ ap number (take-at (bigEndian w n) (drop (at + length (bigEndian w n)) d) w l)
     ∙ number-big w n k
 
--- ---- a loop that has yet to put k bytes of what is left
-
-pub record Putting (d₀ : List ℕ) (at w n : ℕ) (d : List ℕ) (k left : ℕ) : Type 0 where
-  pub upto : k ≤ w
-  pub room : at + w ≤ length d
-  pub long : length d ≡ length d₀
-  pub here : pasted d at (bigEndian k left) ≡ pasted d₀ at (bigEndian w n)
-
-pub put-not : (d : List ℕ) (at w n : ℕ) → length d < at + w → d ≡ pasted d at (bigEndian w n)
-put-not d at w n h = sym (pasted-no d at (bigEndian w n) (omega (arith, big-length w n)))
-
-module _ (d₀ : List ℕ) (at w n : ℕ) where
-  pub put-start : at + w ≤ length d₀ → Putting d₀ at w n d₀ w n
-  put-start h = record { upto = omega arith; room = h; long = refl; here = refl }
-
-  module _ (d : List ℕ) (k left : ℕ) (p : Putting d₀ at w n d k left) where
-    pub put-end : k ≤ 0 → d ≡ pasted d₀ at (bigEndian w n)
-    unfolding bigEndian
-    put-end h =
-        let z : k ≡ 0 = omega arith in
-        sym (pasted-none d at) ∙ ap (λ (m : ℕ). pasted d at (bigEndian m left)) (sym z) ∙ p .here
-
-    pub put-again : 0 < k → Putting d₀ at w n (set d (at + (k - 1)) (left % 256)) (k - 1) (left / 256)
-    put-again h =
-        let e : length (bigEndian (k - 1) (left / 256)) ≡ k - 1 = big-length (k - 1) (left / 256) in
-        record {
-          upto = omega (arith, p .upto);
-          room = omega (arith, p .room, length-set d (at + (k - 1)) (left % 256));
-          long = length-set d (at + (k - 1)) (left % 256) ∙ p .long;
-          here =
-              ap (λ (j : ℕ). pasted (set d (at + j) (left % 256)) at (bigEndian (k - 1) (left / 256))) (sym e)
-              ∙ pasted-last d at (bigEndian (k - 1) (left / 256)) (left % 256) (omega (arith, p .room, p .upto))
-              ∙ ap (pasted d at) (sym (big-pred k left h))
-              ∙ p .here;
-        }
+-- the bytes of a number, one less and the last
+pub big-made : Made bigEndian (λ (n : ℕ). n / 256) (λ (n : ℕ). n % 256)
+unfolding bigEndian
+big-made = record { none = λ n. refl; long = big-length; more = big-pred }
 
 -- ---- a loop that has read k bytes of n, which write r
 

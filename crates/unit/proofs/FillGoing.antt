@@ -14,6 +14,7 @@ use Rattle.answer.specs.Table.{accepted, badValue}
 use Rattle.text.specs.Bytes.{isBlank}
 use Rattle.text.specs.Lists.{span}
 use Rattle.text.specs.Pasting.{pasted}
+use Rattle.text.specs.Puts.{Puts}
 use Rattle.text_characters.specs.Pieces.{less, greater, solidus}
 use Rattle.list.specs.Listing.{Listing, rowAt, size, Child, child, isGroup}
 use Rattle.list.specs.Table.{cell, listOf}
@@ -45,7 +46,7 @@ use Rattle.file_walk.proofs.Known.{less-is, is-open, close-end, blanks-less, We
 use Rattle.image.specs.Image.{header}
 use Rattle.file.specs.Instance.{Kinds}
 use Rattle.unit.specs.declared.fill.Spot.{Spot}
-use Rattle.file_measure.specs.Pass.{Puts, Shuts, Passes, violates, holds}
+use Rattle.file_measure.specs.Pass.{Shuts, Passes, violates, holds}
 use Rattle.unit.specs.Fill.{spotAt, Comes}
 use Rattle.file_measure.proofs.Leaf.{opens-group, opens-leaf, shuts-group}
 use Rattle.file.proofs.One.{fine-found}

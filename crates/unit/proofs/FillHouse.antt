@@ -11,6 +11,7 @@ use Rattle.answer.specs.Table.{accepted}
 use Rattle.text.specs.Bytes.{isBlank}
 use Rattle.text.specs.Lists.{span}
 use Rattle.text.specs.Pasting.{pasted}
+use Rattle.text.specs.Puts.{Puts}
 use Rattle.text_characters.specs.Pieces.{less, greater, solidus}
 use Rattle.list.specs.Table.{cell, listOf}
 use Rattle.list.specs.Listing.{child}
@@ -29,7 +30,7 @@ use Rattle.file.specs.Instance.{houseKinds}
 use Rattle.file.proofs.House.{spelling}
 use Rattle.unit.specs.declared.fill.Spot.{Spot}
 use Rattle.file_measure.specs.Measured.{Faultless}
-use Rattle.file_measure.specs.Pass.{Puts, Shuts, Ready}
+use Rattle.file_measure.specs.Pass.{Shuts, Ready}
 use Rattle.unit.specs.Fill.{spotAt, Comes, FilledIn}
 use Rattle.file_measure.proofs.Coin.{coins}
 use Rattle.file_measure.proofs.End.{filled-of}

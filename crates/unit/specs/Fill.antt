@@ -7,6 +7,7 @@ use Prim.Native.Nat.{ℕ, _≤_}
 use lib.Dec.{eqb}
 use lib.ListN.{length}
 use Rattle.text.specs.Pasting.{pasted}
+use Rattle.text.specs.Puts.{Puts}
 use Rattle.list.specs.Listing.{Listing, size, Child, child}
 use Rattle.list.specs.Content.{Content}
 use Rattle.list.specs.Table.{cell, listOf}
@@ -15,7 +16,6 @@ use Rattle.image.specs.Image.{header}
 use Rattle.file.specs.Instance.{Kinds}
 use Rattle.file.specs.File.{imageOf}
 use Rattle.file_measure.specs.Measured.{Message}
-use Rattle.file_measure.specs.Pass.{Puts}
 use Rattle.unit.specs.declared.fill.Spot.{Spot}
 
 -- the header of an image, whatever its list, and the root's row byte, at the start of a buffer

@@ -4,7 +4,7 @@ use mathlib.Core.Bool.{Bool, true, false, cond}
 use mathlib.Core.Logic.{_↔_, inl}
 use mathlib.Core.List.{List, [], _∷_, _++_, append-assoc, append-nil}
 use Prim.Native.Nat.{ℕ, zero, suc, _+_, _*_, _-_, _/_, _%_, _^_, _≤_, _<_}
-use native.Mathlib.Nat.{pow-suc, div-one, div-div-eq-div-mul, mul-comm}
+use native.Mathlib.Nat.{div-one}
 use native.Mathlib.Decide.{decLt}
 use native.Mathlib.Omega.{arith}
 use lib.Dec.{eqb, ltb}
@@ -12,8 +12,8 @@ use lib.ListN.{length, length-append}
 use borrow.Author.Tests.{eqb-true, ltb-true, ltb-false}
 use Rattle.text.specs.Bytes.{ascii, isDigit}
 use Rattle.text.specs.Lists.{All}
-use Rattle.program_line.specs.Line.{digits as figuresIn, decimal as inDigits}
-use Rattle.program_line.proofs.Digits.{decimal-one, decimal-more, length-some, length-most}
+use Rattle.text.specs.Digits.{digits as figuresIn, inDigits, padded}
+use Rattle.text.proofs.Digits.{digits-one, digits-more, length-some, length-most, length-padded, tenths}
 use Rattle.list.specs.Listing.{Leaf, ref, iban, ccy, bool, num, amt, date, dtm, txt, enum}
 use Rattle.value.specs.Plain.{decimalFrom, decimal, Num, Says, Trimmed}
 use Rattle.value.specs.Amount.{Decimal, Bounded, Amount, absent as whole, point}
@@ -23,7 +23,7 @@ use Rattle.value.specs.Value.{Value, text, day, moment, IsValue, Form, Left, Sp
 use Rattle.value.proofs.Classes.{digit-yes}
 use Rattle.value.proofs.Decimals.{canon}
 use Rattle.value.proofs.Values.{value-laws}
-use Rattle.value_to_text.specs.Script.{padded, amountText, truthText, fractionOf, zoneOf, scriptOf, currencyOf}
+use Rattle.value_to_text.specs.Script.{amountText, truthText, fractionOf, zoneOf, scriptOf, currencyOf}
 use Rattle.value_to_text.specs.Spelled.{Spelled}
 
 -- ---- digits: which number they write
@@ -45,13 +45,13 @@ record Figures (n : ℕ) : Type 0 where
 figures-one : (n : ℕ) → n < 10 → Figures n
 unfolding decimalFrom
 figures-one n h =
-    let e = decimal-one n h in
+    let e = digits-one n h in
     let i : 0 * 10 + (48 + n - 48) ≡ n = omega arith in
     record { digits = rw e (digit-yes n h, tt); is = ap decimal e ∙ i }
 
 figures-more : (n : ℕ) → 10 ≤ n → Figures (n / 10) → Figures n
 figures-more n h f =
-    let e = decimal-more n h in
+    let e = digits-more n h in
     let i : n / 10 * 10 + n % 10 ≡ n = omega arith in
     record {
       digits = rw e (all-append isDigit (inDigits (n / 10)) ((48 + n % 10) ∷ []) (f .digits) (digit-yes (n % 10) (omega arith), tt));
@@ -75,10 +75,10 @@ first-digit zero n h z t e = omega arith
 first-digit (suc f) n h z t e = go (decLt n 10) (first-digit f (n / 10)) (inDigits (n / 10)) refl
   where
     go : Dec (n < 10) → (n / 10 ≤ f → 0 < n / 10 → (t : List ℕ) → inDigits (n / 10) ≡ 48 ∷ t → ⊥) → (u : List ℕ) → inDigits (n / 10) ≡ u → ⊥
-    go (yes d) ih u q = let p = decimal-one n d in let w : 48 + n ≡ 48 = cc in omega arith
+    go (yes d) ih u q = let p = digits-one n d in let w : 48 + n ≡ 48 = cc in omega arith
     go (no d) ih [] q = omega (arith, ap length q, length-some (n / 10))
     go (no d) ih (x ∷ u) q =
-        let p : 48 ∷ t ≡ (x ∷ u) ++ ((48 + n % 10) ∷ []) = sym e ∙ decimal-more n (omega arith) ∙ ap (λ (l : List ℕ). l ++ ((48 + n % 10) ∷ [])) q in
+        let p : 48 ∷ t ≡ (x ∷ u) ++ ((48 + n % 10) ∷ []) = sym e ∙ digits-more n (omega arith) ∙ ap (λ (l : List ℕ). l ++ ((48 + n % 10) ∷ [])) q in
         let w : x ≡ 48 = cc in
         ih (omega arith) (omega arith) u (q ∙ ap (λ (y : ℕ). y ∷ u) w)
 
@@ -90,11 +90,6 @@ number-spelt n h = record { lengths = (length-some n, length-most 17 n h); digit
 
 -- ---- amounts
 
-length-padded : (k n : ℕ) → length (padded k n) ≡ k
-unfolding padded
-length-padded zero n = refl
-length-padded (suc k) n = omega (arith, length-append (padded k (n / 10)) ((48 + n % 10) ∷ []), length-padded k (n / 10))
-
 digits-padded : (k n : ℕ) → All isDigit (padded k n)
 unfolding padded
 digits-padded zero n = tt
@@ -105,9 +100,8 @@ joined : (k c : ℕ) → decimal (inDigits (c / 10 ^ k) ++ padded k c) ≡ c
 unfolding padded
 joined zero c = ap decimal (append-nil (inDigits (c / 1))) ∙ figures (c / 1) .is ∙ div-one c
 joined (suc k) c =
-    let e : c / 10 ^ suc k ≡ c / 10 / 10 ^ k = ap (λ (w : ℕ). c / w) (pow-suc 10 k ∙ mul-comm (10 ^ k) 10) ∙ sym (div-div-eq-div-mul c 10 (10 ^ k)) in
     let i : c / 10 * 10 + c % 10 ≡ c = omega arith in
-    ap (λ (w : ℕ). decimal (inDigits w ++ (padded k (c / 10) ++ ((48 + c % 10) ∷ [])))) e
+    ap (λ (w : ℕ). decimal (inDigits w ++ (padded k (c / 10) ++ ((48 + c % 10) ∷ [])))) (tenths k c)
     ∙ ap decimal (sym (append-assoc (inDigits (c / 10 / 10 ^ k)) (padded k (c / 10)) ((48 + c % 10) ∷ [])))
     ∙ last-digit 0 (inDigits (c / 10 / 10 ^ k) ++ padded k (c / 10)) (c % 10)
     ∙ ap (λ (w : ℕ). w * 10 + c % 10) (joined k (c / 10)) ∙ i

@@ -1,4 +1,4 @@
--- The definitions of `script`.
+-- The definitions of `value_to_text`.
 -- the one text of a value
 pub mod Script
 -- the values that some text spells

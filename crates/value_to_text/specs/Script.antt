@@ -1,25 +1,19 @@
 -- The text that is written for a value: of all that spell it, this one. Assumes nothing.
 use mathlib.Core.Bool.{Bool, true, false, cond}
-use mathlib.Core.List.{List, [], _∷_, _++_}
-use Prim.Native.Nat.{ℕ, zero, suc, _+_, _-_, _/_, _%_, _^_}
+use mathlib.Core.List.{List, [], _∷_}
+use Prim.Native.Nat.{ℕ, zero, suc, _-_, _/_, _%_}
 use lib.Dec.{eqb, ltb}
 use lib.ListN.{getD}
 use Rattle.text.specs.Bytes.{ascii}
-use Rattle.program_line.specs.Line.{decimal}
+use Rattle.text.specs.Digits.{inDigits, pointed}
 use Rattle.list.specs.Listing.{Leaf, ref, iban, ccy, bool, num, amt, date, dtm, txt, enum}
 use Rattle.value.specs.Day.{dayText}
 use Rattle.value.specs.Moment.{Fraction, absent, six, fractionText, Zone, zulu, ahead, behind, zoneText, clockText}
 use Rattle.value.specs.Value.{Value, text, place, truth, natural, amount, day, moment}
 
--- the last k digits of n
-unfoldable pub padded : ℕ → ℕ → List ℕ
-padded zero n = []
-padded (suc k) n = padded k (n / 10) ++ ((48 + n % 10) ∷ [])
-
 -- "amounts with their smallest scale and digits written most significant first (as `0.5` and `7`)"
 abbrev pub amountText : ℕ → ℕ → List ℕ
-amountText zero c = decimal c
-amountText (suc k) c = decimal (c / 10 ^ suc k) ++ (46 ∷ padded (suc k) c)
+amountText k c = pointed k c
 
 -- "BOOL as `true` or `false`"
 abbrev pub truthText : Bool → List ℕ
@@ -51,7 +45,7 @@ abbrev pub scriptOf : Leaf → Value → List ℕ
 scriptOf f (text cs) = cs
 scriptOf f (place n) = getD (wordsOf f) (n - 1) []
 scriptOf f (truth b) = truthText b
-scriptOf f (natural n) = decimal n
+scriptOf f (natural n) = inDigits n
 scriptOf f (amount w k c) = amountText k c
 scriptOf f (day y m d) = dayText y m d []
 scriptOf f (moment y mo d h mi s u z) = dayText y mo d (84 ∷ clockText h mi s (fractionText (fractionOf u) (zoneText (zoneOf z) [])))

@@ -17,5 +17,7 @@ pub mod Theorem
 pub mod Jump
 -- one tree for each text
 pub mod Unique
+-- house XML is UTF-8
+pub mod Coded
 -- worked examples
 pub mod Examples

@@ -7,7 +7,8 @@ use mathlib.Core.Path.{refl}
 use mathlib.Core.List.{[]}
 use lib.ListN.{length}
 use Prim.Native.Nat.{_-_}
-use Rattle.file_measure.proofs.Puts.{head-nowhere, pasted-nowhere}
+use Rattle.text.proofs.Puts.{pasted-nowhere}
+use Rattle.file_measure.proofs.Head.{head-nowhere}
 use Rattle.file_measure.proofs.House.{GoingOn, begins-refused, begins-other, begins, at-low, loop-refused, loop-lost, group-less, group-on, root-end, leaf-less, leaf-on, leaf-bad, measures}
 
 abbrev Inv-loop : tie.InvT-loop

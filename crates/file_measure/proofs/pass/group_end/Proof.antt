@@ -3,7 +3,7 @@ use borrow.Author.Needs.{needs}
 use Rattle.file_measure.proofs.pass.group_end.Statement.{statement}
 use Rattle.file_measure.proofs.pass.group_end.Tie as tie
 use mathlib.Core.Path.{refl}
-use Rattle.file_measure.proofs.Puts.{pasted-nowhere}
+use Rattle.text.proofs.Puts.{pasted-nowhere}
 use Rattle.file_measure.proofs.Leaf.{opens-group, opens-leaf}
 
 cell-requires : tie.Need-cell-requires

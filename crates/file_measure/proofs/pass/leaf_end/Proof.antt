@@ -5,8 +5,8 @@ use Rattle.file_measure.proofs.pass.leaf_end.Tie as tie
 use mathlib.Core.Path.{refl}
 use mathlib.Core.List.{[]}
 use native.Mathlib.Omega.{arith}
+use Rattle.text.proofs.Puts.{pasted-nowhere}
 use Rattle.value_to_bytes.proofs.Theorems.{bytes-some}
-use Rattle.file_measure.proofs.Puts.{pasted-nowhere}
 use Rattle.file_measure.proofs.Leaf.{shuts-group, shuts-none, shuts-some}
 use Rattle.file_measure.proofs.Value.{leaf-kind}
 

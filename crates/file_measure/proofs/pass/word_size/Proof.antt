@@ -1,8 +1,8 @@
 -- `pass::word_size` meets its contract. Assumes nothing.
 use borrow.Author.Needs.{needs}
+use Rattle.text.proofs.Puts.{pasted-nowhere}
 use Rattle.file_measure.proofs.pass.word_size.Statement.{statement}
 use Rattle.file_measure.proofs.pass.word_size.Tie as tie
-use Rattle.file_measure.proofs.Puts.{pasted-nowhere}
 use Rattle.file_measure.proofs.Value.{worded-none, worded-some}
 
 word-byte-requires : tie.Need-word-byte-requires

@@ -3,7 +3,7 @@ use borrow.Author.Needs.{needs}
 use Rattle.program_line.proofs.answer_line.spread_next.Statement.{statement}
 use Rattle.program_line.proofs.answer_line.spread_next.Tie as tie
 use native.Mathlib.Omega.{arith}
-use Rattle.program_line.specs.Line.{decimal}
+use Rattle.text.specs.Digits.{inDigits}
 use Rattle.program_line.proofs.Lines.{blank-then}
 
 slice-aggregate-copy : tie.Need-slice-aggregate-copy
@@ -29,7 +29,7 @@ returns c =
     let o = c .before .before .before .before .before .before .before .before .before .before in
     let p = c .before .before .put in (
       omega (arith, p .ensures .0),
-      (omega (arith, p .ensures .1 .0), rw (p .ensures .1 .1, c .before .before .before .before .before .before .copy .ensures) (blank-then (o .args .buf .now) (decimal (o .args .n)) (o .args .at) (omega (arith, p .ensures .0, p .ensures .1 .0, o .pre)))),
+      (omega (arith, p .ensures .1 .0), rw (p .ensures .1 .1, c .before .before .before .before .before .before .copy .ensures) (blank-then (o .args .buf .now) (inDigits (o .args .n)) (o .args .at) (omega (arith, p .ensures .0, p .ensures .1 .0, o .pre)))),
     )
 
 pub spread-next-spec : {M : Type 1} → statement M

@@ -5,7 +5,7 @@ use Rattle.unit.proofs.fill.put_head.Tie as tie
 use mathlib.Core.Path.{refl}
 use Rattle.image.specs.Image.{header}
 use Rattle.text.specs.Numbers.{bigEndian}
-use Rattle.file_measure.proofs.Puts.{puts-pasted}
+use Rattle.text.proofs.Puts.{puts-pasted}
 
 slice-aggregate-copy : tie.Need-slice-aggregate-copy
 slice-aggregate-copy c = search needs
