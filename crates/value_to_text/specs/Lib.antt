@@ -1,5 +1,9 @@
--- The definitions of `script`.
+-- The definitions of `value_to_text`.
 -- the one text of a value
 pub mod Script
 -- the values that some text spells
 pub mod Spelled
+-- the bytes of characters in text
+pub mod Raw
+-- a mirror: what is written for the bytes of a value
+pub mod Stored
