@@ -13,6 +13,7 @@ use lib.Seq.{slice, slice-empty, slice-cons, length-slice, take-take, take-nil, 
 use borrow.Author.Tests.{eq-eqb, ne-eqb}
 use Rattle.text.specs.Lists.{span, same}
 use Rattle.text.proofs.Spans.{span-le}
+use Rattle.text.proofs.Parts.{part-take}
 use Rattle.list.specs.Table.{words, longer, placeFrom, placeIn}
 use Rattle.list.specs.Lookup.{notSpace}
 use Rattle.list.proofs.Tests.{byCases}
@@ -63,6 +64,10 @@ take-drop : (k i : ℕ) (xs : List ℕ) → take k (drop i xs) ≡ drop i (take 
 take-drop k zero xs = let e : k ≡ 0 + k = omega arith in ap (λ n. take n xs) e
 take-drop k (suc i) [] = take-nil k ∙ sym (ap (drop (suc i)) (take-nil (suc i + k)) ∙ drop-nil (suc i))
 take-drop k (suc i) (x ∷ xs) = take-drop k i xs ∙ sym (ap (λ n. drop (suc i) (take n (x ∷ xs))) (suc-add i k))
+
+empty-part : (xs : List ℕ) → length xs ≡ 0 → xs ≡ []
+empty-part [] e = refl
+empty-part (x ∷ xs) e = absurd (omega arith)
 
 -- the first k of a part
 slice-take : (k i e : ℕ) (xs : List ℕ) → k ≤ length (slice i e xs) → take k (slice i e xs) ≡ slice i (i + k) xs
@@ -157,3 +162,51 @@ module _ {pool w : List ℕ} {e i place n j : ℕ} {x : Bool} (k : Seeks pool w 
         rw (add-one place)
         (sym (place-on w place (slice i j pool) (words (slice (j + 1) e pool)) (sym f ∙ y)) ∙ stays _ (next-word pool i e j (k .to) at h));
   }
+
+-- ---- counting to a word
+
+-- the n-th word is still left words behind the one that starts at i
+pub record Counts (pool : List ℕ) (e i left : ℕ) (w : List ℕ) : Type 0 where
+  pub to : e ≤ length pool
+  pub rest : getD (words (slice i e pool)) left [] ≡ w
+
+pub count-start : (pool : List ℕ) (i x e y z n : ℕ) → e ≡ min x (length pool) → i ≡ y → x ≡ z → Counts pool e i n (getD (words (slice y z pool)) n [])
+count-start pool i x e y z n h f g = record {
+  to = omega arith;
+  rest = ap (λ p. getD (words p) n []) (slice-least pool i x e h ∙ ap₂ (λ a b. slice a b pool) f g);
+}
+
+no-word : (n : ℕ) → [] ≡ getD (words []) n []
+unfolding words
+no-word zero = refl
+no-word (suc n) = refl
+
+module _ {pool : List ℕ} {e i left : ℕ} {w : List ℕ} (k : Counts pool e i left w) where
+  pub count-over : e ≤ i → [] ≡ w
+  count-over h =
+      let z : slice i e pool ≡ [] = empty-part (slice i e pool) (omega (arith, length-slice i e pool (k .to))) in
+      no-word left ∙ ap (λ p. getD (words p) left []) (sym z) ∙ k .rest
+
+  module _ {j : ℕ} (at : j ≡ i + span notSpace (slice i e pool)) where
+    pub count-end : i < e → j ≤ e
+    count-end h = omega (arith, span-le notSpace (slice i e pool), length-slice i e pool (k .to))
+
+    pub count-found : left ≡ 0 → take (j - i) (drop i pool) ≡ w
+    count-found z =
+        let a : j ≡ i + (j - i) = omega arith in
+        sym (part-take i (j - i) pool) ∙ ap (λ n. slice i n pool) (sym a) ∙ elim (decLt j e) [
+          | yes h ↦ ap₂ (λ ws n. getD ws n []) (sym (next-word pool i e j (k .to) at h)) (sym z) ∙ k .rest
+          | no h ↦ ap₂ (λ ws n. getD ws n []) (sym (last-word pool i e j (k .to) at (omega arith))) (sym z) ∙ k .rest
+        ]
+
+    pub count-again : 0 < left → Counts pool e (j + 1) (left - 1) w
+    count-again z =
+        let a : left ≡ suc (left - 1) = omega arith in
+        record {
+          to = k .to;
+          rest = elim (decLt j e) [
+            | yes h ↦ ap₂ (λ ws n. getD ws n []) (sym (next-word pool i e j (k .to) at h)) (sym a) ∙ k .rest
+            | no h ↦ ap (λ p. getD (words p) (left - 1) []) (empty-part (slice (j + 1) e pool) (omega (arith, length-slice (j + 1) e pool (k .to))))
+                ∙ sym (no-word (left - 1)) ∙ ap₂ (λ ws n. getD ws n []) (sym (last-word pool i e j (k .to) at (omega arith))) (sym a) ∙ k .rest
+          ];
+        }

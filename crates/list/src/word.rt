@@ -5,8 +5,9 @@ use crate::table::WORDS_END;
 use text::part::least;
 use text::part::same_part;
 ghost use mathlib.Core.Path.{_≡_};
+ghost use mathlib.Core.List.{[]};
 ghost use Prim.Native.Nat.{_+_, _≤_};
-ghost use lib.ListN.{length};
+ghost use lib.ListN.{length, getD};
 ghost use lib.Seq.{slice};
 ghost use Rattle.text.specs.Lists.{span};
 ghost use Rattle.list.specs.Table.{byteOf, placeIn, wordsIn};
@@ -47,7 +48,25 @@ pub fn word_place(rows: &[u16], pool: &[u8], r: usize, s: &[u8], a: usize, b: us
     }
 }
 
-// That place as the byte of an image; 0 also where no byte has it, which no well-formed list makes happen.
+// The n-th word of row r, from 0: that part of the pool, empty where there is none.
+pub fn nth_word<'a>(rows: &[u16], pool: &'a [u8], r: usize, n: usize) -> &'a [u8]
+    ensures { λ w. ⌜ now w ≡ getD (wordsIn (now (rows .entry)) (now (pool .entry)) r) n [] ⌝ }
+{
+    let end = least(cell(rows, r, WORDS_END), pool.len());
+    let mut i = cell(rows, r, WORDS);
+    let mut left = n;
+    while i < end {
+        let j = word_end(pool, i, end);
+        if left == 0 {
+            return &pool[i..j];
+        }
+        left -= 1;
+        i = j + 1;
+    }
+    &pool[0..0]
+}
+
+// The place of a word as the byte of an image; 0 also where no byte has it, which no well-formed list makes happen.
 pub fn word_byte(rows: &[u16], pool: &[u8], r: usize, s: &[u8], a: usize, b: usize) -> u8
     ensures { λ x. ⌜ x ≡ byteOf (placeIn (wordsIn (now (rows .entry)) (now (pool .entry)) r) (slice a b (now (s .entry)))) ⌝ }
 {

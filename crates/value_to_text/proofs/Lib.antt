@@ -1,3 +1,9 @@
 -- The laws of `value_to_text`.
 -- the text of a value spells it, so a type has exactly the values that some text spells
 pub mod Scripts
+-- bytes, three of them by entities
+pub mod Escaping
+-- days and moments, piece by piece
+pub mod Moments
+-- what is written, kind by kind
+pub mod Writing

@@ -3,3 +3,7 @@
 pub mod Script
 -- the values that some text spells
 pub mod Spelled
+-- the bytes of characters in text
+pub mod Raw
+-- a mirror: what is written for the bytes of a value
+pub mod Stored
