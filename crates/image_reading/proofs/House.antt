@@ -9,16 +9,18 @@ use native.Mathlib.Decide.{decLt, ℕ-discrete}
 use lib.ListN.{length, take, drop, take-append-drop, length-append}
 use lib.Seq.{length-take-le, drop-at}
 use Rattle.answer.specs.declared.Answer.{Answer}
-use Rattle.answer.specs.Table.{limit, accepted, tooLong, noHeader, wrongVersion}
+use Rattle.answer.specs.Table.{limit, accepted, tooLong, noHeader, wrongVersion, noSuchLeaf}
 use Rattle.text.specs.Bytes.{ascii}
-use Rattle.list.specs.Listing.{Listing}
+use Rattle.list.specs.Listing.{Listing, rowAt, isGroup}
 use Rattle.list.specs.WellFormed.{WellFormed}
 use Rattle.list.specs.Content.{Content, Meets}
 use Rattle.list.specs.Table.{listOf}
 use Rattle.list.specs.Sound.{Sound}
 use Rattle.list.specs.Laid.{onto, zeros, laid}
 use Rattle.list_house.specs.HouseTable.{housePool}
+use Rattle.list_house.specs.Kind.{houseKind}
 use Rattle.list_house.specs.Lists.{kept, keptRows}
+use Rattle.list_house.proofs.HouseKind.{low-group}
 use Rattle.list_house.proofs.Lists.{kept-is, kept-sound, kept-well}
 use Rattle.value.specs.Value.{Value, IsValue}
 use Rattle.image.specs.Image.{versioned, header, body, image}
@@ -207,6 +209,13 @@ module _ (run : List ℕ) (t : List ℕ) (y : Says t) where
 module _ (run : List ℕ) where
   pub begun-none : (x : Reading) → Begun run x → (r n : ℕ) → x .answer .code ≢ 0 → HousePicks run r n (x .answer) []
   begun-none x b r n z = refused (begun-reads run x b) z refl
+
+  -- a row whose kind is no leaf's has no value
+  pub begun-group : (x : Reading) → Begun run x → (r n : ℕ) → x .answer .code ≡ 0 → houseKind r < 2 → HousePicks run r n noSuchLeaf []
+  begun-group x (refuses k c f g) r n z h = absurd (c z)
+  begun-group x (accepts lim m w e f g) r n z h =
+      let group : isGroup (rowAt (w .list) r .kind) ≡ true = rw (only (w .list) (w .among)) (low-group (rowAt kept r .kind) h) in
+      missing lim m w (inl group) refl refl
 
   -- the first image has one length and one content
   pub house-accepts-one : (m n : ℕ) (a : HouseAccepts run m) (b : HouseAccepts run n) → (m ≡ n) × (a .holds .content ≡ b .holds .content)

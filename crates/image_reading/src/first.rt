@@ -7,6 +7,8 @@ use image::picker::pick_from;
 use image::picker::picked_from;
 use image::reader::body;
 use list::lay::lay;
+use list::table::REF;
+use list_house::kinds::kind;
 use list_house::tables::rows;
 ghost use mathlib.Core.Path.{_≡_};
 ghost use Rattle.list.specs.Laid.{zeros, laid};
@@ -62,6 +64,9 @@ pub fn pick(run: &[u8], row: usize, n: usize) -> Answer
     if r.answer.code != Answer::ACCEPTED {
         return r.answer;
     }
+    if kind(row) < REF {
+        return Answer::no_such_leaf();
+    }
     pick_from(&table, run, r.from, row, n)
 }
 
@@ -72,6 +77,9 @@ pub fn picked<'a>(run: &'a [u8], row: usize, n: usize) -> &'a [u8]
     let mut table = [0u16; 4096];
     let r = begun(run, &mut table);
     if r.answer.code != Answer::ACCEPTED {
+        return &run[0..0];
+    }
+    if kind(row) < REF {
         return &run[0..0];
     }
     picked_from(&table, run, r.from, row, n)
