@@ -52,6 +52,12 @@ next-one h a b p q x y =
     let g : p .run ≡ q .run = x .holds ∙ sym (y .holds) in
     (e, λ i. record { run = g i; at = f i })
 
+pub steps-one : (run : List ℕ) (at : ℕ) (x y : Step) → Steps run at x → Steps run at y → x ≡ y
+steps-one run at x y p q =
+    let e : x .answer ≡ y .answer = house-reads-one (drop at run) (x .answer) (y .answer) (p .reads) (q .reads) in
+    let f : x .at ≡ y .at = moves-one (y .answer) at (x .at) (y .at) (subst (λ (c : Answer). Moves c at (x .at)) e (p .moves)) (q .moves) in
+    λ i. record { answer = e i; at = f i }
+
 -- wherever it stands, some answer and some place fit
 pub next-some : (h : Held) → (a : Answer) × (p : Held) × Next h a p
 next-some h = let x = house-reads-some (left h) in go (x .0) (x .1) (ℕ-discrete (x .0 .code) 0)
