@@ -33,7 +33,7 @@ NAMES = {
         'Amount 2, Found 2, answer 2, spell 2, textOf 2',
     'to be renamed in the definitions':
         'Answers 2, Begins 2, Content 2, Counts 2, Good 2, Parts 2, Says 2, absent 4, behind 2, bytes 3, char 2, currency 3, '
-        'empty 3, end 2, found 3, image 2, listed 3, none 3, now 2, over 2, refused 2, single 2, some 2, whole 2',
+        'empty 3, end 2, found 2, image 2, listed 3, none 3, now 2, over 2, refused 2, single 2, some 2, whole 2',
 }
 
 # A name is any run of characters but these (the kit's primer, 4.1); a comment begins at `--`, but not in a quoted text.

@@ -8,7 +8,6 @@ use Prim.Native.Nat.{ℕ}
 use native.Mathlib.Omega.{arith}
 use lib.Dec.{eqb, ltb}
 use Rattle.answer.specs.declared.Answer.{Answer}
-use Rattle.answer.specs.Table.{answer}
 use Rattle.answer.specs.Table as table
 use Rattle.text.specs.Bytes.{ascii, isBlank}
 use Rattle.text.specs.Lists.{Each, same}
@@ -22,7 +21,9 @@ use Rattle.xml.specs.Message.{Attrs, Parts, none, char, element}
 use Rattle.value.specs.Value.{Value, Spelt}
 use Rattle.value.specs.Spell.{spell}
 use Rattle.value.proofs.Spell.{spell-sound, spell-complete}
-use Rattle.file_walk.specs.First.{Found, fine, found, refuse, firstOf, isNone, empty, passed, breaks, textOf, currency, noAttrs, attrsOk, kindOf, isRoot, over, absent, childRows, opening, groupEnd, closing, inside, firstViolation}
+use Rattle.file_walk.specs.declared.found.Found.{Found}
+use Rattle.file_walk.specs.declared.found.Found.the-variants.{Fine, Violation}
+use Rattle.file_walk.specs.First.{refuse, firstOf, isNone, empty, passed, breaks, textOf, currency, noAttrs, attrsOk, kindOf, isRoot, over, absent, childRows, opening, groupEnd, closing, inside, firstViolation}
 use Rattle.file_walk.specs.Denotes.{LeafAttrs, Spells, Denotes, Has}
 use Rattle.file_walk.proofs.Answers.{no-attrs}
 use Rattle.file_walk.proofs.Attrs.{leaf-mean}
@@ -45,8 +46,8 @@ attrs-mean (leaf k) ats = leaf-mean houseTypes spelling k ats
 
 -- what is found has a property of answers
 abbrev Means : (Answer → Type 0) → Found → Type 0
-Means P fine = Unit {0}
-Means P (found c r o) = P (answer c r o)
+Means P Fine = Unit {0}
+Means P (Violation a) = P a
 
 module _ (P : Answer → Type 0) where
   refused : (b : Bool) (a : Answer) → (b ≡ true → P a) → Means P (refuse b a)
@@ -55,12 +56,12 @@ module _ (P : Answer → Type 0) where
 
   first : (fs : List Found) → Each (Means P) fs → Means P (firstOf fs)
   first [] h = tt
-  first (fine ∷ fs) h = first fs (h .1)
-  first (found c r o ∷ fs) h = h .0
+  first (Fine ∷ fs) h = first fs (h .1)
+  first (Violation a ∷ fs) h = h .0
 
 on : (P Q : Answer → Type 0) → ((a : Answer) → P a → Q a) → (f : Found) → Means P f → Means Q f
-on P Q g fine h = tt
-on P Q g (found c r o) h = g (answer c r o) h
+on P Q g Fine h = tt
+on P Q g (Violation a) h = g a h
 
 -- of 12, that an element's characters spell no value; of 9, that its attributes are not the type's
 abbrev Cause : ℕ → Parts → Answer → Type 0
@@ -151,8 +152,8 @@ means (element o n ats i k) =
       ),
     )
 
-pub causes : (m : Parts) (c r o : ℕ) → firstViolation houseTypes house m ≡ found c r o → Cause 1 (inner m) (answer c r o)
-causes m c r o e = subst (Means (Cause 1 (inner m))) e (means m)
+pub causes : (m : Parts) (a : Answer) → firstViolation houseTypes house m ≡ Violation a → Cause 1 (inner m) a
+causes m a e = subst (Means (Cause 1 (inner m))) e (means m)
 
 -- ---- however the value that is spelt is computed
 
@@ -259,6 +260,6 @@ module _ (f g : Speller) (df : Decides f) (dg : Decides g) where
   answers-on s d a d′ (long h e z) = long h e z
   answers-on s d a d′ (bytes h u n p e z) = bytes h u n p e z
   answers-on s d a d′ (markup h u x n p e z) = markup h u x n p e z
-  answers-on s d a d′ (violation w c r o p e z) = violation w c r o (first-same g dg (messageIn w) ∙ sym (first-same f df (messageIn w)) ∙ p) e z
+  answers-on s d a d′ (violation w p z) = violation w (first-same g dg (messageIn w) ∙ sym (first-same f df (messageIn w)) ∙ p) z
   answers-on s d a d′ (room c w h e z) = room c (file-on s c w) h e z
   answers-on s d a d′ (image c w h e z) = image c (file-on s c w) h e z

@@ -9,7 +9,7 @@ use lib.Dec.{eqb}
 use lib.ListN.{length, drop, length-append, length-drop}
 use borrow.Author.Tests.{ne-eqb}
 use Rattle.answer.specs.declared.Answer.{Answer}
-use Rattle.answer.specs.Table.{answer, accepted, limit, notUtf8, notHouseXml, noRoom, brokenImage}
+use Rattle.answer.specs.Table.{accepted, limit, notUtf8, notHouseXml, noRoom, brokenImage}
 use Rattle.answer.specs.Table as table
 use Rattle.text_characters.specs.Utf8.{Utf8, LongestUtf8}
 use Rattle.list.specs.Listing.{Leaf, Kind, group, choice, leaf, rowAt}
@@ -23,7 +23,8 @@ use Rattle.value.specs.Value.{Value, IsValue}
 use Rattle.value.specs.Spell.{spell}
 use Rattle.value_to_text.specs.Spelled.{Spelled}
 use Rattle.value_to_text.proofs.Scripts.{every-spelt}
-use Rattle.file_walk.specs.First.{found, firstViolation}
+use Rattle.file_walk.specs.declared.found.Found.the-variants.{Violation}
+use Rattle.file_walk.specs.First.{firstViolation}
 use Rattle.file_walk.proofs.Accept as walk
 use Rattle.file_walk.proofs.Beginning.{one-element}
 use Rattle.image.specs.Kinds.{values}
@@ -68,9 +69,9 @@ lines : (s d : List ℕ) (a : Answer) (d′ : List ℕ) → Checks s d a d′ �
 lines s d a d′ (long h e f) = (ap length f, inr (inl e, f))
 lines s d a d′ (bytes h u n p e f) = (ap length f, inr (inr (inl (line a notUtf8 n refl e)), f))
 lines s d a d′ (markup h u x n p e f) = (ap length f, inr (inr (inr (inl (line a notHouseXml n refl e))), f))
-lines s d a d′ (violation w c r o p e f) =
-    let v = violation-code houseTypes house (messageIn w) c r o p in
-    (ap length f, inr (inr (inr (inr (inl (omega (arith, code e), omega (arith, code e))))), f))
+lines s d a d′ (violation w p f) =
+    let v = violation-code houseTypes house (messageIn w) a p in
+    (ap length f, inr (inr (inr (inr (inl (v .0, v .1)))), f))
 lines s d a d′ (room c w h e f) = (ap length f, inr (inr (inr (inr (inr (line a noRoom (length (houseImage c)) refl e)))), f))
 lines s d a d′ (image c w h e f) =
     let x = houseImage c in
@@ -81,7 +82,7 @@ longer : (s : List ℕ) (a : Answer) (e′ d : List ℕ) → length s ≤ length
 longer s a e′ d g (long h e f) = (d, long h e refl)
 longer s a e′ d g (bytes h u n p e f) = (d, bytes h u n p e refl)
 longer s a e′ d g (markup h u x n p e f) = (d, markup h u x n p e refl)
-longer s a e′ d g (violation w c r o p e f) = (d, violation w c r o p e refl)
+longer s a e′ d g (violation w p f) = (d, violation w p refl)
 longer s a e′ d g (room c w h e f) = absurd (omega (arith, image-no-longer s c w))
 longer s a e′ d g (image c w h e f) = (houseImage c ++ drop (length (houseImage c)) d, image c w (omega arith) e refl)
 
@@ -123,7 +124,7 @@ Choice false A B = B
 module _ (s d : List ℕ) where
   -- what stands behind an answer, by its code
   abbrev Walked : Answer → Type 0
-  Walked a = (w : Whole s) × (firstViolation houseTypes house (messageIn w) ≡ found (a .code) (a .row) (a .place))
+  Walked a = (w : Whole s) × (firstViolation houseTypes house (messageIn w) ≡ Violation a)
 
   abbrev Why : Answer → Type 0
   Why a =
@@ -148,9 +149,9 @@ module _ (s d : List ℕ) where
     why (long h e f) = subst Why (sym e) h
     why (bytes h u n p e f) = subst Why (sym e) (h, u, p)
     why (markup h u x n p e f) = subst Why (sym e) (h, u, x, p)
-    why (violation w c r o p e f) =
-        let v = violation-code houseTypes house (messageIn w) c r o p in
-        subst Why (sym e) (on-walk (answer c r o) (v .0, v .1) .1 (w, p))
+    why (violation w p f) =
+        let v = violation-code houseTypes house (messageIn w) a p in
+        on-walk a (v .0, v .1) .1 (w, p)
     why (room c w h e f) = subst Why (sym e) (c, w, refl, h)
     why (image c w h e f) = subst Why (sym e) (c, w, refl, h)
 
@@ -159,7 +160,7 @@ module _ (s d : List ℕ) where
         let t = general.taken houseKinds house s d a d′ p (code z) in
         t .buffer ∙ ap₂ (λ (x : Content Value) (k : ℕ). houseImage x ++ drop k d) (one-content s (t .content) c (t .file) f) (sym (place (t .is)) ∙ place z)
 
-    cause : Checks s d a d′ → Within 4 13 a → (w : Whole s) × (firstViolation houseTypes house (messageIn w) ≡ found (a .code) (a .row) (a .place))
+    cause : Checks s d a d′ → Within 4 13 a → Walked a
     cause p h = on-walk a h .0 (why p)
 
     all-told : Checks s d a d′ → Told s d a d′
@@ -169,10 +170,10 @@ module _ (s d : List ℕ) where
       long = ((λ z. subst Why z (why p)), λ h. of-long houseKinds spelling house house-well s d a d′ h p .answer);
       bytes = λ n. ((λ z. subst Why z (why p)), λ g. of-bytes houseKinds spelling house house-well s d a d′ (g .0) (g .1) n (g .2) p .answer);
       markup = λ n. ((λ z. subst Why z (why p)), λ g. of-markup houseKinds spelling house house-well s d a d′ (g .0) (g .1) (g .2) n (g .3) p .answer);
-      walked = λ c r o m n. ((λ z. on-walk (answer c r o) (m, n) .0 (subst Why z (why p))), λ g. of-violation houseKinds spelling house house-well s d a d′ (g .0) c r o (g .1) p .answer);
+      walked = λ b h. ((λ z. on-walk b h .0 (subst Why z (why p))), λ g. of-violation houseKinds spelling house house-well s d a d′ (g .0) b (g .1) p .answer);
       room = λ n. ((λ z. subst Why z (why p)), λ g. of-room houseKinds spelling house house-well s d a d′ (g .0) (g .1) (omega (arith, g .2, g .3)) p .answer ∙ ap noRoom (sym (g .2)));
-      value = λ e. let v = cause p (omega arith, omega arith) in (v .0, causes (messageIn (v .0)) (a .code) (a .row) (a .place) (v .1) .0 e);
-      attributes = λ e. let v = cause p (omega arith, omega arith) in (v .0, causes (messageIn (v .0)) (a .code) (a .row) (a .place) (v .1) .1 e);
+      value = λ e. let v = cause p (omega arith, omega arith) in (v .0, causes (messageIn (v .0)) a (v .1) .0 e);
+      attributes = λ e. let v = cause p (omega arith, omega arith) in (v .0, causes (messageIn (v .0)) a (v .1) .1 e);
     }
 
 -- the reader accepts what begins with an image

@@ -18,7 +18,7 @@ use Prim.Native.Nat.{ℕ, _≤_, _<_}
 use lib.ListN.{length, take, drop}
 use Rattle.answer.specs.declared.Answer.{Answer}
 use Rattle.answer.specs.Table as table
-use Rattle.answer.specs.Table.{answer, accepted, limit, tooLong, notUtf8, notHouseXml, noRoom, noHeader, wrongVersion, brokenImage, noSuchLeaf}
+use Rattle.answer.specs.Table.{accepted, limit, tooLong, notUtf8, notHouseXml, noRoom, noHeader, wrongVersion, brokenImage, noSuchLeaf}
 use Rattle.text_characters.specs.Utf8.{Utf8, LongestUtf8}
 use Rattle.list.specs.Listing.{Leaf}
 use Rattle.list.specs.Content.{Content, Meets}
@@ -27,7 +27,8 @@ use Rattle.xml.specs.House.{HouseXml, Longest}
 use Rattle.xml.specs.Message.{messageOf}
 use Rattle.value.specs.Value.{Value, IsValue}
 use Rattle.value_to_text.specs.Spelled.{Spelled}
-use Rattle.file_walk.specs.First.{fine, found, firstViolation}
+use Rattle.file_walk.specs.declared.found.Found.the-variants.{Fine, Violation}
+use Rattle.file_walk.specs.First.{firstViolation}
 use Rattle.file_walk.specs.Denotes.{Has}
 use Rattle.image_reading.specs.Reads.{HouseReads, HousePicks}
 use Rattle.image_hold.specs.Held.{Next}
@@ -95,7 +96,7 @@ pub record Told (s d : List ℕ) (a : Answer) (d′ : List ℕ) : Type 0 where
   pub long : (a ≡ tooLong) ↔ (limit < length s)
   pub bytes : (n : ℕ) → (a ≡ notUtf8 n) ↔ ((length s ≤ limit) × (Utf8 s → ⊥) × LongestUtf8 s n)
   pub markup : (n : ℕ) → (a ≡ notHouseXml n) ↔ ((length s ≤ limit) × Utf8 s × (HouseXml s → ⊥) × Longest s n)
-  pub walked : (c r o : ℕ) → 4 ≤ c → c ≤ 13 → (a ≡ answer c r o) ↔ ((w : Whole s) × (firstViolation houseTypes house (messageIn w) ≡ found c r o))
+  pub walked : (b : Answer) → Within 4 13 b → (a ≡ b) ↔ ((w : Whole s) × (firstViolation houseTypes house (messageIn w) ≡ Violation b))
   -- "14 last"
   pub room : (n : ℕ) → (a ≡ noRoom n) ↔ ((c : Content Value) × HouseFile s c × (n ≡ length (houseImage c)) × (length d < n))
   -- where it says 12, or 9: an element of that row and place, whose characters spell no value, whose attributes are not the type's
@@ -112,7 +113,7 @@ pub record Begins (run : List ℕ) (n : ℕ) (c : Content Value) : Type 0 where
 pub record Message (s : List ℕ) (c : Content Value) : Type 0 where
   pub utf8 : Utf8 s
   pub xml : HouseXml s
-  pub good : firstViolation houseTypes house (messageOf (xml .tree)) ≡ fine
+  pub good : firstViolation houseTypes house (messageOf (xml .tree)) ≡ Fine
   pub has : Has houseTypes house (messageOf (xml .tree)) c
 
 pub record Demand2 : Type 0 where

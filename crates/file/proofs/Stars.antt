@@ -36,7 +36,9 @@ use Rattle.value.specs.Reading.{readOf, signedOf, pointOf, wholeOf, fracOf, ans
 use Rattle.list.specs.Table.{placeFrom}
 use Rattle.value.specs.Spell.{spell, frontOff, backOff, passesFrom, dayOf, fractionOf, zoneOf, momentOf}
 use Rattle.value.specs.Value.{Value}
-use Rattle.file_walk.specs.First.{Found, fine, found, absent, childRows, inside, firstViolation}
+use Rattle.file_walk.specs.declared.found.Found.{Found}
+use Rattle.file_walk.specs.declared.found.Found.the-variants.{Fine, Violation}
+use Rattle.file_walk.specs.First.{absent, childRows, inside, firstViolation}
 use Rattle.file_walk.specs.Machine.{before, fresh, advance, emits}
 use Rattle.file_walk.proofs.Accept.{accept}
 use Rattle.file_walk.proofs.Items.{items-are}
@@ -91,8 +93,8 @@ fits e x (from n) = leb (length x) n && (sameAnswer (e .answer) (accepted (lengt
 fits e x (under n) = leb n (length x) && (sameAnswer (e .answer) (noRoom (length x)) && isNil (e .image))
 
 abbrev walked : Star → List ℕ → Found → Bool
-walked e x fine = fits e x (e .lent)
-walked e x (found c r o) = sameAnswer (e .answer) (answer c r o) && isNil (e .image)
+walked e x Fine = fits e x (e .lent)
+walked e x (Violation a) = sameAnswer (e .answer) a && isNil (e .image)
 
 abbrev wayTest : Star → Way → Bool
 wayTest e (tree i) = contentTest 16 i && (oneTest i && (same (e .file) (whole (rootTree i)) && walked e (imageIn i) (foundIn i)))
@@ -150,7 +152,7 @@ module _ (e : Star) (chars : asciiTest (e .file) ≡ true) (size : leb (length (
       its : File houseKinds house (e .file) content
       pictured : imageOf houseKinds house content ≡ imageIn i
 
-    right : foundIn i ≡ fine → Right
+    right : foundIn i ≡ Fine → Right
     unfolding file image
     right z =
         let c = accept houseTypes spelling house house-well (messageOf (rootTree i)) (one-element i 0 one) z in
@@ -160,7 +162,7 @@ module _ (e : Star) (chars : asciiTest (e .file) ≡ true) (size : leb (length (
           pictured = ap (λ is′. header house ++ (bytes values house is′ ++ (0 ∷ []))) (sym (items-are houseTypes spelling house house-well (messageOf (rootTree i)) (c .0) (c .2)));
         }
 
-    fits-shown : foundIn i ≡ fine → (b : Buffers) → Lent b d → fits e (imageIn i) b ≡ true → Checks (e .file) d (e .answer) (left (e .image))
+    fits-shown : foundIn i ≡ Fine → (b : Buffers) → Lent b d → fits e (imageIn i) b ≡ true → Checks (e .file) d (e .answer) (left (e .image))
     fits-shown z every h t = absurd (false≢true t)
     fits-shown z (from m) h t =
         let r = right z in
@@ -179,10 +181,10 @@ module _ (e : Star) (chars : asciiTest (e .file) ≡ true) (size : leb (length (
 
     walked-shown : Lent (e .lent) d → (f : Found) → foundIn i ≡ f → walked e (imageIn i) f ≡ true → Checks (e .file) d (e .answer) (left (e .image))
     unfolding file
-    walked-shown l fine z t = fits-shown z (e .lent) l t
-    walked-shown l (found c r o) z t =
-        let a = and-is (sameAnswer (e .answer) (answer c r o)) (isNil (e .image)) t in
-        checks.violation file c r o z (same-answer (e .answer) (answer c r o) (a .0)) (kept (a .1))
+    walked-shown l Fine z t = fits-shown z (e .lent) l t
+    walked-shown l (Violation v) z t =
+        let a = and-is (sameAnswer (e .answer) v) (isNil (e .image)) t in
+        checks.violation file (z ∙ ap Violation (sym (same-answer (e .answer) v (a .0)))) (kept (a .1))
 
   way-shown : Lent (e .lent) d → (w : Way) → wayTest e w ≡ true → Checks (e .file) d (e .answer) (left (e .image))
   way-shown l (tree i) t =

@@ -18,8 +18,7 @@ use Rattle.image.specs.Kinds.{values}
 use Rattle.image.specs.Place.{whole as read}
 use Rattle.image.proofs.Answers.{accepting}
 use Rattle.image_reading.specs.Reads.{stored, HouseAccepts, HouseReads}
-use Rattle.image_reading.proofs.House.{only, house-accepts-one, house-reads-one}
-use Rattle.image_reading.proofs.Some.{house-reads-some}
+use Rattle.image_reading.proofs.House.{only, house-accepts-one, house-reads-one, house-reads-some}
 use Rattle.file.specs.Checks.{Checks}
 use Rattle.file_letter.specs.Letter.{letterOf}
 use Rattle.file_letter.specs.Writes.{letterIn, Delivers, large, short, whole, Writes, unread, begun}

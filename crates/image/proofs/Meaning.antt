@@ -94,7 +94,7 @@ module _ (t pool : List ℕ) (so : Sound t pool) (s : List ℕ) where
   leaf-value (leaf g) f none e o = absurd o
   leaf-value (leaf g) f (some w) e o = let d : g ≡ f = cc in (w, subst (λ (y : Leaf). IsValue y w) d o, refl)
 
-  ending : Ending t (itemEnd t s) s values l
+  pub ending : Ending t (itemEnd t s) s values l
   ending = record { none = λ x i a b c d e v u g o. absent x i b d e v u g o c (sort x i a b) a; some = λ x i a b c d e. present x i b d e (sort x i a b) a }
     where
       absent : (x i : ℕ) → x ≤ size l → i ≤ length s → itemEnd t s x i ≡ 0 → (v : Option Value) (u : List ℕ) → drop i s ≡ valueBytes values l (rowAt l x .kind) v ++ u → ItemOk values l x v → 0 < i → Sort x i → 0 < x → ⊥

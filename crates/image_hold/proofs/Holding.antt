@@ -11,7 +11,7 @@ use denote.Ref.{now}
 use Rattle.text.specs.Lists.{Each}
 use Rattle.answer.specs.declared.Answer.{Answer}
 use Rattle.answer.specs.Table.{limit, accepted, noHeader}
-use Rattle.list_house.specs.House.{house}
+use Rattle.list_house.specs.Lists.{kept}
 use Rattle.list.specs.Content.{Content, Meets}
 use Rattle.value.specs.Value.{Value, IsValue}
 use Rattle.image.specs.Image.{image, images}
@@ -79,34 +79,34 @@ next-past h a p past x = next-end h a p (drop-of-length-le (now (h .run)) past) 
 -- ---- dividing a run
 
 -- where an image stands, it is accepted, and what stands behind it is left
-pub next-takes : (h : Held) (a : Answer) (p : Held) (c : Content Value) (u : List ℕ) → Meets IsValue house c → length (left h) ≤ limit → left h ≡ image values house c ++ u → Next h a p
-    → (a ≡ accepted (length (image values house c))) × (left p ≡ u)
+pub next-takes : (h : Held) (a : Answer) (p : Held) (c : Content Value) (u : List ℕ) → Meets IsValue kept c → length (left h) ≤ limit → left h ≡ image values kept c ++ u → Next h a p
+    → (a ≡ accepted (length (image values kept c))) × (left p ≡ u)
 next-takes h a p c u m short at x =
-    let e : a ≡ accepted (length (image values house c)) = house-reads-one (left h) a (accepted (length (image values house c))) (x .reads) (whole short (length (image values house c)) (subst (λ (s : List ℕ). HouseAccepts s (length (image values house c))) (sym at) (image-begins values stored house (inl refl) c m u)) refl) in
-    let f : p .at ≡ h .at + length (image values house c) = x .moves .on (ap (λ (y : Answer). y .code) e) ∙ ap (λ (y : Answer). h .at + y .place) e in
+    let e : a ≡ accepted (length (image values kept c)) = house-reads-one (left h) a (accepted (length (image values kept c))) (x .reads) (whole short (length (image values kept c)) (subst (λ (s : List ℕ). HouseAccepts s (length (image values kept c))) (sym at) (image-begins values stored kept (inl refl) c m u)) refl) in
+    let f : p .at ≡ h .at + length (image values kept c) = x .moves .on (ap (λ (y : Answer). y .code) e) ∙ ap (λ (y : Answer). h .at + y .place) e in
     (e, behind f)
   where
-    behind : p .at ≡ h .at + length (image values house c) → left p ≡ u
+    behind : p .at ≡ h .at + length (image values kept c) → left p ≡ u
     behind f =
         ap (λ (r : List ℕ). drop (p .at) r) (ap now (x .holds))
         ∙ ap (λ (k : ℕ). drop k (now (h .run))) f
-        ∙ sym (drop-drop (length (image values house c)) (h .at) (now (h .run)))
-        ∙ ap (drop (length (image values house c))) at
-        ∙ drop-at (image values house c) u (length (image values house c)) refl
+        ∙ sym (drop-drop (length (image values kept c)) (h .at) (now (h .run)))
+        ∙ ap (drop (length (image values kept c))) at
+        ∙ drop-at (image values kept c) u (length (image values kept c)) refl
 
 -- what reading images laid end to end answers
 abbrev pub lengths : List (Content Value) → List Answer
 lengths [] = []
-lengths (c ∷ cs) = accepted (length (image values house c)) ∷ lengths cs
+lengths (c ∷ cs) = accepted (length (image values kept c)) ∷ lengths cs
 
 -- and as many calls as there are images accept each of them, and stand behind the last
-pub divides : (cs : List (Content Value)) (u : List ℕ) {h p : Held} {answers : List Answer} → Each (Meets IsValue house) cs → length (left h) ≤ limit → left h ≡ images values house cs ++ u → length answers ≡ length cs → Calls h answers p
+pub divides : (cs : List (Content Value)) (u : List ℕ) {h p : Held} {answers : List Answer} → Each (Meets IsValue kept) cs → length (left h) ≤ limit → left h ≡ images values kept cs ++ u → length answers ≡ length cs → Calls h answers p
     → (answers ≡ lengths cs) × (left p ≡ u)
 divides [] u m short at n rested = (refl, at)
 divides [] u m short at n (called x y) = absurd (omega arith)
 divides (c ∷ cs) u m short at n rested = absurd (omega arith)
 divides (c ∷ cs) u {h} m short at n (called {p = p} {a = a} x y) =
-    let at′ : left h ≡ image values house c ++ (images values house cs ++ u) = at ∙ append-assoc (image values house c) (images values house cs) u in
-    let t = next-takes h a p c (images values house cs ++ u) (m .0) short at′ x in
-    let r = divides cs u (m .1) (omega (arith, ap length at′, ap length (t .1), length-append (image values house c) (images values house cs ++ u))) (t .1) (omega arith) y in
+    let at′ : left h ≡ image values kept c ++ (images values kept cs ++ u) = at ∙ append-assoc (image values kept c) (images values kept cs) u in
+    let t = next-takes h a p c (images values kept cs ++ u) (m .0) short at′ x in
+    let r = divides cs u (m .1) (omega (arith, ap length at′, ap length (t .1), length-append (image values kept c) (images values kept cs ++ u))) (t .1) (omega arith) y in
     (ap₂ _∷_ (t .0) (r .0), r .1)

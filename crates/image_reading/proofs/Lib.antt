@@ -5,5 +5,3 @@ pub mod Heads
 pub mod House
 -- document 01's example
 pub mod Example
--- some answer fits every run
-pub mod Some

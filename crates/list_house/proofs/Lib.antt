@@ -5,3 +5,5 @@ pub mod HouseSound
 pub mod HouseKind
 -- a `match` on a number, each arm a computed test
 pub mod Arms
+-- what files are asked lies within what images keep to
+pub mod Lists

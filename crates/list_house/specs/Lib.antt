@@ -5,3 +5,5 @@ pub mod House
 pub mod HouseTable
 -- the kind of a row, as a number
 pub mod Kind
+-- the lists of files and of images
+pub mod Lists

@@ -1,10 +1,10 @@
--- `reader::lay` meets its contract. Assumes nothing.
-use Rattle.image.proofs.reader.lay.Statement.{statement}
-use Rattle.image.proofs.reader.lay.Tie as tie
+-- `lay::lay` meets its contract. Assumes nothing.
+use Rattle.list.proofs.lay.lay.Statement.{statement}
+use Rattle.list.proofs.lay.lay.Tie as tie
 use Prim.Native.Nat.{_-_}
 use native.Mathlib.Omega.{arith}
 use borrow.Author.Needs.{needs}
-use Rattle.image.proofs.Alike.{Laying, lay-none, lay-more, lay-all}
+use Rattle.list.proofs.Laid.{Laying, lay-none, lay-more, lay-all}
 
 abbrev Inv-loop : tie.InvT-loop
 Inv-loop rows table₀ n i₀ table i = Laying rows table₀ n table i
@@ -18,7 +18,7 @@ least-requires c κs =
 
 loop-holds : tie.Need-loop-holds Inv-loop μ-loop
 loop-holds c =
-    lay-none _ _ _ (c .least .ensures) (c .before .before .pre)
+    lay-none _ _ _ (c .least .ensures)
 
 mul-table : tie.Need-mul-table Inv-loop μ-loop
 mul-table c =
