@@ -1,0 +1,3 @@
+-- The laws of `images`.
+-- a run divided, image by image
+pub mod Dividing

@@ -1,0 +1,3 @@
+-- The definitions of `images`.
+-- what the program writes
+pub mod Divides

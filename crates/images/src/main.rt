@@ -1,0 +1,16 @@
+// The program: a run of images from standard input; for each image a line with its place and length to standard output, and behind the last
+// the line of the reader's refusal, where anything is left.
+mod divided; // divided.rt: what it writes, computed on slices
+
+use divided::divided;
+use libc::STDIN_FILENO;
+use libc::STDOUT_FILENO;
+
+// One byte more is read than an image's run may have, so that a longer run is known as such.
+fn main() {
+    let mut run = [0u8; 1048577];
+    let mut out = [0u8; 2796276];
+    let got = io::read_full(STDIN_FILENO, &mut run);
+    let n = divided(&run[..got], &mut out);
+    io::write_all(STDOUT_FILENO, &out[..n]);
+}
