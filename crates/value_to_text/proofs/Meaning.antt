@@ -1,9 +1,9 @@
 -- What is written for the bytes of a value is the value's text. Assumes nothing.
-use mathlib.Core.Path.{_≡_, refl, sym, _∙_, ap, ap₂, subst}
-use mathlib.Core.Bool.{Bool, true, false, cond, not}
+use mathlib.Core.Path.{_≡_, refl, sym, _∙_, ap, ap₂}
+use mathlib.Core.Bool.{Bool, true, false, not}
 use mathlib.Core.Logic.{_≢_}
 use mathlib.Core.List.{List, [], _∷_, _++_, append-assoc, append-nil}
-use Prim.Native.Nat.{ℕ, zero, suc, _+_, _-_, _*_, _/_, _%_, _^_, _≤_, _<_}
+use Prim.Native.Nat.{ℕ, zero, suc, _+_, _-_, _/_, _%_, _^_, _≤_, _<_}
 use native.Mathlib.Omega.{arith}
 use native.Mathlib.Decide.{ℕ-discrete, decLt}
 use lib.Dec.{eqb, ltb}
@@ -14,13 +14,16 @@ use Rattle.text.specs.Bytes.{ascii}
 use Rattle.text.specs.Lists.{Each}
 use Rattle.text.specs.Digits.{inDigits, padded, pointed}
 use Rattle.text.specs.Numbers.{bigEndian, number}
+use Rattle.text.specs.Pasting.{pasted}
+use Rattle.text.specs.Puts.{Puts}
 use Rattle.text.proofs.Classes as classes
 use Rattle.text.proofs.Numbers.{number-big, big-length}
+use Rattle.text.proofs.Puts.{puts-pasted, puts-as}
 use Rattle.text_characters.specs.Utf8.{encode, encodeAll}
 use Rattle.text_characters.specs.Pieces.{amp, lt, gt, word, spell}
 use Rattle.text_characters.proofs.Decoding.{encode1, by-length}
-use Rattle.list.specs.Listing.{Leaf, ref, iban, ccy, bool, num, amt, date, dtm, txt, enum, Kind, group, choice, leaf}
-use Rattle.list.specs.Table.{kinds, kindOf}
+use Rattle.list.specs.Listing.{Leaf, bool, num, amt, date, dtm, enum, Kind, group, choice, leaf}
+use Rattle.list.specs.Table.{cell, wordsIn, kinds, kindOf}
 use Rattle.list.specs.WellFormed.{LeafOk}
 use Rattle.value.specs.Kind.{code}
 use Rattle.value.specs.Code.{Ccy}
@@ -30,10 +33,10 @@ use Rattle.value.specs.Value.{Value, text, place, truth, natural, amount, day, 
 use Rattle.value.proofs.Classes.{Solid}
 use Rattle.value.proofs.Dates.{month-most}
 use Rattle.value.proofs.Encoding.{encoded-most}
-use Rattle.value.proofs.Firm.{Firm, form-dense}
+use Rattle.value.proofs.Firm.{Firm, ccy-dense, form-dense}
 use Rattle.value_to_text.specs.Script.{truthText, fractionOf, zoneOf, scriptOf, currencyOf}
 use Rattle.value_to_text.specs.Raw.{pieceOf, rawOf, isMarked, escape, escaped}
-use Rattle.value_to_text.specs.Stored.{textRaw, wordRaw, threeRaw, fractionRaw, offsetRaw, zoneRaw, dayIn, clockIn, momentIn, rawText}
+use Rattle.value_to_text.specs.Stored.{textRaw, wordRaw, threeRaw, fractionRaw, offsetRaw, zoneRaw, dayIn, clockIn, momentIn, rawText, rawAt}
 use Rattle.value_to_text.proofs.Scripts.{script-form}
 use Rattle.value_to_text.proofs.Escaping.{marked, escape-amp, escape-lt, escape-gt, escape-plain}
 
@@ -266,3 +269,21 @@ module _ (c k : ℕ) (ws : List (List ℕ)) (u : List ℕ) where
 
   pub raw-value : (f : Leaf) (v : Value) → kindOf c k ws ≡ leaf f → LeafOk f → IsValue f v → rawText c ws (bytes v ++ u) ≡ rawOf (scriptOf f v)
   raw-value f v e ok i = ap (λ (x : ℕ). rawText x ws (bytes v ++ u)) (sym (kind-number c k ws f e)) ∙ raw-of f v e ok i
+
+-- so that is what `put` writes for the value that stands at place i of a run, at a leaf of row r
+pub put-value : (t pool run : List ℕ) (r i : ℕ) (f : Leaf) (v : Value) (u d : List ℕ) (at n m : ℕ) (d′ : List ℕ)
+    → kindOf (cell t r 2) (cell t r 3) (wordsIn t pool r) ≡ leaf f → LeafOk f → IsValue f v → drop i run ≡ bytes v ++ u
+    → (n ≡ length (rawAt t pool r run i)) × ((n ≤ m) × (d′ ≡ pasted d at (rawAt t pool r run i)))
+    → Puts d at (rawOf (scriptOf f v)) (at + n) d′
+put-value t pool run r i f v u d at n m d′ e ok is h w =
+    let ws = wordsIn t pool r in
+    let q : rawAt t pool r run i ≡ rawOf (scriptOf f v) = ap (rawText (cell t r 2) ws) h ∙ raw-value (cell t r 2) (cell t r 3) ws u f v e ok is in
+    puts-as d at (rawAt t pool r run i) (rawOf (scriptOf f v)) (at + n) d′ q (puts-pasted d at (rawAt t pool r run i) n d′ (w .0) (w .1 .1))
+
+-- a currency's letters are their own bytes, as they are written in the attribute
+pub currency-bytes : (w : List ℕ) → Ccy w → encodeAll w ≡ w
+currency-bytes w z = own w (ccy-dense w z .solid)
+  where
+    own : (t : List ℕ) → Each Solid t → encodeAll t ≡ t
+    own [] h = refl
+    own (x ∷ t) h = ap₂ (λ (a b : List ℕ). a ++ b) (encode1 x (omega (arith, h .0 .high))) (own t (h .1))
