@@ -1,15 +1,22 @@
 #!/usr/bin/env python3
-"""Every public function of every crate has a promise and asks nothing, and docs/PROMISES.md lists it.
+"""Every public function of every crate has a promise and asks nothing, and docs/PROMISES.md is held to the code.
 
-Reads crates/*/src/**/*.rt as text. A public function is `pub fn` or `pub extern "C" fn` (a `pub(crate) fn` is none); `main` is
-left out. Its head, up to the line of its opening brace, must have an `ensures` and no `requires`. Its name stands in backquotes in
-docs/PROMISES.md, as `crate::name` (a method as `crate::Type::name`).
+Reads crates/*/src/**/*.rt as text. A public function is `pub fn` or `pub extern "C" fn` (a `pub(crate) fn` is none); `main` is left
+out. Its head, up to the line of its opening brace, must have an `ensures` and no `requires`. Its name stands in backquotes on the page,
+as `crate::name` (a method as `crate::Type::name`), and so does every edit of must-fail/. What the page names is there: functions, edits,
+laws. The section `Contracts that cite a mirror` lists exactly those that do.
 """
 import pathlib
 import re
 import sys
 
+sys.dont_write_bytecode = True
+import believe  # noqa: E402
+
 ROOT = pathlib.Path(__file__).resolve().parent.parent
+CRATES = ROOT / 'crates'
+PAGE = ROOT / 'docs' / 'PROMISES.md'
+EXCEPTED = '### Contracts that cite a mirror'
 FUNCTION = re.compile(r'^(?P<indent> *)pub (?:extern "C" )?fn (?P<name>\w+)', re.M)
 IMPL = re.compile(r'^impl(?:<[^>]*>)? (\w+)', re.M)
 
@@ -27,22 +34,63 @@ def functions(path):
         yield m['name'], owner, head
 
 
-def main():
-    listed = set(re.findall(r'`([\w:]+)(?:\([^`]*\))?`', (ROOT / 'docs' / 'PROMISES.md').read_text()))
-    faults, count = [], 0
-    for crate in sorted(p for p in (ROOT / 'crates').iterdir() if p.is_dir()):
+def public():
+    """Every public function as `crate::name`, with its head."""
+    for crate in sorted(p for p in CRATES.iterdir() if p.is_dir()):
         for path in sorted(crate.glob('src/**/*.rt')):
             for name, owner, head in functions(path):
-                if name == 'main':
-                    continue
-                count += 1
-                full = '::'.join(x for x in (crate.name, owner, name) if x)
-                if 'ensures' not in head:
-                    faults.append(f'{full}: no promise')
-                if re.search(r'\brequires\b', head):
-                    faults.append(f'{full}: a requires')
-                if full not in listed:
-                    faults.append(f'{full}: not listed in docs/PROMISES.md')
+                if name != 'main':
+                    yield '::'.join(x for x in (crate.name, owner, name) if x), head
+
+
+def named(text):
+    """What stands in backquotes."""
+    return set(re.findall(r'`([^`]+)`', text))
+
+
+def words(pattern, files):
+    return {w for f in files for w in re.findall(pattern, f.read_text(), re.M)}
+
+
+def unknown(text):
+    """What the page names and nothing is called: calls, functions and edits (a_b), laws (a-b)."""
+    calls = {full for full, _ in public()}
+    edits = {f.stem for f in CRATES.glob('*/must-fail/*.edit')}
+    known = edits | words(r'\bfn (\w+)', CRATES.glob('*/src/**/*.rt')) | {p.name for p in CRATES.iterdir()}
+    laws = words(r'^ *(?:pub )?(\S+)(?: \{[^}]*\})? :', CRATES.glob('*/proofs/*.antt'))
+    for word in sorted(named(text)):
+        if re.fullmatch(r'\w+(::\w+)+', word) and word not in calls or re.fullmatch(r'[a-z0-9]+(_[a-z0-9]+)+', word) and word not in known:
+            yield f'{word}: named in docs/PROMISES.md, and nothing is called so'
+        if re.fullmatch(r'[a-z0-9]+(-[a-z0-9]+)+', word) and word not in laws:
+            yield f'{word}: named in docs/PROMISES.md, and no law is called so'
+    yield from (f'{edit}: an edit that docs/PROMISES.md does not list' for edit in sorted(edits - named(text)))
+
+
+def mirrored(text):
+    """Where the section of contracts that cite a mirror is not right."""
+    listed = {w for w in named(text[text.index(EXCEPTED):]) if '::' in w}
+    citing = set()
+    for crate in sorted(p.name for p in CRATES.iterdir() if (p / 'src' / 'lib.rt').exists()):
+        for full, cited in believe.promises(crate):
+            if believe.mirrors([what for _, what in cited if isinstance(what, believe.Definition)]):
+                citing.add(full)
+    yield from (f'{full}: cites a mirror, and is not listed as such' for full in sorted(citing - listed))
+    yield from (f'{full}: listed as citing a mirror, and cites none' for full in sorted(listed - citing))
+
+
+def main():
+    text = PAGE.read_text()
+    faults, count = [], 0
+    for full, head in public():
+        count += 1
+        if 'ensures' not in head:
+            faults.append(f'{full}: no promise')
+        if re.search(r'\brequires\b', head):
+            faults.append(f'{full}: a requires')
+        if full not in named(text):
+            faults.append(f'{full}: not listed in docs/PROMISES.md')
+    faults += unknown(text)
+    faults += mirrored(text)
     for fault in faults:
         print(f'promises: {fault}')
     print(f'promises: {count} public functions, {len(faults)} faults')
@@ -50,4 +98,7 @@ def main():
 
 
 if __name__ == '__main__':
-    sys.exit(main())
+    try:
+        sys.exit(main())
+    except believe.Fault as fault:
+        sys.exit(f'promises: {fault}')

@@ -82,10 +82,10 @@ int main(void) {
     reads("all but its last byte", image, 66, KTO_BROKEN_IMAGE, 66);
     reads("a run that is too long", large, sizeof large, KTO_TOO_LONG, KTO_LIMIT);
 
-    picks(4, 0, KTO_ACCEPTED, 11, 2);
-    picks(19, 0, KTO_ACCEPTED, 46, 12);
-    picks(4, 1, KTO_NO_SUCH_LEAF, 0, 0);
-    picks(6, 0, KTO_NO_SUCH_LEAF, 0, 0);
+    picks(KTO_ROW_GRPHDR_MSGID, 0, KTO_ACCEPTED, 11, 2);
+    picks(KTO_ROW_STMT_BAL_AMT, 0, KTO_ACCEPTED, 46, 12);
+    picks(KTO_ROW_GRPHDR_MSGID, 1, KTO_NO_SUCH_LEAF, 0, 0);
+    picks(KTO_ROW_STMT, 0, KTO_NO_SUCH_LEAF, 0, 0);
     picks(UINT64_MAX, UINT64_MAX, KTO_NO_SUCH_LEAF, 0, 0);
 
     printf("c: %d faults\n", faults);

@@ -1,4 +1,4 @@
-//! Cases of every class, from a seed: the n-th case of a seed is always the same.
+//! Cases of every class, from a seed: the n-th case of a seed is always the same for the same ops.
 
 use independent::list::ROWS;
 use independent::LIMIT;
@@ -7,8 +7,8 @@ use crate::feed::Case;
 use crate::message::chosen::EVERY_ROW;
 use crate::message::{damage, valid, Draft, Size, Style};
 use crate::random::Random;
-use crate::runs::{damaged, image_of};
-use crate::xml;
+use crate::runs::{damaged, filled, image_of};
+use crate::{writes, xml};
 
 /// What a case is for.
 #[derive(Clone, Copy, PartialEq, Eq, PartialOrd, Ord, Debug, Hash)]
@@ -28,11 +28,15 @@ pub enum Class {
     DamagedRun,
     Pick,
     PickFromDamaged,
+    Write,
+    WriteTightRoom,
+    WriteFromDamaged,
+    WriteAtTheLimit,
 }
 
 impl Class {
-    /// All classes, each with how often it comes among a thousand cases.
-    pub const ALL: [(Class, usize); 15] = [
+    /// All classes, each with how often it comes: the shares of checks, reads and picks add up to a thousand.
+    pub const ALL: [(Class, usize); 19] = [
         (Class::ValidMessage, 80),
         (Class::TightRoom, 60),
         (Class::OneFault, 170),
@@ -48,7 +52,22 @@ impl Class {
         (Class::DamagedRun, 140),
         (Class::Pick, 60),
         (Class::PickFromDamaged, 29),
+        (Class::Write, 80),
+        (Class::WriteTightRoom, 50),
+        (Class::WriteFromDamaged, 60),
+        (Class::WriteAtTheLimit, 1),
     ];
+
+    /// The ops that its cases ask for.
+    pub fn ops(self) -> &'static [u8] {
+        match self {
+            Class::AtTheLimit => &[0, 1, 2],
+            Class::Run | Class::JoinedRun | Class::DamagedRun => &[1],
+            Class::Pick | Class::PickFromDamaged => &[2],
+            Class::Write | Class::WriteTightRoom | Class::WriteFromDamaged | Class::WriteAtTheLimit => &[3],
+            _ => &[0],
+        }
+    }
 
     pub fn name(self) -> &'static str {
         match self {
@@ -67,6 +86,10 @@ impl Class {
             Class::DamagedRun => "damaged image",
             Class::Pick => "pick from an image",
             Class::PickFromDamaged => "pick from a damaged image",
+            Class::Write => "write of an image",
+            Class::WriteTightRoom => "write of an image, tight room",
+            Class::WriteFromDamaged => "write of a damaged image",
+            Class::WriteAtTheLimit => "write at the size limit",
         }
     }
 }
@@ -74,23 +97,37 @@ impl Class {
 /// Room for the image of any file that is not at the limit on purpose.
 const ROOMY: usize = LIMIT;
 
-/// The case of this number, from 0, that the seed gives.
-pub fn case(seed: u64, number: u64) -> (Class, Case) {
-    let mut random = Random::new(seed ^ number.wrapping_mul(0xd134_2543_de82_ef95));
-    let class = class(&mut random);
-    (class, make(class, &mut random))
+/// Where cases come from: a seed, and the classes that ask for these ops alone.
+#[derive(Clone, Debug)]
+pub struct Source {
+    classes: Vec<(Class, usize)>,
+    seed: u64,
 }
 
-fn class(random: &mut Random) -> Class {
-    let total: usize = Class::ALL.iter().map(|(_, share)| share).sum();
-    let mut left = random.below(total);
-    for (class, share) in Class::ALL {
-        if left < share {
-            return class;
-        }
-        left -= share;
+impl Source {
+    pub fn new(ops: &[u8], seed: u64) -> Source {
+        let asks_known = |(class, _): &(Class, usize)| class.ops().iter().all(|op| ops.contains(op));
+        Source { classes: Class::ALL.into_iter().filter(asks_known).collect(), seed }
     }
-    unreachable!("the shares add up to the total")
+
+    /// The case of this number, from 0.
+    pub fn case(&self, number: u64) -> (Class, Case) {
+        let mut random = Random::new(self.seed ^ number.wrapping_mul(0xd134_2543_de82_ef95));
+        let class = self.class(&mut random);
+        (class, make(class, &mut random))
+    }
+
+    fn class(&self, random: &mut Random) -> Class {
+        let total: usize = self.classes.iter().map(|(_, share)| share).sum();
+        let mut left = random.below(total);
+        for (class, share) in &self.classes {
+            if left < *share {
+                return *class;
+            }
+            left -= share;
+        }
+        unreachable!("the shares add up to the total")
+    }
 }
 
 fn make(class: Class, random: &mut Random) -> Case {
@@ -119,6 +156,14 @@ fn make(class: Class, random: &mut Random) -> Case {
             let run = damaged(&image(random), random);
             pick(run, random)
         }
+        Class::Write => Case::write(ROOMY, if random.once_in(3) { joined(random) } else { image(random) }),
+        Class::WriteTightRoom => {
+            let run = image(random);
+            let needed = writes::needed(&run);
+            Case::write(about(needed, random), run)
+        }
+        Class::WriteFromDamaged => Case::write(any_room(random), damaged(&image(random), random)),
+        Class::WriteAtTheLimit => writes::at_the_limit(image(random), random),
     }
 }
 
@@ -163,13 +208,17 @@ fn tight_room(random: &mut Random) -> Case {
         Ok(content) => independent::content::image(&content).len(),
         Err(_) => 0,
     };
-    let room = match random.below(6) {
+    Case::check(about(needed, random), file)
+}
+
+/// What is needed, or a little more or less.
+fn about(needed: usize, random: &mut Random) -> usize {
+    match random.below(6) {
         0 | 1 => needed,
         2 | 3 => needed.saturating_sub(1),
         4 => needed + 1,
         _ => random.below(needed + 1),
-    };
-    Case::check(room, file)
+    }
 }
 
 fn not_utf8(random: &mut Random) -> Vec<u8> {
@@ -231,11 +280,6 @@ fn at_the_limit(random: &mut Random) -> Case {
     }
 }
 
-fn filled(mut bytes: Vec<u8>, length: usize) -> Vec<u8> {
-    bytes.resize(length, b' ');
-    bytes
-}
-
 /// The message with every row and its entry as often as the limit allows, now and then with a byte changed.
 fn full_of_entries(random: &mut Random) -> Vec<u8> {
     let start = EVERY_ROW.find("<Ntry>").expect("an entry");
@@ -288,21 +332,35 @@ fn pick(run: Vec<u8>, random: &mut Random) -> Case {
 #[cfg(test)]
 mod tests {
     use super::*;
+    use crate::feed::{codes, ALL_OPS};
     use independent::Code;
+    use std::collections::BTreeSet;
 
+    /// Every code, and of each op only those that it is said to answer with.
     #[test]
     fn every_code_and_every_class_is_reached() {
-        let mut codes = [0; 19];
-        let mut classes = std::collections::BTreeMap::new();
+        let source = Source::new(&ALL_OPS, 1);
+        let mut reached = BTreeSet::new();
+        let mut classes = BTreeSet::new();
         for number in 0..8000 {
-            let (class, case) = case(1, number);
-            codes[usize::from(case.answer().0.code.number())] += 1;
-            *classes.entry(class).or_insert(0) += 1;
+            let (class, case) = source.case(number);
+            let (op, code) = (case.op.number(), case.answer().0.code.number());
+            assert!(class.ops().contains(&op), "{class:?}, op {op}");
+            assert!(codes(op).contains(&code), "op {op}, code {code}");
+            reached.insert(code);
+            classes.insert(class);
         }
-        for code in Code::ALL {
-            assert!(codes[usize::from(code.number())] > 0, "code {} in {codes:?}", code.number());
-        }
+        assert_eq!(reached, Code::ALL.map(Code::number).into());
         assert_eq!(classes.len(), Class::ALL.len(), "{classes:?}");
+    }
+
+    /// What is asked of a unit that knows fewer ops doesn't hang on those that it doesn't know.
+    #[test]
+    fn only_the_ops_of_the_source_are_asked() {
+        for ops in [&[0, 1, 2][..], &[3], &[1, 3]] {
+            let source = Source::new(ops, 1);
+            assert!((0..200).all(|number| ops.contains(&source.case(number).1.op.number())), "{ops:?}");
+        }
     }
 
     #[test]
@@ -323,7 +381,8 @@ mod tests {
 
     #[test]
     fn a_seed_gives_the_same_cases_again() {
-        assert_eq!(case(3, 14).1, case(3, 14).1);
-        assert_ne!(case(3, 14).1, case(4, 14).1);
+        let case = |seed| Source::new(&ALL_OPS, seed).case(14).1;
+        assert_eq!(case(3), case(3));
+        assert_ne!(case(3), case(4));
     }
 }

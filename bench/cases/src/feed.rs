@@ -1,11 +1,11 @@
 //! The feed that `replay` takes, and the line it writes for each case.
 //!
-//! A case is one byte op (0 check, 1 read, 2 pick), three 32-bit little-endian numbers (room, of a pick the row; n, of a
-//! pick; length), and that many bytes. Its line is `CODE ROW PLACE HEX`: HEX is the image of an accepted check or the part
-//! of an accepted pick, else nothing behind the third blank. A feed that breaks off, names another op or a length over
-//! 1,048,577 ends with `feed broken at case N`.
+//! A case is one byte op (0 check, 1 read, 2 pick, 3 write), three 32-bit little-endian numbers (room, of a pick the row; n,
+//! of a pick; length), and that many bytes. Its line is `CODE ROW PLACE HEX`: HEX is the image of an accepted check, the part
+//! of an accepted pick or the file of an accepted write, else nothing behind the third blank. A feed that breaks off, names
+//! another op or a length over 1,048,577 ends with `feed broken at case N`.
 
-use independent::{check, pick, read, Answer, LIMIT};
+use independent::{check, pick, read, write, Answer, LIMIT};
 
 /// One question to the unit.
 #[derive(Clone, PartialEq, Eq, Debug)]
@@ -19,6 +19,33 @@ pub enum Op {
     Check { room: u32 },
     Read,
     Pick { row: u32, n: u32 },
+    Write { room: u32 },
+}
+
+impl Op {
+    /// The byte that names it in a feed.
+    pub fn number(self) -> u8 {
+        match self {
+            Op::Check { .. } => 0,
+            Op::Read => 1,
+            Op::Pick { .. } => 2,
+            Op::Write { .. } => 3,
+        }
+    }
+}
+
+/// The ops that the independent program answers. A proved `replay` may know fewer.
+pub const ALL_OPS: [u8; 4] = [0, 1, 2, 3];
+
+/// The codes that an op answers with.
+pub fn codes(op: u8) -> &'static [u8] {
+    match op {
+        0 => &[0, 1, 2, 3, 4, 5, 6, 7, 8, 9, 10, 11, 12, 13, 14],
+        1 => &[0, 1, 15, 16, 17],
+        2 => &[0, 1, 15, 16, 17, 18],
+        3 => &[0, 1, 14, 15, 16, 17, 19],
+        _ => &[],
+    }
 }
 
 /// The longest case: one byte over what check and read take.
@@ -37,26 +64,27 @@ impl Case {
         Case { op: Op::Pick { row, n }, bytes: bytes.into() }
     }
 
-    /// The case's bytes in a feed.
-    pub fn feed(&self) -> Vec<u8> {
-        let (op, first, second) = match self.op {
-            Op::Check { room } => (0, room, 0),
-            Op::Read => (1, 0, 0),
-            Op::Pick { row, n } => (2, row, n),
-        };
-        let length = u32::try_from(self.bytes.len()).expect("a case of at most 1,048,577 bytes");
-        [&[op], &first.to_le_bytes()[..], &second.to_le_bytes(), &length.to_le_bytes(), &self.bytes].concat()
+    pub fn write(room: usize, bytes: impl Into<Vec<u8>>) -> Case {
+        Case { op: Op::Write { room: room as u32 }, bytes: bytes.into() }
     }
 
-    /// What the independent program answers, with the image or the part.
+    /// The case's bytes in a feed.
+    pub fn feed(&self) -> Vec<u8> {
+        let (first, second) = match self.op {
+            Op::Check { room } | Op::Write { room } => (room, 0),
+            Op::Read => (0, 0),
+            Op::Pick { row, n } => (row, n),
+        };
+        let length = u32::try_from(self.bytes.len()).expect("a case of at most 1,048,577 bytes");
+        let numbers = [first, second, length].map(u32::to_le_bytes).concat();
+        [&[self.op.number()], &numbers[..], &self.bytes].concat()
+    }
+
+    /// What the independent program answers, with the image, the part or the file.
     pub fn answer(&self) -> (Answer, Vec<u8>) {
         match self.op {
-            Op::Check { room } => {
-                let mut out = vec![0; (room as usize).min(LIMIT)];
-                let answer = check(&self.bytes, &mut out);
-                out.truncate(if answer.is_accepted() { answer.place } else { 0 });
-                (answer, out)
-            }
+            Op::Check { room } => filled(room, |out| check(&self.bytes, out)),
+            Op::Write { room } => filled(room, |out| write(&self.bytes, out)),
             Op::Read => (read(&self.bytes), Vec::new()),
             Op::Pick { row, n } => {
                 let (answer, part) = pick(&self.bytes, row.into(), n.into());
@@ -70,6 +98,14 @@ impl Case {
         let (answer, bytes) = self.answer();
         format!("{} {} {} {}", answer.code.number(), answer.row, answer.place, hexadecimal(&bytes))
     }
+}
+
+/// The answer of a call with so much room, and what it wrote. A room over 1,048,576 counts as that.
+fn filled(room: u32, call: impl FnOnce(&mut [u8]) -> Answer) -> (Answer, Vec<u8>) {
+    let mut out = vec![0; (room as usize).min(LIMIT)];
+    let answer = call(&mut out);
+    out.truncate(if answer.is_accepted() { answer.place } else { 0 });
+    (answer, out)
 }
 
 /// Lower-case hexadecimal.
@@ -88,6 +124,7 @@ pub fn next_case(feed: &[u8]) -> Option<(Case, &[u8])> {
         0 => Op::Check { room: first },
         1 => Op::Read,
         2 => Op::Pick { row: first, n: second },
+        3 => Op::Write { room: first },
         _ => return None,
     };
     let length = length as usize;
@@ -131,14 +168,17 @@ mod tests {
             Case::check(100, "<a></b>").feed(),
             Case::read("KTO\0\u{1}").feed(),
             Case::pick(4, 0, "KTX\0\u{1}").feed(),
+            Case::write(100, "KTO\0\u{2}").feed(),
         ];
-        assert_eq!(answers(&feed.concat()), "3 0 5 \n17 0 5 \n15 0 0 \n");
+        assert_eq!(answers(&feed.concat()), "3 0 5 \n17 0 5 \n15 0 0 \n16 0 3 \n");
         assert_eq!(answers(b""), "");
     }
 
     #[test]
     fn cases_come_back_from_their_feed() {
-        for case in [Case::check(7, "x"), Case::read(""), Case::pick(300, 4_000_000_000, "yz")] {
+        let cases = [Case::check(7, "x"), Case::read(""), Case::pick(300, 4_000_000_000, "yz"), Case::write(9, "KTO")];
+        assert_eq!(cases.each_ref().map(|case| case.op.number()), ALL_OPS);
+        for case in cases {
             let feed = [case.feed(), b"rest".to_vec()].concat();
             assert_eq!(next_case(&feed), Some((case, &b"rest"[..])));
         }
@@ -151,7 +191,7 @@ mod tests {
             assert_eq!(answers(&[&whole[..], &whole[..cut]].concat()), "15 0 0 \nfeed broken at case 1\n");
         }
         let mut other_op = whole.clone();
-        other_op[0] = 3;
+        other_op[0] = ALL_OPS.len() as u8;
         assert_eq!(answers(&[other_op, whole.clone()].concat()), "feed broken at case 0\n");
         let mut long = Case::read(vec![0; MOST_BYTES]).feed();
         assert_eq!(answers(&long), "1 0 1048576 \n");

@@ -1,13 +1,19 @@
-//! Inputs for the program over standard input: each is one run of it.
+//! Inputs for the programs over standard input: each is one run of it.
 
-use independent::program::PROGRAM_LIMIT;
+use independent::program::{images_program, program, write_program, PROGRAM_LIMIT};
+use independent::LIMIT;
 
 use crate::message::chosen::{EVERY_ROW, WHOLE};
+use crate::runs::{filled, image_of};
+use crate::writes::image_for_file_of;
 
-/// Document 01's whole example first; then every row, nothing, a refusal of each of a few codes, and what is as long as may be and longer.
-pub fn fixed_set() -> Vec<Vec<u8>> {
+/// An input, and what the independent program says to it.
+pub type Said = (Vec<u8>, Vec<u8>);
+
+/// For `kto`: document 01's whole example first; then every row, nothing, a refusal of each of a few codes, and what is as long as may be and longer.
+pub fn kto() -> Vec<Said> {
     let refused = WHOLE.replace("2024-02-29", "2023-02-29");
-    vec![
+    let inputs = vec![
         WHOLE.into(),
         EVERY_ROW.into(),
         "".into(),
@@ -15,33 +21,126 @@ pub fn fixed_set() -> Vec<Vec<u8>> {
         "<Document/>".into(),
         b"<a>\xFC</a>".into(),
         refused.into(),
-        padded(WHOLE, PROGRAM_LIMIT),
-        padded(WHOLE, PROGRAM_LIMIT + 1),
-        padded("", PROGRAM_LIMIT),
-        padded("", PROGRAM_LIMIT + 1),
-        padded("", 3 * PROGRAM_LIMIT),
-    ]
+        filled(WHOLE.into(), PROGRAM_LIMIT),
+        filled(WHOLE.into(), PROGRAM_LIMIT + 1),
+        filled(Vec::new(), PROGRAM_LIMIT),
+        filled(Vec::new(), PROGRAM_LIMIT + 1),
+        filled(Vec::new(), 3 * PROGRAM_LIMIT),
+    ];
+    said(inputs, program)
 }
 
-/// A text with blanks behind it up to a length.
-fn padded(text: &str, length: usize) -> Vec<u8> {
-    let mut bytes = text.as_bytes().to_vec();
-    bytes.resize(length, b'\n');
-    bytes
+/// For `write`: the image of every row first; then document 01's, runs with something behind the image, a refusal of each
+/// code, and runs and files as long as may be and longer.
+pub fn writes() -> Vec<Said> {
+    let (whole, every_row) = (image_of(WHOLE.as_bytes()), image_of(EVERY_ROW.as_bytes()));
+    let inputs = vec![
+        every_row.clone(),
+        whole.clone(),
+        [&whole[..], &every_row].concat(),
+        [&every_row[..], b"garbage"].concat(),
+        Vec::new(),
+        b"KTO\x00".to_vec(),
+        other_version(&whole),
+        whole[..66].to_vec(),
+        [&whole[..66], b"\x06"].concat(),
+        filled(whole.clone(), LIMIT),
+        filled(whole.clone(), LIMIT + 1),
+        filled(whole, 3 * LIMIT),
+        image_for_file_of(LIMIT),
+        image_for_file_of(LIMIT + 1),
+        image_for_file_of(4 * LIMIT),
+    ];
+    said(inputs, write_program)
+}
+
+/// For `images`: three images and a damaged one first; then nothing, one image and several, with every refusal behind them
+/// and without any image, a run of the limit's length full of images, and longer runs.
+pub fn images() -> Vec<Said> {
+    let (whole, every_row) = (image_of(WHOLE.as_bytes()), image_of(EVERY_ROW.as_bytes()));
+    let three = [&whole[..], &every_row, &whole].concat();
+    let damaged = &every_row[..every_row.len() / 2];
+    let behind = |behind: &[u8]| [&three[..], behind].concat();
+    let inputs = vec![
+        behind(damaged),
+        Vec::new(),
+        whole.clone(),
+        three.clone(),
+        behind(b"garbage \xff"),
+        behind(b"\x00"),
+        behind(b"KTO\x00"),
+        behind(b"KTO\x00\x01"),
+        behind(&other_version(&whole)),
+        behind(&whole[..66]),
+        b"garbage".to_vec(),
+        other_version(&whole),
+        damaged.to_vec(),
+        whole[1..].to_vec(),
+        full_of(&whole),
+        [&full_of(&whole)[..], b"\x00"].concat(),
+        filled(three.clone(), LIMIT),
+        filled(three.clone(), LIMIT + 1),
+        filled(three, 3 * LIMIT),
+    ];
+    said(inputs, images_program)
+}
+
+fn said(inputs: Vec<Vec<u8>>, program: fn(&[u8]) -> Vec<u8>) -> Vec<Said> {
+    inputs.into_iter().map(|input| (program(&input), input)).map(|(said, input)| (input, said)).collect()
+}
+
+/// The image with the next version in its header.
+fn other_version(image: &[u8]) -> Vec<u8> {
+    [b"KTO\x00\x02", &image[5..]].concat()
+}
+
+/// A run of the limit's length: this image again and again, and one of another length.
+fn full_of(image: &[u8]) -> Vec<u8> {
+    let times = LIMIT / image.len() - 1;
+    let rest = LIMIT - times * image.len();
+    let id = "M".repeat(2 + rest - image.len());
+    let last = image_of(WHOLE.replace("M1", &id).as_bytes());
+    [image.repeat(times), last].concat()
 }
 
 #[cfg(test)]
 mod tests {
     use super::*;
-    use independent::program;
+
+    fn lines(said: &Said) -> Vec<&str> {
+        std::str::from_utf8(&said.1).unwrap().lines().collect()
+    }
 
     #[test]
-    fn the_limit_is_met_from_both_sides() {
-        let said: Vec<Vec<u8>> = fixed_set().iter().map(|input| program(input)).collect();
-        assert_eq!(said[2], b"refused 3 0 0\n");
-        assert_eq!(said[7], said[0]);
-        assert_eq!(said[8], b"refused 1 0 65536\n");
-        assert_eq!(said[9], b"refused 3 0 65536\n");
-        assert_eq!(said[10], said[8]);
+    fn the_limit_of_a_file_is_met_from_both_sides() {
+        let said = kto();
+        assert_eq!(said[2].1, b"refused 3 0 0\n");
+        assert_eq!(said[7].1, said[0].1);
+        assert_eq!(said[8].1, b"refused 1 0 65536\n");
+        assert_eq!(said[9].1, b"refused 3 0 65536\n");
+        assert_eq!(said[10].1, said[8].1);
+    }
+
+    #[test]
+    fn the_limit_of_a_written_file_is_met_from_both_sides() {
+        let said = writes();
+        assert_eq!(said[9].1, said[1].1);
+        assert_eq!(said[10].1, b"refused 1 0 1048576\n");
+        assert_eq!(said[12].1.len(), LIMIT);
+        assert_eq!(said[13].1, b"refused 19 0 1048577\n");
+    }
+
+    #[test]
+    fn a_full_run_is_divided_to_its_end_and_a_longer_one_is_not() {
+        let said = images();
+        assert_eq!(lines(&said[0])[..3], ["0 67", "67 342", "409 67"]);
+        assert!(lines(&said[0])[3].starts_with("refused 17 0 "));
+        assert_eq!(said[1].1, b"");
+        assert_eq!(said[14].0.len(), LIMIT);
+        assert_eq!(lines(&said[14]).len(), LIMIT / 67);
+        assert!(lines(&said[14]).iter().all(|line| !line.starts_with("refused")));
+        assert_eq!(lines(&said[15]), ["refused 1 0 1048576"]);
+        assert_eq!(lines(&said[16]), ["0 67", "67 342", "409 67", "refused 15 0 0"]);
+        assert_eq!(lines(&said[17]), ["refused 1 0 1048576"]);
     }
 }

@@ -12,6 +12,9 @@
 //! | [`message`] | whole messages: made, chosen, damaged |
 //! | [`checks`] | chosen files for every code and the order of the codes |
 //! | [`runs`] | runs of images: chosen, joined, damaged |
+//! | [`writes`] | runs for the writer: every value, every code, files at the limit |
+//! | [`statement`] | realistic statements, good or with one fault |
+//! | [`inputs`] | inputs for the programs over standard input |
 
 pub mod any;
 pub mod checks;
@@ -20,5 +23,7 @@ pub mod inputs;
 pub mod message;
 pub mod random;
 pub mod runs;
+pub mod statement;
 pub mod values;
+pub mod writes;
 pub mod xml;

@@ -1,101 +1,81 @@
-//! Reader against checker: a run that the reader accepts is the image of some file, and the checker says so.
+//! Reader, writer and checker: a run that the reader accepts is written as a file, and the checker accepts that file and gives
+//! the same image.
 //!
-//! For every accepted run a file is written from its items, in the plainest way; the checker must accept that file and give
-//! the same image. So the reader accepts nothing but images of rule-meeting contents.
+//! So the reader accepts nothing but images of rule-meeting contents, and "The written file is accepted and gives the same
+//! image." Written again it is the same file, and no blank of it could be left out.
 
-use cases::any::{case, Class};
-use cases::feed::{Case, Op};
-use independent::list::{find, path, Kind, NAMESPACE};
-use independent::read::{first_image, Image};
-use independent::types::Value;
-use independent::{check, LIMIT};
+use cases::any::{Class, Source};
+use cases::runs;
+use independent::read::first_image;
+use independent::{check, read, write, LIMIT};
 
-/// A file with the content of an image.
-fn written(image: &Image) -> String {
-    let mut file = String::new();
-    let mut open: Vec<&str> = Vec::new();
-    for item in &image.items {
-        let row = find(item.row).unwrap();
-        let level = path(row).matches('/').count();
-        close(&mut open, level, &mut file);
-        let attributes = match (row.parent, &item.leaf) {
-            (0, _) => format!(" xmlns=\"{NAMESPACE}\""),
-            (_, Some((Value::Amt(amount), _))) => format!(" Ccy=\"{}\"", String::from_utf8_lossy(&amount.currency)),
-            _ => String::new(),
-        };
-        file += &format!("<{}{attributes}>", row.name);
-        if let Some((value, _)) = &item.leaf {
-            file += &spelled(row.kind, value);
-        }
-        open.push(row.name);
-    }
-    close(&mut open, 0, &mut file);
-    file
-}
-
-/// Closes elements until so many are open.
-fn close(open: &mut Vec<&str>, level: usize, file: &mut String) {
-    while open.len() > level {
-        *file += &format!("</{}>", open.pop().unwrap());
-    }
-}
-
-fn spelled(kind: Kind, value: &Value) -> String {
-    match (kind, value) {
-        (_, Value::Text(text)) => text.replace('&', "&amp;").replace('<', "&lt;").replace('>', "&gt;"),
-        (Kind::Enum(words), Value::Word(place)) => words[usize::from(*place) - 1].to_string(),
-        (_, Value::Word(_)) => unreachable!("only ENUM has words"),
-        (_, Value::Bool(truth)) => truth.to_string(),
-        (_, Value::Num(number)) => number.to_string(),
-        (_, Value::Amt(amount)) => {
-            let digits = format!("{:018}", amount.coefficient);
-            let (whole, fraction) = digits.split_at(18 - usize::from(amount.scale));
-            format!("{whole}.{fraction}")
-        }
-        (_, Value::Date(date)) => format!("{:04}-{:02}-{:02}", date.year, date.month, date.day),
-        (_, Value::Dtm(time)) => {
-            let date = spelled(Kind::Date, &Value::Date(time.date));
-            let (sign, minutes) = (if time.offset < 0 { '-' } else { '+' }, time.offset.abs());
-            let zone = format!("{sign}{:02}:{:02}", minutes / 60, minutes % 60);
-            let clock = format!("{:02}:{:02}:{:02}.{:06}", time.hour, time.minute, time.second, time.microsecond);
-            format!("{date}T{clock}{zone}")
-        }
-    }
-}
-
-/// Writes the file of an accepted run and has it checked.
-fn examine(run: &[u8]) {
-    let image = first_image(run).unwrap();
-    let file = written(&image);
-    if file.len() > LIMIT {
-        return;
-    }
+/// The file of an accepted run; none where it would be over the limit.
+fn written(run: &[u8]) -> Option<Vec<u8>> {
     let mut room = vec![0; LIMIT];
-    let answer = check(file.as_bytes(), &mut room);
-    assert!(answer.is_accepted(), "{answer:?} {file}");
-    assert_eq!(&room[..answer.place], &run[..image.length], "{file}");
+    let answer = write(run, &mut room);
+    room.truncate(answer.place);
+    answer.is_accepted().then_some(room)
+}
+
+/// An accepted file's image.
+fn image(file: &[u8]) -> Option<Vec<u8>> {
+    let mut room = vec![0; file.len()];
+    let answer = check(file, &mut room);
+    room.truncate(answer.place);
+    answer.is_accepted().then_some(room)
+}
+
+/// Writes the file of an accepted run and has it checked, and the image of that written again.
+fn examine(run: &[u8]) {
+    let length = first_image(run).unwrap().length;
+    if let Some(file) = written(run) {
+        let text = String::from_utf8_lossy(&file);
+        assert_eq!(image(&file).as_deref(), Some(&run[..length]), "{text}");
+        assert_eq!(written(&run[..length]).unwrap(), file, "{text}");
+    }
 }
 
 #[test]
 fn accepted_runs_are_images_of_files() {
+    let source = Source::new(&[1, 2, 3], 21);
     let (mut accepted, mut of_damaged) = (0, 0);
-    for number in 0..25_000 {
-        let (class, case) = case(21, number);
-        if class == Class::AtTheLimit || !matches!(case.op, Op::Read | Op::Pick { .. }) {
-            continue;
-        }
-        if Case::read(case.bytes.clone()).answer().0.is_accepted() {
+    for number in 0..7_000 {
+        let (class, case) = source.case(number);
+        if !matches!(class, Class::AtTheLimit | Class::WriteAtTheLimit) && read(&case.bytes).is_accepted() {
             examine(&case.bytes);
             accepted += 1;
-            of_damaged += usize::from(matches!(class, Class::DamagedRun | Class::PickFromDamaged));
+            of_damaged +=
+                usize::from(matches!(class, Class::DamagedRun | Class::PickFromDamaged | Class::WriteFromDamaged));
         }
     }
-    assert!(accepted > 1000 && of_damaged > 100, "{accepted} accepted, {of_damaged} of them after damage");
+    assert!(accepted > 2000 && of_damaged > 100, "{accepted} accepted, {of_damaged} of them after damage");
 }
 
 #[test]
 fn the_fixed_runs_too() {
-    let accepted =
-        cases::runs::fixed_set().into_iter().filter(|case| Case::read(case.bytes.clone()).answer().0.is_accepted());
-    assert!(accepted.map(|case| examine(&case.bytes)).count() > 100);
+    let runs = runs::fixed_set().into_iter().chain(cases::writes::fixed_set()).map(|case| case.bytes);
+    let accepted = runs.filter(|run| run.len() < 100_000 && read(run).is_accepted());
+    let count = accepted.map(|run| examine(&run)).count();
+    assert!(count > 200, "{count} accepted");
+}
+
+/// "no blanks that could be left out": without it the file is refused or has another content.
+#[test]
+fn no_blank_could_be_left_out() {
+    let source = Source::new(&[3], 22);
+    let mut blanks = 0;
+    for number in 0..300 {
+        let run = source.case(number).1.bytes;
+        let Some(file) = written(&run).filter(|file| file.len() < 10_000) else {
+            continue;
+        };
+        assert!(file.starts_with(b"<Document xmlns=\"") && file.ends_with(b"</Document>"));
+        let same = image(&file);
+        for at in (0..file.len()).filter(|at| file[*at].is_ascii_whitespace()) {
+            let without = [&file[..at], &file[at + 1..]].concat();
+            assert_ne!(image(&without), same, "byte {at} of {}", String::from_utf8_lossy(&file));
+            blanks += 1;
+        }
+    }
+    assert!(blanks > 500, "{blanks} blanks");
 }

@@ -18,7 +18,7 @@ impl Answer {
     }
 }
 
-/// The codes of document 01, in the order of their numbers.
+/// The codes of document 01, and 19 of document 02, in the order of their numbers.
 #[derive(Clone, Copy, PartialEq, Eq, PartialOrd, Ord, Debug, Hash)]
 pub enum Code {
     Accepted = 0,
@@ -40,10 +40,11 @@ pub enum Code {
     WrongVersion = 16,
     NoWholeImage = 17,
     NoSuchItem = 18,
+    FileTooLong = 19,
 }
 
 impl Code {
-    pub const ALL: [Code; 19] = [
+    pub const ALL: [Code; 20] = [
         Code::Accepted,
         Code::TooLong,
         Code::NotUtf8,
@@ -63,6 +64,7 @@ impl Code {
         Code::WrongVersion,
         Code::NoWholeImage,
         Code::NoSuchItem,
+        Code::FileTooLong,
     ];
 
     pub fn number(self) -> u8 {
@@ -90,11 +92,12 @@ impl Code {
             Code::Empty => "empty",
             Code::BadValue => "value breaks its type",
             Code::RuleBroken => "amount and indicator not together",
-            Code::NoRoom => "image longer than the buffer",
+            Code::NoRoom => "longer than the buffer",
             Code::NotAnImage => "not an image",
             Code::WrongVersion => "wrong image version",
             Code::NoWholeImage => "no whole image",
             Code::NoSuchItem => "no such item",
+            Code::FileTooLong => "file would be too long",
         }
     }
 }
@@ -109,6 +112,6 @@ mod tests {
             assert_eq!(code.number() as usize, number);
             assert_eq!(Code::from_number(number as u8), Some(code));
         }
-        assert_eq!(Code::from_number(19), None);
+        assert_eq!(Code::from_number(20), None);
     }
 }

@@ -1,8 +1,8 @@
-//! Document 01 as a plain program, written from the document alone.
+//! Document 01, and section 1 of document 02, as a plain program, written from the documents alone.
 //!
 //! The unit in `crates/` is compared with this program. The two share no code, no table and no generated file, so
 //! that a mistake in one is not a mistake in the other. It is therefore written for its reader: each function renders
-//! a sentence of document 01, which stands above it, in the simplest way that is evidently right.
+//! a sentence of a document, which stands above it, in the simplest way that is evidently right.
 //!
 //! ```
 //! let mut image = [0u8; 100];
@@ -24,7 +24,8 @@
 //! | [`bytes`] | the values in an image, read back |
 //! | [`order`] | which items can follow which in an image |
 //! | [`read`](mod@read) | the reader, the picker, and the reader that holds its place |
-//! | [`program`](mod@program) | the program over standard input |
+//! | [`write`](mod@write) | the writer: from image to file |
+//! | [`program`](mod@program) | the programs over standard input |
 
 pub mod answer;
 pub mod bytes;
@@ -37,11 +38,13 @@ pub mod program;
 pub mod read;
 pub mod types;
 pub mod walk;
+pub mod write;
 
 pub use answer::{Answer, Code};
 pub use check::check;
 pub use program::program;
 pub use read::{pick, read, Held};
+pub use write::write;
 
 /// "input over 1,048,576 bytes": the longest input and the longest run that are judged.
 pub const LIMIT: usize = 1_048_576;

@@ -2,7 +2,8 @@
 
 mod support;
 
-use independent::{check, pick, program, read};
+use independent::program::images_program;
+use independent::{check, pick, program, read, LIMIT};
 use support::*;
 
 /// "empty: 3, place 0. `<a></b>`: 3, place 5. `<Document/>`: 4, row 1, place 0."
@@ -116,4 +117,24 @@ fn the_program() {
     assert_eq!(full.len(), 65_536);
     assert_eq!(program(full.as_bytes()), whole_image());
     assert_eq!(program(format!("{full} ").as_bytes()), b"refused 1 0 65536\n");
+}
+
+/// The program `images`: "a reader that holds the run and its place .. answers as they do on the rest of the run, places
+/// counted from the start of that rest, moves on by the image's length when accepting an image, and stays when .. refusing".
+#[test]
+fn the_program_that_divides_a_run() {
+    let whole = whole_image();
+    let other = image(message_id("M12"));
+    let said = |run: &[&[u8]]| String::from_utf8(images_program(&run.concat())).unwrap();
+    assert_eq!(said(&[]), "");
+    assert_eq!(said(&[&whole]), "0 67\n");
+    assert_eq!(said(&[&whole, &other, &whole]), "0 67\n67 68\n135 67\n");
+    assert_eq!(said(&[&whole, &other, b"x"]), "0 67\n67 68\nrefused 15 0 0\n");
+    assert_eq!(said(&[&other, &whole[..66]]), "0 68\nrefused 17 0 66\n");
+    assert_eq!(said(&[&whole, b"KTO\x00\x02", &whole[5..]]), "0 67\nrefused 16 0 3\n");
+    assert_eq!(said(&[b"garbage"]), "refused 15 0 0\n");
+    // "1 for a run over the same limit": judged on what is left, which is never more than at the start.
+    assert_eq!(said(&[&whole, &vec![0; LIMIT - 67]]), "0 67\nrefused 15 0 0\n");
+    assert_eq!(said(&[&whole, &vec![0; LIMIT - 66]]), "refused 1 0 1048576\n");
+    assert_eq!(said(&[&whole, &vec![0; 2 * LIMIT]]), "refused 1 0 1048576\n");
 }

@@ -1,50 +1,75 @@
 //! The unit and the independent program over many cases of one seed.
 
-use std::collections::BTreeMap;
+use std::collections::{BTreeMap, BTreeSet};
 use std::fmt;
 use std::io;
 use std::ops::ControlFlow;
 
-use cases::any::{case, Class};
+use cases::any::{Class, Source};
+use cases::feed::codes;
 use independent::Code;
 
 use crate::difference::Difference;
 use crate::unit::Unit;
 
+/// What is compared: the cases of a seed that ask for these ops, from the first on, so many.
+#[derive(Clone, Debug)]
+pub struct Asked {
+    pub ops: Vec<u8>,
+    pub seed: u64,
+    pub first: u64,
+    pub count: u64,
+}
+
 /// What a comparison found.
-#[derive(Default)]
 pub struct Comparison {
+    source: Source,
     /// How many cases were compared, and equal but for the difference.
     pub compared: u64,
     pub difference: Option<Difference>,
+    /// How often each code was the answer; each that the ops can answer with is there.
     codes: BTreeMap<u8, u64>,
     classes: BTreeMap<Class, u64>,
 }
 
-/// Compares the cases from the first on, so many, and stops at the first difference.
-pub fn compare(unit: &Unit, seed: u64, first: u64, count: u64) -> io::Result<Comparison> {
-    let mut found = Comparison::default();
+/// Compares case by case, and stops at the first difference.
+pub fn compare(unit: &Unit, asked: &Asked) -> io::Result<Comparison> {
+    let Asked { first, count, .. } = *asked;
+    let mut found = Comparison::new(asked);
+    let source = found.source.clone();
     unit.answer(
         count,
-        |number| case(seed, first + number).1,
+        |number| source.case(first + number).1,
         |number, line| {
             if number == count {
-                found.difference = Some(too_many(seed, first + number - 1, line));
+                let nothing = "no further line".to_string();
+                found.difference = Some(found.differs(first + number - 1, line, Some(nothing)));
                 return ControlFlow::Break(());
             }
-            found.take(seed, first + number, line)
+            found.take(first + number, line)
         },
     )?;
     if found.difference.is_none() && found.compared < count {
-        found.difference = Some(missing(seed, first + found.compared));
+        found.difference = Some(found.differs(first + found.compared, "no line".to_string(), None));
     }
     Ok(found)
 }
 
 impl Comparison {
+    fn new(asked: &Asked) -> Comparison {
+        let expected: BTreeSet<u8> = asked.ops.iter().flat_map(|op| codes(*op)).copied().collect();
+        Comparison {
+            source: Source::new(&asked.ops, asked.seed),
+            compared: 0,
+            difference: None,
+            codes: expected.into_iter().map(|code| (code, 0)).collect(),
+            classes: BTreeMap::new(),
+        }
+    }
+
     /// Compares the unit's line with the independent program's.
-    fn take(&mut self, seed: u64, number: u64, unit: String) -> ControlFlow<()> {
-        let (class, case) = case(seed, number);
+    fn take(&mut self, number: u64, unit: String) -> ControlFlow<()> {
+        let (class, case) = self.source.case(number);
         let independent = case.line();
         self.compared += 1;
         *self.classes.entry(class).or_default() += 1;
@@ -53,25 +78,21 @@ impl Comparison {
         if unit == independent {
             return ControlFlow::Continue(());
         }
-        self.difference = Some(Difference { number, class: class.name(), case, unit, independent });
+        self.difference = Some(self.differs(number, unit, Some(independent)));
         ControlFlow::Break(())
     }
 
-    /// Whether every code from 0 to 18 was an answer.
-    pub fn reached_every_code(&self) -> bool {
-        Code::ALL.iter().all(|code| self.codes.contains_key(&code.number()))
+    /// The difference at a case. Without the independent program's line it is asked once more.
+    fn differs(&self, number: u64, unit: String, independent: Option<String>) -> Difference {
+        let (class, case) = self.source.case(number);
+        let independent = independent.unwrap_or_else(|| case.line());
+        Difference { number, class: class.name(), case, unit, independent }
     }
-}
 
-fn too_many(seed: u64, number: u64, unit: String) -> Difference {
-    let (class, case) = case(seed, number);
-    Difference { number, class: class.name(), case, unit, independent: "no further line".to_string() }
-}
-
-fn missing(seed: u64, number: u64) -> Difference {
-    let (class, case) = case(seed, number);
-    let independent = case.line();
-    Difference { number, class: class.name(), case, unit: "no line".to_string(), independent }
+    /// The codes that the ops can answer with and that were never the answer.
+    pub fn unreached(&self) -> Vec<u8> {
+        self.codes.iter().filter(|(_, count)| **count == 0).map(|(code, _)| *code).collect()
+    }
 }
 
 /// How often each class was asked, and each code answered.
@@ -81,9 +102,8 @@ impl fmt::Display for Comparison {
             writeln!(f, "  {count:>8}  {}", class.name())?;
         }
         writeln!(f, "by answer:")?;
-        for code in Code::ALL {
-            let count = self.codes.get(&code.number()).copied().unwrap_or(0);
-            writeln!(f, "  {count:>8}  {:>2} {}", code.number(), code.name())?;
+        for (code, count) in &self.codes {
+            writeln!(f, "  {count:>8}  {code:>2} {}", Code::from_number(*code).map_or("", Code::name))?;
         }
         Ok(())
     }
@@ -92,20 +112,26 @@ impl fmt::Display for Comparison {
 #[cfg(test)]
 mod tests {
     use super::*;
+    use cases::feed::ALL_OPS;
+
+    fn asked(count: u64) -> Asked {
+        Asked { ops: ALL_OPS.to_vec(), seed: 1, first: 0, count }
+    }
 
     #[test]
     fn the_independent_program_agrees_with_itself() {
-        let found = compare(&Unit::Independent, 1, 0, 300).unwrap();
+        let found = compare(&Unit::Independent, &asked(300)).unwrap();
         assert_eq!(found.compared, 300);
         assert!(found.difference.is_none());
+        assert!(found.unreached().contains(&1), "300 cases have none over the limit");
     }
 
     #[test]
     fn another_line_is_a_difference() {
-        let mut found = Comparison::default();
-        let right = case(1, 5).1.line();
-        assert!(found.take(1, 5, right.clone()).is_continue());
-        assert!(found.take(1, 5, right + "00").is_break());
+        let mut found = Comparison::new(&asked(6));
+        let right = found.source.case(5).1.line();
+        assert!(found.take(5, right.clone()).is_continue());
+        assert!(found.take(5, right + "00").is_break());
         assert_eq!(found.difference.unwrap().number, 5);
     }
 }

@@ -27,7 +27,7 @@ impl fmt::Display for Difference {
         writeln!(f, "  the unit says         {}", in_words(&self.unit))?;
         writeln!(f, "  the independent says  {}", in_words(&self.independent))?;
         for (who, line) in [("the unit", &self.unit), ("the independent", &self.independent)] {
-            if let Some(place) = place(line).filter(|place| *place <= self.case.bytes.len()) {
+            if let Some(place) = self.place(line) {
                 writeln!(f, "  around {who}'s place {place}:")?;
                 around(f, &self.case.bytes, place)?;
             }
@@ -41,12 +41,28 @@ impl fmt::Display for Difference {
     }
 }
 
+impl Difference {
+    /// Where a line's place lies in what was asked about. The place of an acceptance is a length, but for a pick's; that of
+    /// 14 and 19 the bytes needed.
+    fn place(&self, line: &str) -> Option<usize> {
+        let mut words = line.split(' ');
+        let (code, place) = (words.next()?, words.nth(1)?.parse().ok()?);
+        let lies_in = match code {
+            "0" => matches!(self.case.op, Op::Pick { .. }),
+            "14" | "19" => false,
+            _ => true,
+        };
+        (lies_in && place <= self.case.bytes.len()).then_some(place)
+    }
+}
+
 fn question(case: &Case) -> String {
     let length = case.bytes.len();
     match case.op {
         Op::Check { room } => format!("check of {length} bytes, room {room}"),
         Op::Read => format!("read of {length} bytes"),
         Op::Pick { row, n } => format!("pick of row {row}, n {n}, from {length} bytes"),
+        Op::Write { room } => format!("write of {length} bytes, room {room}"),
     }
 }
 
@@ -63,12 +79,12 @@ fn in_words(line: &str) -> String {
     }
 }
 
-fn place(line: &str) -> Option<usize> {
-    line.split(' ').nth(2)?.parse().ok()
-}
-
+/// The bytes that an answer hands back; none of a line that is no answer.
 fn hex(line: &str) -> &str {
-    line.split(' ').nth(3).unwrap_or("")
+    match line.split(' ').collect::<Vec<_>>()[..] {
+        [_, _, _, hex] => hex,
+        _ => "",
+    }
 }
 
 /// The first byte in which the handed-back parts differ.
@@ -140,6 +156,23 @@ case 7: message with one fault, check of 12 bytes, room 100
         };
         let shown = difference.to_string();
         assert!(shown.contains("differ from byte 1 on:\n    unit         ..31\n    independent  ..32\n"), "{shown}");
+    }
+
+    #[test]
+    fn bytes_needed_are_no_place() {
+        let difference = Difference {
+            number: 0,
+            class: "write of an image, tight room",
+            case: Case::write(2, "KTO and more"),
+            unit: "14 0 3 ".to_string(),
+            independent: "19 0 4 ".to_string(),
+        };
+        let expected = "\
+case 0: write of an image, tight room, write of 12 bytes, room 2
+  the unit says         code 14 (longer than the buffer), row 0, place 3
+  the independent says  code 19 (file would be too long), row 0, place 4
+";
+        assert_eq!(difference.to_string(), expected);
     }
 
     #[test]

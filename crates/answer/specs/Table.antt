@@ -1,4 +1,4 @@
--- The table of document 01, "Numbers handed back": each case with its code, its row and its place. Assumes nothing.
+-- The table of document 01, "Numbers handed back": each case with its code, its row and its place; then the codes of document 02. Assumes nothing.
 use Prim.Native.Nat.{ℕ}
 use Rattle.answer.specs.declared.Answer.{Answer}
 
@@ -88,3 +88,7 @@ brokenImage p = answer 17 0 p
 -- "code 18 .. if the row is no leaf or has no such item, row 0 and place 0"
 abbrev pub noSuchLeaf : Answer
 noSuchLeaf = answer 18 0 0
+
+-- document 02, section 1: "19 where the file would be over 1,048,576 bytes .. place is the bytes needed, row 0"
+abbrev pub tooLarge : ℕ → Answer
+tooLarge n = answer 19 0 n

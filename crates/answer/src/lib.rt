@@ -22,6 +22,7 @@ ghost use Rattle.answer.specs.Table.{
   wrongVersion,
   brokenImage,
   noSuchLeaf,
+  tooLarge,
 };
 
 pub struct Answer {
@@ -68,6 +69,8 @@ impl Answer {
     pub const BROKEN_IMAGE: u8 = 17;
 
     pub const NO_SUCH_LEAF: u8 = 18;
+
+    pub const TOO_LARGE: u8 = 19;
 
     // The most bytes that a file or a run may have.
     pub const LIMIT: usize = 1048576;
@@ -273,6 +276,17 @@ impl Answer {
             code: Self::NO_SUCH_LEAF,
             row: 0,
             place: 0,
+        }
+    }
+
+    // A file that is to be written would be over the limit: the bytes it needs.
+    pub fn too_large(needed: usize) -> Self
+        ensures { λ r. ⌜ r ≡ tooLarge needed ⌝ }
+    {
+        Self {
+            code: Self::TOO_LARGE,
+            row: 0,
+            place: needed,
         }
     }
 }

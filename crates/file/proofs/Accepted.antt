@@ -8,7 +8,7 @@ use native.Mathlib.Omega.{arith}
 use lib.ListN.{length, take, drop}
 use lib.Seq.{take-append-seam}
 use Rattle.answer.specs.declared.Answer.{Answer}
-use Rattle.answer.specs.Table.{answer, accepted, tooLong, notUtf8, notHouseXml, noRoom}
+use Rattle.answer.specs.Table.{accepted, tooLong, notUtf8, notHouseXml, noRoom}
 use Rattle.list.specs.Listing.{Listing}
 use Rattle.list.specs.WellFormed.{WellFormed}
 use Rattle.list.specs.Content.{Content}
@@ -28,7 +28,7 @@ module _ (k : Kinds) (l : Listing) (s d : List ℕ) (a : Answer) (d′ : List �
   refusal-leaves (long h e f) n = f
   refusal-leaves (bytes h u m q e f) n = f
   refusal-leaves (markup h u v m q e f) n = f
-  refusal-leaves (violation w c r o q e f) n = f
+  refusal-leaves (violation w q f) n = f
   refusal-leaves (room c w h e f) n = f
   refusal-leaves (image c w h e f) n = absurd (n (code-of a (accepted (length (imageOf k l c))) e))
 
@@ -45,7 +45,7 @@ module _ (k : Kinds) (l : Listing) (s d : List ℕ) (a : Answer) (d′ : List �
   taken (long h e f) z = absurd (omega (arith, code-of a tooLong e))
   taken (bytes h u m q e f) z = absurd (omega (arith, code-of a (notUtf8 m) e))
   taken (markup h u v m q e f) z = absurd (omega (arith, code-of a (notHouseXml m) e))
-  taken (violation w c r o q e f) z = absurd (omega (arith, code-of a (answer c r o) e, violation-code (k .types) l (messageIn w) c r o q))
+  taken (violation w q f) z = absurd (omega (arith, violation-code (k .types) l (messageIn w) a q))
   taken (room c w h e f) z = absurd (omega (arith, code-of a (noRoom (length (imageOf k l c))) e))
   taken (image c w h e f) z = record { content = c; file = w; fits = h; is = e; buffer = f }
 
@@ -73,6 +73,6 @@ module _ (k : Kinds) (l : Listing) (s d : List ℕ) (a : Answer) (d′ : List �
   room-enough f (long h e g) m z = omega (arith, code-of a tooLong e)
   room-enough f (bytes h u n q e g) m z = omega (arith, code-of a (notUtf8 n) e)
   room-enough f (markup h u v n q e g) m z = omega (arith, code-of a (notHouseXml n) e)
-  room-enough f (violation w c r o q e g) m z = omega (arith, code-of a (answer c r o) e, violation-code (k .types) l (messageIn w) c r o q)
+  room-enough f (violation w q g) m z = omega (arith, violation-code (k .types) l (messageIn w) a q)
   room-enough f (room c w h e g) m z = omega (arith, f s c w)
   room-enough f (image c w h e g) m z = omega (arith, code-of a (accepted (length (imageOf k l c))) e)

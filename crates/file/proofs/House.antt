@@ -1,7 +1,7 @@
 -- What holds of `check`'s answers with document 01's types and its house list. Assumes nothing.
 use mathlib.Core.Path.{_≡_, refl, sym, _∙_, ap, subst}
 use mathlib.Core.Bool.{Bool, true, false, _||_, not, false≢true}
-use mathlib.Core.Logic.{_≢_, _↔_, inl}
+use mathlib.Core.Logic.{_≢_, _↔_}
 use mathlib.Core.List.{List, [], _++_, append-nil}
 use Prim.Native.Nat.{ℕ, zero, suc, _+_, _≤_}
 use native.Mathlib.Omega.{arith}
@@ -14,16 +14,19 @@ use Rattle.answer.specs.Table.{accepted, limit}
 use Rattle.list.specs.Words.{firstFrom}
 use Rattle.list.specs.Listing.{ref, iban, ccy, bool, num, amt, date, dtm, txt, enum, Kind, group, choice, leaf, Row, rowAt, size}
 use Rattle.list.specs.Content.{Content}
+use Rattle.list.specs.Within.{Kept}
 use Rattle.list_house.specs.House.{house}
+use Rattle.list_house.specs.Lists.{stored}
 use Rattle.list.proofs.Words.{firstFrom-none}
 use Rattle.list.proofs.Next.{row-past}
 use Rattle.list_house.proofs.HouseSound.{house-well}
+use Rattle.list_house.proofs.Lists.{asked-kept, house-asked}
 use Rattle.value.specs.Value.{Value}
 use Rattle.value.proofs.Values.{value-laws}
 use Rattle.value.proofs.Spell.{spell-sound, spell-complete}
 use Rattle.file_walk.specs.Types.{Spelling}
 use Rattle.image.proofs.Lawful.{lawful}
-use Rattle.image_reading.specs.Reads.{stored, HouseAccepts, HouseReads}
+use Rattle.image_reading.specs.Reads.{HouseAccepts, HouseReads}
 use Rattle.image_reading.proofs.House.{house-accepts-one}
 use Rattle.file.specs.Instance.{houseTypes, houseKinds}
 use Rattle.file.specs.File.{File, imageOf}
@@ -75,6 +78,10 @@ num-names (suc r) e = elim (decLt (size house) (suc r)) [
 pub image-no-longer : (s : List ℕ) (c : Content Value) → File houseKinds house s c → length (imageOf houseKinds house c) ≤ length s
 image-no-longer = image-short houseKinds spelling house house-well num-names (value-laws .short)
 
+-- what files are asked lies within what images keep to: what check writes by the one, the reader takes by the other
+house-kept : Kept house stored
+house-kept = asked-kept house house-asked
+
 -- a file has one content
 pub one-content : (s : List ℕ) (c e : Content Value) → File houseKinds house s c → File houseKinds house s e → c ≡ e
 one-content = content-one houseKinds spelling house house-well
@@ -115,23 +122,23 @@ module _ (s d : List ℕ) (a : Answer) (d′ : List ℕ) (p : Checks s d a d′)
       let e = append-nil (take (a .place) d′) in
       let n : length (take (a .place) d′) ≡ length (imageOf houseKinds house (t .content)) = ap length (general.written houseKinds house s d a d′ t) in
       subst (λ (r : List ℕ). HouseReads r a) e
-      (images.read-alike houseKinds house s d a d′ t stored (inl refl) [] (omega (arith, ap length e, n, image-no-longer s (t .content) (t .file), t .file .whole .size)))
+      (images.read-alike houseKinds house s d a d′ t stored house-kept [] (omega (arith, ap length e, n, image-no-longer s (t .content) (t .file), t .file .whole .size)))
 
   -- and so is the buffer as it stands, where it is within the limit
   pub read-buffer : a .code ≡ 0 → length d′ ≤ limit → HouseReads d′ a
   read-buffer z h =
       let t = general.taken houseKinds house s d a d′ p z in
       let e = take-append-drop (a .place) d′ in
-      subst (λ (r : List ℕ). HouseReads r a) e (images.read-alike houseKinds house s d a d′ t stored (inl refl) (drop (a .place) d′) (omega (arith, ap length e)))
+      subst (λ (r : List ℕ). HouseReads r a) e (images.read-alike houseKinds house s d a d′ t stored house-kept (drop (a .place) d′) (omega (arith, ap length e)))
 
-  -- whatever image of the house list begins there is of this length, and of the file's content
+  -- whatever image begins there is of this length, and of the file's content
   pub read-content : a .code ≡ 0 → (u : List ℕ) (n : ℕ) (w : HouseAccepts (take (a .place) d′ ++ u) n) (c : Content Value) → File houseKinds house s c
       → (n ≡ a .place) × (w .holds .content ≡ c)
   read-content z u n w c f =
       let t = general.taken houseKinds house s d a d′ p z in
-      let b = images.reads-back houseKinds house s d a d′ t stored (inl refl) u in
+      let b = images.reads-back houseKinds house s d a d′ t stored house-kept u in
       let o = house-accepts-one (take (a .place) d′ ++ u) n (a .place) w b in
-      (o .0, o .1 ∙ images.same-content houseKinds house s d a d′ t stored (inl refl) u ∙ one-content s (t .content) c (t .file) f)
+      (o .0, o .1 ∙ images.same-content houseKinds house s d a d′ t stored house-kept u ∙ one-content s (t .content) c (t .file) f)
 
 -- demand 3, for any two accepted files
 module _ (s d : List ℕ) (a : Answer) (d′ : List ℕ) (p : Checks s d a d′) (good : a .code ≡ 0) (s₂ d₂ : List ℕ) (a₂ : Answer) (e′ : List ℕ) (p₂ : Checks s₂ d₂ a₂ e′) (good₂ : a₂ .code ≡ 0)

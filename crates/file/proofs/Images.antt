@@ -9,8 +9,11 @@ use Rattle.answer.specs.declared.Answer.{Answer}
 use Rattle.answer.specs.Table.{accepted, limit}
 use Rattle.list.specs.Listing.{Listing}
 use Rattle.list.specs.WellFormed.{WellFormed}
+use Rattle.list.specs.Within.{Kept}
+use Rattle.list.proofs.Within.{meets-within}
 use Rattle.image.specs.Image.{Lawful, header, body, image}
-use Rattle.image.specs.Place.{now, Among, Accepts, Reads, whole}
+use Rattle.image.specs.Place.{now, Accepts, Reads, whole}
+use Rattle.image.proofs.Within.{image-within}
 use Rattle.image.proofs.Images.{told}
 use Rattle.file.specs.Instance.{Kinds, valuesOf}
 use Rattle.file.specs.File.{imageOf}
@@ -37,23 +40,27 @@ module _ (k : Kinds) (l : Listing) where
     long-is : a .place ≡ length (imageOf k l (t .content))
     long-is = ap (λ (x : Answer). x .place) (t .is)
 
-    abbrev bodyOf : List ℕ
-    bodyOf = body (valuesOf k) l (t .content)
+    -- over lists of images, in one of which the file's list lies
+    module _ (ls : List Listing) (w : Kept l ls) (u : List ℕ) where
+      abbrev bodyOf : List ℕ
+      bodyOf = body (valuesOf k) (w .list) (t .content)
 
-    module _ (ls : List Listing) (i : Among l ls) (u : List ℕ) where
+      same-image : imageOf k l (t .content) ≡ imageOf k (w .list) (t .content)
+      same-image = image-within (valuesOf k) l (w .list) (w .within) (t .content)
+
       -- a run that begins with what check wrote begins with an image of the answer's length, and of the file's content
       pub reads-back : Accepts (valuesOf k) ls (take (a .place) d′ ++ u) (a .place)
       unfolding image
       reads-back = record {
-        list = l;
-        among = i;
-        head = header l;
+        list = w .list;
+        among = w .among;
+        head = header (w .list);
         front = now refl;
         behind = bodyOf ++ u;
-        at = ap (λ (x : List ℕ). x ++ u) (written k l s d a d′ t) ∙ append-assoc (header l) bodyOf u;
+        at = ap (λ (x : List ℕ). x ++ u) (written k l s d a d′ t ∙ same-image) ∙ append-assoc (header (w .list)) bodyOf u;
         size = length bodyOf;
-        holds = record { content = t .content; meets = t .file .meets; rest = u; at = refl; long = refl };
-        long = long-is ∙ length-append (header l) bodyOf;
+        holds = record { content = t .content; meets = meets-within l (w .list) (w .within) (k .types .Is) (t .content) (t .file .meets); rest = u; at = refl; long = refl };
+        long = long-is ∙ ap length same-image ∙ length-append (header (w .list)) bodyOf;
       }
 
       pub same-content : reads-back .holds .content ≡ t .content

@@ -6,7 +6,7 @@ use Prim.Native.Nat.{ℕ, _≤_, _<_}
 use native.Mathlib.Omega.{arith}
 use lib.ListN.{length, drop}
 use Rattle.answer.specs.declared.Answer.{Answer}
-use Rattle.answer.specs.Table.{answer, accepted, limit, tooLong, notUtf8, notHouseXml, noRoom}
+use Rattle.answer.specs.Table.{accepted, limit, tooLong, notUtf8, notHouseXml, noRoom}
 use Rattle.text_characters.specs.Utf8.{Utf8, LongestUtf8}
 use Rattle.text_characters.proofs.Longest.{longest-utf8-one}
 use Rattle.list.specs.Listing.{Listing}
@@ -16,8 +16,10 @@ use Rattle.xml.specs.House.{HouseXml, Longest}
 use Rattle.xml.specs.Message.{Parts, messageOf}
 use Rattle.xml.proofs.Unique.{tree-one}
 use Rattle.xml.proofs.Theorem.{longest-one}
+use Rattle.file_walk.specs.declared.found.Found.{Found}
+use Rattle.file_walk.specs.declared.found.Found.the-variants.{Fine, Violation}
 use Rattle.file_walk.specs.Types.{Spelling}
-use Rattle.file_walk.specs.First.{Found, fine, found, firstViolation}
+use Rattle.file_walk.specs.First.{firstViolation}
 use Rattle.file_walk.specs.Denotes.{Has}
 use Rattle.file_walk.proofs.Accept as walk
 use Rattle.file.specs.Instance.{Kinds}
@@ -29,15 +31,15 @@ pub message-one : (s : List ℕ) (a b : Whole s) → messageIn a ≡ messageIn b
 message-one s a b = ap messageOf (tree-one (a .xml .tree) (b .xml .tree) (a .xml .good) (b .xml .good) (sym (a .xml .is) ∙ b .xml .is))
 
 abbrev isFine : Found → Bool
-isFine fine = true
-isFine (found c r o) = false
+isFine Fine = true
+isFine (Violation a) = false
 
-pub fine-found : {P : Type 0} (f : Found) (c r o : ℕ) → f ≡ fine → f ≡ found c r o → P
-fine-found f c r o e g = absurd (true≢false (ap isFine (sym e ∙ g)))
+pub fine-found : {P : Type 0} (f : Found) (a : Answer) → f ≡ Fine → f ≡ Violation a → P
+fine-found f a e g = absurd (true≢false (ap isFine (sym e ∙ g)))
 
-abbrev answerOf : Found → Answer
-answerOf fine = accepted 0
-answerOf (found c r o) = answer c r o
+-- a violation has one answer
+violation-one : (a b : Answer) → Violation a ≡ Violation b → a ≡ b
+violation-one a b e = cc
 
 -- the answer and the buffer behind the call are these
 pub record Is (x : Answer) (z : List ℕ) (a : Answer) (d′ : List ℕ) : Type 0 where
@@ -51,7 +53,7 @@ module _ (k : Kinds) (y : Spelling (k .types)) (l : Listing) (wf : WellFormed l)
       walk.unique (k .types) y l wf (messageIn (a .whole)) c e (a .has) (subst (λ (m : Parts). Has (k .types) l m e) (message-one s (b .whole) (a .whole)) (b .has))
 
   -- the message of a good file has no violation
-  pub file-fine : (c : Content (k .types .A)) → File k l s c → (w : Whole s) → firstViolation (k .types) l (messageIn w) ≡ fine
+  pub file-fine : (c : Content (k .types .A)) → File k l s c → (w : Whole s) → firstViolation (k .types) l (messageIn w) ≡ Fine
   file-fine c f w =
       walk.accepted (k .types) y l wf (messageIn w) c (f .meets) (subst (λ (m : Parts). Has (k .types) l m c) (message-one s (f .whole) w) (f .has))
 
@@ -61,7 +63,7 @@ module _ (k : Kinds) (y : Spelling (k .types)) (l : Listing) (wf : WellFormed l)
     of-long h (long i e f) = record { answer = e; buffer = f }
     of-long h (bytes i u n p e f) = absurd (omega arith)
     of-long h (markup i u x n p e f) = absurd (omega arith)
-    of-long h (violation w c r o p e f) = absurd (omega (arith, w .size))
+    of-long h (violation w p f) = absurd (omega (arith, w .size))
     of-long h (room c w i e f) = absurd (omega (arith, w .whole .size))
     of-long h (image c w i e f) = absurd (omega (arith, w .whole .size))
 
@@ -70,7 +72,7 @@ module _ (k : Kinds) (y : Spelling (k .types)) (l : Listing) (wf : WellFormed l)
     of-bytes h u n p (long i e f) = absurd (omega arith)
     of-bytes h u n p (bytes i v m q e f) = record { answer = e ∙ ap notUtf8 (longest-utf8-one s m n q p); buffer = f }
     of-bytes h u n p (markup i v x m q e f) = absurd (u v)
-    of-bytes h u n p (violation w c r o q e f) = absurd (u (w .utf8))
+    of-bytes h u n p (violation w q f) = absurd (u (w .utf8))
     of-bytes h u n p (room c w i e f) = absurd (u (w .whole .utf8))
     of-bytes h u n p (image c w i e f) = absurd (u (w .whole .utf8))
 
@@ -79,20 +81,18 @@ module _ (k : Kinds) (y : Spelling (k .types)) (l : Listing) (wf : WellFormed l)
     of-markup h u x n p (long i e f) = absurd (omega arith)
     of-markup h u x n p (bytes i v m q e f) = absurd (v u)
     of-markup h u x n p (markup i v z m q e f) = record { answer = e ∙ ap notHouseXml (longest-one s m n q p); buffer = f }
-    of-markup h u x n p (violation w c r o q e f) = absurd (x (w .xml))
+    of-markup h u x n p (violation w q f) = absurd (x (w .xml))
     of-markup h u x n p (room c w i e f) = absurd (x (w .whole .xml))
     of-markup h u x n p (image c w i e f) = absurd (x (w .whole .xml))
 
     -- 4 to 13
-    pub of-violation : (w : Whole s) → (c r o : ℕ) → firstViolation (k .types) l (messageIn w) ≡ found c r o → Answers k l s d a d′ → Is (answer c r o) d a d′
-    of-violation w c r o v (long i e f) = absurd (omega (arith, w .size))
-    of-violation w c r o v (bytes i u m q e f) = absurd (u (w .utf8))
-    of-violation w c r o v (markup i u x m q e f) = absurd (x (w .xml))
-    of-violation w c r o v (violation z c′ r′ o′ q e f) =
-        let t : found c′ r′ o′ ≡ found c r o = sym q ∙ ap (firstViolation (k .types) l) (message-one s z w) ∙ v in
-        record { answer = e ∙ ap answerOf t; buffer = f }
-    of-violation w c r o v (room e z i g f) = fine-found (firstViolation (k .types) l (messageIn w)) c r o (file-fine e z w) v
-    of-violation w c r o v (image e z i g f) = fine-found (firstViolation (k .types) l (messageIn w)) c r o (file-fine e z w) v
+    pub of-violation : (w : Whole s) (b : Answer) → firstViolation (k .types) l (messageIn w) ≡ Violation b → Answers k l s d a d′ → Is b d a d′
+    of-violation w b v (long i e f) = absurd (omega (arith, w .size))
+    of-violation w b v (bytes i u m q e f) = absurd (u (w .utf8))
+    of-violation w b v (markup i u x m q e f) = absurd (x (w .xml))
+    of-violation w b v (violation z q f) = record { answer = violation-one a b (sym q ∙ ap (firstViolation (k .types) l) (message-one s z w) ∙ v); buffer = f }
+    of-violation w b v (room e z i g f) = fine-found (firstViolation (k .types) l (messageIn w)) b (file-fine e z w) v
+    of-violation w b v (image e z i g f) = fine-found (firstViolation (k .types) l (messageIn w)) b (file-fine e z w) v
 
     module _ (c : Content (k .types .A)) (w : File k l s c) where
       size-is : (e : Content (k .types .A)) → File k l s e → length (imageOf k l e) ≡ length (imageOf k l c)
@@ -103,7 +103,7 @@ module _ (k : Kinds) (y : Spelling (k .types)) (l : Listing) (wf : WellFormed l)
       of-room h (long i e f) = absurd (omega (arith, w .whole .size))
       of-room h (bytes i u m q e f) = absurd (u (w .whole .utf8))
       of-room h (markup i u x m q e f) = absurd (x (w .whole .xml))
-      of-room h (violation z c′ r o q e f) = fine-found (firstViolation (k .types) l (messageIn z)) c′ r o (file-fine c w z) q
+      of-room h (violation z q f) = fine-found (firstViolation (k .types) l (messageIn z)) a (file-fine c w z) q
       of-room h (room e z i g f) = record { answer = g ∙ ap noRoom (size-is e z); buffer = f }
       of-room h (image e z i g f) = absurd (omega (arith, size-is e z))
 
@@ -112,7 +112,7 @@ module _ (k : Kinds) (y : Spelling (k .types)) (l : Listing) (wf : WellFormed l)
       of-image h (long i e f) = absurd (omega (arith, w .whole .size))
       of-image h (bytes i u m q e f) = absurd (u (w .whole .utf8))
       of-image h (markup i u x m q e f) = absurd (x (w .whole .xml))
-      of-image h (violation z c′ r o q e f) = fine-found (firstViolation (k .types) l (messageIn z)) c′ r o (file-fine c w z) q
+      of-image h (violation z q f) = fine-found (firstViolation (k .types) l (messageIn z)) a (file-fine c w z) q
       of-image h (room e z i g f) = absurd (omega (arith, size-is e z))
       of-image h (image e z i g f) =
           record {
@@ -125,6 +125,6 @@ module _ (k : Kinds) (y : Spelling (k .types)) (l : Listing) (wf : WellFormed l)
   answers-one d a b x z (long h e f) p = let o = of-long d b z h p in (e ∙ sym (o .answer), f ∙ sym (o .buffer))
   answers-one d a b x z (bytes h u n q e f) p = let o = of-bytes d b z h u n q p in (e ∙ sym (o .answer), f ∙ sym (o .buffer))
   answers-one d a b x z (markup h u v n q e f) p = let o = of-markup d b z h u v n q p in (e ∙ sym (o .answer), f ∙ sym (o .buffer))
-  answers-one d a b x z (violation w c r i q e f) p = let o = of-violation d b z w c r i q p in (e ∙ sym (o .answer), f ∙ sym (o .buffer))
+  answers-one d a b x z (violation w q f) p = let o = of-violation d b z w a q p in (sym (o .answer), f ∙ sym (o .buffer))
   answers-one d a b x z (room c w h e f) p = let o = of-room d b z c w h p in (e ∙ sym (o .answer), f ∙ sym (o .buffer))
   answers-one d a b x z (image c w h e f) p = let o = of-image d b z c w h p in (e ∙ sym (o .answer), f ∙ sym (o .buffer))

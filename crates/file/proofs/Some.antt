@@ -8,7 +8,7 @@ use native.Mathlib.Omega.{arith}
 use native.Mathlib.Decide.{decLt}
 use lib.ListN.{length, drop, length-drop}
 use Rattle.answer.specs.declared.Answer.{Answer}
-use Rattle.answer.specs.Table.{answer, accepted, limit, tooLong, notUtf8, notHouseXml, noRoom}
+use Rattle.answer.specs.Table.{accepted, limit, tooLong, notUtf8, notHouseXml, noRoom}
 use Rattle.text_characters.specs.Utf8.{LongestUtf8}
 use Rattle.text_characters.specs.Decoding.{decoded}
 use Rattle.text_characters.proofs.Longest.{stop, more}
@@ -21,8 +21,10 @@ use Rattle.xml.specs.House.{HouseXml}
 use Rattle.xml.specs.Message.{rootAt}
 use Rattle.xml.specs.Auto.{done, start, first, before, root, declare, name, tail, gap, attr, equals, quote, value, within, slash, content, part, less, close, St, dead, at, run, liveLen}
 use Rattle.xml.proofs.Theorem as xml
+use Rattle.file_walk.specs.declared.found.Found.{Found}
+use Rattle.file_walk.specs.declared.found.Found.the-variants.{Fine, Violation}
 use Rattle.file_walk.specs.Types.{Spelling}
-use Rattle.file_walk.specs.First.{Found, fine, found, firstViolation}
+use Rattle.file_walk.specs.First.{firstViolation}
 use Rattle.file_walk.proofs.Accept.{accept}
 use Rattle.file.specs.Instance.{Kinds, houseKinds}
 use Rattle.file.specs.File.{Whole, messageIn, File, imageOf}
@@ -119,8 +121,8 @@ module _ (k : Kinds) (y : Spelling (k .types)) (l : Listing) (wf : WellFormed l)
   ]
 
   of-message : (w : Whole s) (f : Found) → firstViolation (k .types) l (messageIn w) ≡ f → Answered
-  of-message w (found c r o) e = leaves (answer c r o) (violation w c r o e refl refl)
-  of-message w fine e =
+  of-message w (Violation a) e = leaves a (violation w e refl)
+  of-message w Fine e =
       let g = accept (k .types) y l wf (messageIn w) (one-element (w .xml .tree .root) (rootAt (w .xml .tree)) (w .xml .good .one)) e in
       of-file (g .0) (record { whole = w; has = g .2; meets = g .1 })
 

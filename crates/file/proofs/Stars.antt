@@ -7,7 +7,7 @@ use Prim.Native.String.{String}
 use native.Mathlib.Omega.{arith}
 use lib.Dec.{eqb, leb}
 use lib.ListN.{length, drop}
-use borrow.Author.Tests.{leb-true, leb-false, eqb-true}
+use borrow.Author.Tests.{leb-true, eqb-true}
 use Rattle.answer.specs.declared.Answer.{Answer}
 use Rattle.answer.specs.Table.{answer, accepted, limit, notHouseXml, noRoom}
 use Rattle.text.specs.Bytes.{ascii, isBlank, isCapital, isDigit, isLetter, isNameStart, isNamePart}
@@ -21,7 +21,7 @@ use Rattle.list.specs.Listing.{rowAt, child, nextDue}
 use Rattle.list.specs.Sound.{firstOf, secondOf}
 use Rattle.list.specs.Content.{Content as Kept}
 use Rattle.list_house.specs.House.{house}
-use Rattle.list.specs.Test.{every, begins}
+use Rattle.list.specs.Test.{every as all, begins}
 use Rattle.list_house.proofs.HouseSound.{house-well}
 use Rattle.list.proofs.Words.{same-eq}
 use Rattle.xml.specs.House.{double, Tag, Content, end, piece, empty, full, OneElement, whole}
@@ -36,7 +36,9 @@ use Rattle.value.specs.Reading.{readOf, signedOf, pointOf, wholeOf, fracOf, ans
 use Rattle.list.specs.Table.{placeFrom}
 use Rattle.value.specs.Spell.{spell, frontOff, backOff, passesFrom, dayOf, fractionOf, zoneOf, momentOf}
 use Rattle.value.specs.Value.{Value}
-use Rattle.file_walk.specs.First.{Found, fine, found, absent, childRows, inside, firstViolation}
+use Rattle.file_walk.specs.declared.found.Found.{Found}
+use Rattle.file_walk.specs.declared.found.Found.the-variants.{Fine, Violation}
+use Rattle.file_walk.specs.First.{absent, childRows, inside, firstViolation}
 use Rattle.file_walk.specs.Machine.{before, fresh, advance, emits}
 use Rattle.file_walk.proofs.Accept.{accept}
 use Rattle.file_walk.proofs.Items.{items-are}
@@ -46,7 +48,7 @@ use Rattle.file.specs.Instance.{houseTypes, houseKinds}
 use Rattle.file.specs.File.{Whole, File, imageOf}
 use Rattle.file.specs.Checks.{Checks}
 use Rattle.file.specs.Checks as checks
-use Rattle.file.specs.Stars.{Star, Shows, stars}
+use Rattle.file.specs.Stars.{Buffers, every, from, under, Lent, Star, Shows, stars}
 use Rattle.file.proofs.House.{spelling}
 use Rattle.file.proofs.Trees.{contentTest, rootTree, tree-good, asciiTest, ascii-utf8, not-is}
 use Rattle.file_walk.proofs.Beginning.{one-element}
@@ -85,13 +87,14 @@ foundIn i = firstViolation houseTypes house (messageOf (rootTree i))
 abbrev imageIn : Content → List ℕ
 imageIn i = header house ++ (bytes values house (emits houseTypes house before (events (messageOf (rootTree i)) [])) ++ (0 ∷ []))
 
-abbrev fits : Star → List ℕ → Bool → Bool
-fits e x true = sameAnswer (e .answer) (accepted (length x)) && same (e .image) x
-fits e x false = sameAnswer (e .answer) (noRoom (length x)) && isNil (e .image)
+abbrev fits : Star → List ℕ → Buffers → Bool
+fits e x every = false
+fits e x (from n) = leb (length x) n && (sameAnswer (e .answer) (accepted (length x)) && same (e .image) x)
+fits e x (under n) = leb n (length x) && (sameAnswer (e .answer) (noRoom (length x)) && isNil (e .image))
 
 abbrev walked : Star → List ℕ → Found → Bool
-walked e x fine = fits e x (leb (length x) (e .room))
-walked e x (found c r o) = sameAnswer (e .answer) (answer c r o) && isNil (e .image)
+walked e x Fine = fits e x (e .lent)
+walked e x (Violation a) = sameAnswer (e .answer) a && isNil (e .image)
 
 abbrev wayTest : Star → Way → Bool
 wayTest e (tree i) = contentTest 16 i && (oneTest i && (same (e .file) (whole (rootTree i)) && walked e (imageIn i) (foundIn i)))
@@ -131,7 +134,7 @@ one-is (piece p k) t = absurd (false≢true t)
 one-is (empty g k) t = end-is k t
 one-is (full g i h k) t = end-is k t
 
-module _ (e : Star) (chars : asciiTest (e .file) ≡ true) (size : leb (length (e .file)) limit ≡ true) (d : List ℕ) (l : length d ≡ e .room) where
+module _ (e : Star) (chars : asciiTest (e .file) ≡ true) (size : leb (length (e .file)) limit ≡ true) (d : List ℕ) where
   -- the buffer behind the call
   abbrev left : List ℕ → List ℕ
   left x = x ++ drop (length x) d
@@ -149,7 +152,7 @@ module _ (e : Star) (chars : asciiTest (e .file) ≡ true) (size : leb (length (
       its : File houseKinds house (e .file) content
       pictured : imageOf houseKinds house content ≡ imageIn i
 
-    right : foundIn i ≡ fine → Right
+    right : foundIn i ≡ Fine → Right
     unfolding file image
     right z =
         let c = accept houseTypes spelling house house-well (messageOf (rootTree i)) (one-element i 0 one) z in
@@ -159,34 +162,37 @@ module _ (e : Star) (chars : asciiTest (e .file) ≡ true) (size : leb (length (
           pictured = ap (λ is′. header house ++ (bytes values house is′ ++ (0 ∷ []))) (sym (items-are houseTypes spelling house house-well (messageOf (rootTree i)) (c .0) (c .2)));
         }
 
-    fits-shown : foundIn i ≡ fine → (b : Bool) → leb (length (imageIn i)) (e .room) ≡ b → fits e (imageIn i) b ≡ true → Checks (e .file) d (e .answer) (left (e .image))
-    fits-shown z true h t =
+    fits-shown : foundIn i ≡ Fine → (b : Buffers) → Lent b d → fits e (imageIn i) b ≡ true → Checks (e .file) d (e .answer) (left (e .image))
+    fits-shown z every h t = absurd (false≢true t)
+    fits-shown z (from m) h t =
         let r = right z in
         let n : length (imageOf houseKinds house (r .content)) ≡ length (imageIn i) = ap length (r .pictured) in
-        let a = and-is (sameAnswer (e .answer) (accepted (length (imageIn i)))) (same (e .image) (imageIn i)) t in
-        checks.image (r .content) (r .its) (omega (arith, n, leb-true (length (imageIn i)) (e .room) h)) (same-answer (e .answer) (accepted (length (imageIn i))) (a .0) ∙ ap accepted (sym n))
+        let o = and-is (leb (length (imageIn i)) m) (sameAnswer (e .answer) (accepted (length (imageIn i))) && same (e .image) (imageIn i)) t in
+        let a = and-is (sameAnswer (e .answer) (accepted (length (imageIn i)))) (same (e .image) (imageIn i)) (o .1) in
+        checks.image (r .content) (r .its) (omega (arith, n, h, leb-true (length (imageIn i)) m (o .0))) (same-answer (e .answer) (accepted (length (imageIn i))) (a .0) ∙ ap accepted (sym n))
         (ap left (same-eq (e .image) (imageIn i) (a .1) ∙ sym (r .pictured)))
-    fits-shown z false h t =
+    fits-shown z (under m) h t =
         let r = right z in
         let n : length (imageOf houseKinds house (r .content)) ≡ length (imageIn i) = ap length (r .pictured) in
-        let a = and-is (sameAnswer (e .answer) (noRoom (length (imageIn i)))) (isNil (e .image)) t in
-        checks.room (r .content) (r .its) (omega (arith, n, leb-false (length (imageIn i)) (e .room) h)) (same-answer (e .answer) (noRoom (length (imageIn i))) (a .0) ∙ ap noRoom (sym n))
+        let o = and-is (leb m (length (imageIn i))) (sameAnswer (e .answer) (noRoom (length (imageIn i))) && isNil (e .image)) t in
+        let a = and-is (sameAnswer (e .answer) (noRoom (length (imageIn i)))) (isNil (e .image)) (o .1) in
+        checks.room (r .content) (r .its) (omega (arith, n, h, leb-true m (length (imageIn i)) (o .0))) (same-answer (e .answer) (noRoom (length (imageIn i))) (a .0) ∙ ap noRoom (sym n))
         (kept (a .1))
 
-    walked-shown : (f : Found) → foundIn i ≡ f → walked e (imageIn i) f ≡ true → Checks (e .file) d (e .answer) (left (e .image))
+    walked-shown : Lent (e .lent) d → (f : Found) → foundIn i ≡ f → walked e (imageIn i) f ≡ true → Checks (e .file) d (e .answer) (left (e .image))
     unfolding file
-    walked-shown fine z t = fits-shown z (leb (length (imageIn i)) (e .room)) refl t
-    walked-shown (found c r o) z t =
-        let a = and-is (sameAnswer (e .answer) (answer c r o)) (isNil (e .image)) t in
-        checks.violation file c r o z (same-answer (e .answer) (answer c r o) (a .0)) (kept (a .1))
+    walked-shown l Fine z t = fits-shown z (e .lent) l t
+    walked-shown l (Violation v) z t =
+        let a = and-is (sameAnswer (e .answer) v) (isNil (e .image)) t in
+        checks.violation file (z ∙ ap Violation (sym (same-answer (e .answer) v (a .0)))) (kept (a .1))
 
-  way-shown : (w : Way) → wayTest e w ≡ true → Checks (e .file) d (e .answer) (left (e .image))
-  way-shown (tree i) t =
+  way-shown : Lent (e .lent) d → (w : Way) → wayTest e w ≡ true → Checks (e .file) d (e .answer) (left (e .image))
+  way-shown l (tree i) t =
       let a = and-is (contentTest 16 i) (oneTest i && (same (e .file) (whole (rootTree i)) && walked e (imageIn i) (foundIn i))) t in
       let b = and-is (oneTest i) (same (e .file) (whole (rootTree i)) && walked e (imageIn i) (foundIn i)) (a .1) in
       let c = and-is (same (e .file) (whole (rootTree i))) (walked e (imageIn i) (foundIn i)) (b .1) in
-      walked-shown i (a .0) (one-is i (b .0)) (same-eq (e .file) (whole (rootTree i)) (c .0)) (foundIn i) refl (c .1)
-  way-shown stray t =
+      walked-shown i (a .0) (one-is i (b .0)) (same-eq (e .file) (whole (rootTree i)) (c .0)) l (foundIn i) refl (c .1)
+  way-shown l stray t =
       let n = liveLen (at start) (e .file) in
       let a = and-is (not (isDone (run (at start) (e .file)))) (sameAnswer (e .answer) (notHouseXml n) && isNil (e .image)) t in
       let b = and-is (sameAnswer (e .answer) (notHouseXml n)) (isNil (e .image)) (a .1) in
@@ -245,5 +251,5 @@ ways =
 
 -- every row of the table shows
 pub all-stars : Each Shows stars
-unfolding stars liveLen run step next lead every begins encode isBlank isCapital isDigit isLetter isNameStart isNamePart firstViolation inside childRows absent child firstFrom same rowAt house xor decimalFrom isRef isTxt textFrom readOf signedOf pointOf wholeOf fracOf judged spell frontOff backOff passesFrom placeFrom dayOf fractionOf zoneOf momentOf header bigEndian fresh advance emits nextDue firstOf secondOf ways
+unfolding stars liveLen run step next lead all begins encode isBlank isCapital isDigit isLetter isNameStart isNamePart firstViolation inside childRows absent child firstFrom same rowAt house xor decimalFrom isRef isTxt textFrom readOf signedOf pointOf wholeOf fracOf judged spell frontOff backOff passesFrom placeFrom dayOf fractionOf zoneOf momentOf header bigEndian fresh advance emits nextDue firstOf secondOf ways
 all-stars = shown stars ways refl

@@ -4,13 +4,14 @@ use mathlib.Core.List.{List, _++_}
 use Prim.Native.Nat.{ℕ, _≤_, _<_}
 use lib.ListN.{length, drop}
 use Rattle.answer.specs.declared.Answer.{Answer}
-use Rattle.answer.specs.Table.{answer, accepted, limit, tooLong, notUtf8, notHouseXml, noRoom}
+use Rattle.answer.specs.Table.{accepted, limit, tooLong, notUtf8, notHouseXml, noRoom}
 use Rattle.text_characters.specs.Utf8.{Utf8, LongestUtf8}
 use Rattle.list.specs.Listing.{Listing}
 use Rattle.list_house.specs.House.{house}
 use Rattle.list.specs.Content.{Content}
 use Rattle.xml.specs.House.{HouseXml, Longest}
-use Rattle.file_walk.specs.First.{found, firstViolation}
+use Rattle.file_walk.specs.declared.found.Found.the-variants.{Violation}
+use Rattle.file_walk.specs.First.{firstViolation}
 use Rattle.file.specs.Instance.{Kinds, houseKinds}
 use Rattle.file.specs.File.{Whole, messageIn, File, imageOf}
 
@@ -24,7 +25,7 @@ module _ (k : Kinds) (l : Listing) where
     -- 3: "not house XML", "most leading bytes that still begin some house XML text"
     markup : length s ≤ limit → Utf8 s → (HouseXml s → ⊥) → (n : ℕ) → Longest s n → a ≡ notHouseXml n → d′ ≡ d → Answers s d a d′
     -- 4 to 13: "then the message is walked in document order and the first violation is the answer"
-    violation : (w : Whole s) → (c r o : ℕ) → firstViolation (k .types) l (messageIn w) ≡ found c r o → a ≡ answer c r o → d′ ≡ d → Answers s d a d′
+    violation : (w : Whole s) → firstViolation (k .types) l (messageIn w) ≡ Violation a → d′ ≡ d → Answers s d a d′
     -- 14: "valid, but image longer than the buffer", row 0, "bytes needed"; "14 comes last"
     room : (c : Content (k .types .A)) → File k l s c → length d < length (imageOf k l c) → a ≡ noRoom (length (imageOf k l c)) → d′ ≡ d → Answers s d a d′
     -- "Acceptance is 0, row 0, image length; bytes of the result buffer beyond the image stay"

@@ -1,8 +1,7 @@
 -- The starred examples of document 01, "the proved set": one table. Assumes nothing.
 use mathlib.Core.List.{List, [], _∷_, _++_}
-use Prim.Native.Nat.{ℕ}
+use Prim.Native.Nat.{ℕ, _≤_, _<_}
 use Prim.Native.String.{String}
-use mathlib.Core.Path.{_≡_}
 use lib.ListN.{length, drop}
 use Rattle.answer.specs.declared.Answer.{Answer}
 use Rattle.answer.specs.Table.{accepted, notHouseXml, wrongRoot, badValue, noRoom}
@@ -10,16 +9,27 @@ use Rattle.text.specs.Bytes.{ascii}
 use Rattle.text.specs.Numbers.{bigEndian}
 use Rattle.file.specs.Checks.{Checks}
 
--- a file, how many bytes the buffer has, the answer, and the image that is written, which a refused file has none of
+-- which buffers a row speaks of: every one, those of n bytes and more, those of fewer
+pub data Buffers : Type 0 where
+  every : Buffers
+  from : ℕ → Buffers
+  under : ℕ → Buffers
+
+abbrev pub Lent : Buffers → List ℕ → Type 0
+Lent every d = Unit {0}
+Lent (from n) d = n ≤ length d
+Lent (under n) d = length d < n
+
+-- a file, the buffers, the answer, and the image that is written, which a refused file has none of
 pub record Star : Type 0 where
   pub file : List ℕ
-  pub room : ℕ
+  pub lent : Buffers
   pub answer : Answer
   pub image : List ℕ
 
--- what a row says: of every buffer of that length, whatever stands in it
+-- what a row says: of every such buffer, whatever stands in it
 abbrev pub Shows : Star → Type 0
-Shows e = (d : List ℕ) → length d ≡ e .room → Checks (e .file) d (e .answer) (e .image ++ drop (length (e .image)) d)
+Shows e = (d : List ℕ) → Lent (e .lent) d → Checks (e .file) d (e .answer) (e .image ++ drop (length (e .image)) d)
 
 -- document 01's whole file, with this MsgId and this amount
 abbrev pub statement : String → String → List ℕ
@@ -37,22 +47,27 @@ printed m scale coefficient =
     0x0F ∷ 0x10 ∷ 0x11 ∷ 0x12 ∷ 0x02 ∷ 0x13 ∷ 0x45 ∷ 0x55 ∷ 0x52 ∷ scale ∷ (bigEndian 8 coefficient ++ (
     0x14 ∷ 0x01 ∷ 0x15 ∷ 0x16 ∷ 0x07 ∷ 0xE8 ∷ 0x02 ∷ 0x1D ∷ 0x00 ∷ [])))))
 
-abbrev pub refused : List ℕ → ℕ → Answer → Star
-refused s n a = record { file = s; room = n; answer = a; image = [] }
+-- refused whatever the buffer is
+abbrev pub refused : List ℕ → Answer → Star
+refused s a = record { file = s; lent = every; answer = a; image = [] }
+
+-- accepted, with an image of n bytes, by every buffer that has them
+abbrev pub good : List ℕ → ℕ → List ℕ → Star
+good s n x = record { file = s; lent = from n; answer = accepted n; image = x }
 
 -- a good amount, its coefficient and its scale; one that is none: 12 at its element's `<`
 abbrev pub amount : String → ℕ → ℕ → Star
-amount a c k = record { file = statement "M1" a; room = 67; answer = accepted 67; image = printed (ascii "M1") k c }
+amount a c k = good (statement "M1" a) 67 (printed (ascii "M1") k c)
 
 abbrev pub noAmount : String → Star
-noAmount a = refused (statement "M1" a) 67 (badValue 19 265)
+noAmount a = refused (statement "M1" a) (badValue 19 265)
 
 unfoldable pub stars : List Star
 stars =
     -- "empty: 3, place 0. `<a></b>`: 3, place 5. `<Document/>`: 4, row 1, place 0"
-    refused [] 67 (notHouseXml 0) ∷
-    refused (ascii "<a></b>") 67 (notHouseXml 5) ∷
-    refused (ascii "<Document/>") 67 (wrongRoot 0) ∷
+    refused [] (notHouseXml 0) ∷
+    refused (ascii "<a></b>") (notHouseXml 5) ∷
+    refused (ascii "<Document/>") (wrongRoot 0) ∷
     -- "AMT accepted: `1250.50` (12505, scale 1), `-0.00` (0, 0), `.5`, .. `0.000010` (1, 5), 18 nines"
     amount "1250.50" 12505 1 ∷
     amount "-0.00" 0 0 ∷
@@ -64,9 +79,9 @@ stars =
     noAmount "1000000000000000000" ∷
     noAmount "." ∷
     -- "REF: `A/B` good, `A//B` bad"
-    record { file = statement "A/B" "5.00"; room = 68; answer = accepted 68; image = printed (ascii "A/B") 0 5 } ∷
-    refused (statement "A//B" "5.00") 67 (badValue 4 88) ∷
+    good (statement "A/B" "5.00") 68 (printed (ascii "A/B") 0 5) ∷
+    refused (statement "A//B" "5.00") (badValue 4 88) ∷
     -- "The image above: a 67-byte buffer accepts; 66 gives 14, place 67"
-    record { file = statement "M1" "5.00"; room = 67; answer = accepted 67; image = printed (ascii "M1") 0 5 } ∷
-    refused (statement "M1" "5.00") 66 (noRoom 67) ∷
+    good (statement "M1" "5.00") 67 (printed (ascii "M1") 0 5) ∷
+    record { file = statement "M1" "5.00"; lent = under 67; answer = noRoom 67; image = [] } ∷
     []

@@ -1,1 +1,1 @@
-// The three demands: what check may answer, and what follows from that.
+// Files: which are good, their content, what check may answer, and what follows from that.

@@ -3,12 +3,12 @@ use mathlib.Core.Path.{_≡_, subst}
 use mathlib.Core.List.{List}
 use Prim.Native.Nat.{ℕ, _≤_}
 use lib.ListN.{length}
+use Rattle.answer.specs.declared.Answer.{Answer}
 use Rattle.text.specs.Pasting.{pasted}
 use Rattle.list.specs.Listing.{Listing}
 use Rattle.list.specs.WellFormed.{WellFormed}
 use Rattle.list.specs.Content.{Content}
 use Rattle.xml.specs.Message.{Parts, messageOf}
-use Rattle.file_walk.specs.declared.verdict.Verdict.{Verdict}
 use Rattle.file_walk.specs.Types.{Spelling}
 use Rattle.file_walk.proofs.Accept.{unique}
 use Rattle.file.specs.Instance.{Kinds}
@@ -19,13 +19,13 @@ use Rattle.file_measure.specs.Measured.{Says, Message}
 use Rattle.file_measure.specs.Pass.{Passes, violates, holds}
 
 module _ (k : Kinds) (l : Listing) where
-  pub says-of : (m : Parts) (d : List ℕ) (v : Verdict) (d′ : List ℕ) → Passes k l m d v d′ → Says k l m v
-  says-of m d v d′ (violates c r o e f) = measured.violates c r o e f
+  pub says-of : (m : Parts) (d : List ℕ) (v : Answer) (d′ : List ℕ) → Passes k l m d v d′ → Says k l m v
+  says-of m d v d′ (violates e) = measured.violates e
   says-of m d v d′ (holds e c h f g) = measured.holds e c h f
 
-  pub filled-of : Spelling (k .types) → WellFormed l → (s : List ℕ) (c : Content (k .types .A)) (m : Message k l s c) (d : List ℕ) (v : Verdict) (d′ : List ℕ)
+  pub filled-of : Spelling (k .types) → WellFormed l → (s : List ℕ) (c : Content (k .types .A)) (m : Message k l s c) (d : List ℕ) (v : Answer) (d′ : List ℕ)
       → Passes k l (messageOf (m .xml .tree)) d v d′ → length (imageOf k l c) ≤ length d → d′ ≡ pasted d 0 (imageOf k l c)
-  filled-of y w s c m d v d′ (violates q r o e f) h = fine-found _ q r o (m .none) e
+  filled-of y w s c m d v d′ (violates e) h = fine-found _ v (m .none) e
   filled-of y w s c m d v d′ (holds e b i f g) h =
       let same : b ≡ c = unique (k .types) y l w (messageOf (m .xml .tree)) b c i (m .has) in
       subst (λ (z : Content (k .types .A)). length (imageOf k l z) ≤ length d → d′ ≡ pasted d 0 (imageOf k l z)) same g h

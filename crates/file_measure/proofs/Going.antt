@@ -8,6 +8,8 @@ use Prim.Native.Nat.{ℕ, _+_, _*_, _≤_, _<_}
 use native.Mathlib.Omega.{arith}
 use lib.ListN.{length}
 use lib.Seq.{slice}
+use Rattle.answer.specs.declared.Answer.{Answer}
+use Rattle.answer.specs.Table.{accepted, badValue}
 use Rattle.text.specs.Pasting.{pasted}
 use Rattle.text.specs.Numbers.{bigEndian}
 use Rattle.text.specs.Puts.{Puts}
@@ -21,14 +23,14 @@ use Rattle.xml.specs.House.{HouseXml}
 use Rattle.xml.specs.Message.{Attrs, rootAt, messageOf}
 use Rattle.xml_tags.specs.Story.{Event, events}
 use Rattle.file_walk.specs.declared.level.Level.{Level}
-use Rattle.file_walk.specs.declared.verdict.Verdict.{Verdict}
+use Rattle.file_walk.specs.declared.found.Found.{Found}
+use Rattle.file_walk.specs.declared.found.Found.the-variants.{Fine, Violation}
 use Rattle.file_walk.specs.declared.step.Here.{Here}
 use Rattle.file_walk.specs.declared.step.Met.{Met}
-use Rattle.file_walk.specs.declared.step.Met.the-variants.{Opened, Closed, Refused}
+use Rattle.file_walk.specs.declared.step.Met.the-variants.{Opened, Closed, Refused, Lost}
 use Rattle.file_walk.specs.declared.step.Turn.{Turn}
 use Rattle.file_walk.specs.Types.{Types, Spelling}
-use Rattle.file_walk.specs.First.{Found, fine, found, orElse, isNone, currency, firstViolation}
-use Rattle.file_walk.specs.First as first
+use Rattle.file_walk.specs.First.{refuse, orElse, isNone, currency, firstViolation}
 use Rattle.file_walk.specs.Denotes.{Has}
 use Rattle.file_walk.specs.Machine.{before, advance, opens, closes, run, emits}
 use Rattle.file_walk.specs.Stride.{stepIn, stackIn}
@@ -47,7 +49,6 @@ use Rattle.image.specs.Image.{bytes, itemBytes, valueBytes, header, image}
 use Rattle.file.specs.Instance.{Kinds, valuesOf}
 use Rattle.file.specs.File.{imageOf}
 use Rattle.text.proofs.Puts.{puts-none, puts-pasted, puts-then, puts-as}
-use Rattle.file_measure.specs.Measured.{verdict}
 use Rattle.file_measure.specs.Pass.{kindIn, Shut, Shuts, Opens, ItemPut, Passes, violates, holds}
 use Rattle.file_measure.proofs.Coin.{coin-is}
 
@@ -56,14 +57,26 @@ use Rattle.file_measure.proofs.Coin.{coin-is}
 abbrev pub isOpened : Met → Bool
 isOpened Opened = true
 isOpened Closed = false
-isOpened Refused = false
+isOpened (Refused a) = false
+isOpened Lost = false
 
 abbrev pub isRefused : Met → Bool
 isRefused Opened = false
 isRefused Closed = false
-isRefused Refused = true
+isRefused (Refused a) = true
+isRefused Lost = false
 
-pub apart : (p : Met → Bool) (x y z : Met) → x ≡ y → x ≡ z → p y ≡ true → p z ≡ false → ⊥
+abbrev isLost : Met → Bool
+isLost Opened = false
+isLost Closed = false
+isLost (Refused a) = false
+isLost Lost = true
+
+-- a violation has one answer
+refused-one : (a b : Answer) → Refused a ≡ Refused b → a ≡ b
+refused-one a b e = cc
+
+apart : (p : Met → Bool) (x y z : Met) → x ≡ y → x ≡ z → p y ≡ true → p z ≡ false → ⊥
 apart p x y z e f g h = true≢false (sym g ∙ ap p (sym e ∙ f) ∙ h)
 
 plainly : (n : ℕ) → 0 + n ≡ n
@@ -117,12 +130,8 @@ module _ (k : Kinds) (t pool s : List ℕ) (sd : Sound t pool) where
     abbrev handed-all : List (ℕ × Option (T .A))
     handed-all = emits T l before (events (messageOf (x .tree)) [])
 
-    abbrev Goal : List ℕ → Verdict → List ℕ → Type 0
-    Goal d₀ v d = Passes k l (messageOf (x .tree)) d₀ v d
-
-    -- a violation that is the first
-    violation-is : firstViolation T l (messageOf (x .tree)) ≡ found-all → (d₀ : List ℕ) (v : Verdict) (d : List ℕ) → found-all ≡ found (v .code) (v .row) (v .place) → Goal d₀ v d
-    violation-is e d₀ v d f = violates (v .code) (v .row) (v .place) (e ∙ f) refl
+    abbrev Goal : List ℕ → Answer → List ℕ → Type 0
+    Goal d₀ a d = Passes k l (messageOf (x .tree)) d₀ a d
 
     -- ---- the beginning
 
@@ -134,22 +143,27 @@ module _ (k : Kinds) (t pool s : List ℕ) (sd : Sound t pool) where
     first-found : firstViolation T l (messageOf (x .tree)) ≡ found-all
     first-found = first-is T l (sd .well) (x .tree) (x .good)
 
+    -- a violation that is the first, as it was met
+    refused-is : (d₀ d : List ℕ) (met : Met) (a b : Answer) → met ≡ Refused a → met ≡ Refused b → found-all ≡ Violation b → Goal d₀ a d
+    refused-is d₀ d met a b e f g = violates (first-found ∙ g ∙ ap Violation (refused-one b a (sym f ∙ e)))
+
     module _ (turn : Turn) (w : Began T t pool s sd (x .tree) turn) where
-      pub begin-refused : (d₀ : List ℕ) → turn .met ≡ Refused → Goal d₀ (turn .verdict) d₀
-      begin-refused d₀ e = elim w [
-        | denied v ↦ violation-is first-found d₀ (turn .verdict) d₀ (v .found)
-        | starts v ↦ absurd (apart isRefused (turn .met) Refused Opened e (v .met) refl refl)
+      pub begin-refused : (d₀ : List ℕ) (a : Answer) → turn .met ≡ Refused a → Goal d₀ a d₀
+      begin-refused d₀ a e = elim w [
+        | denied v ↦ refused-is d₀ d₀ (turn .met) a (v .answer) e (v .met) (v .found)
+        | starts v ↦ absurd (apart isRefused (turn .met) (Refused a) Opened e (v .met) refl refl)
       ]
 
-      pub begin-closed : turn .met ≡ Closed → ⊥
-      begin-closed e = elim w [
-        | denied v ↦ apart isRefused (turn .met) Refused Closed (v .met) e refl refl
-        | starts v ↦ apart isOpened (turn .met) Opened Closed (v .met) e refl refl
+      -- there is nothing else
+      pub begin-other : (m : Met) → turn .met ≡ m → isRefused m ≡ false → isOpened m ≡ false → ⊥
+      begin-other m e f g = elim w [
+        | denied v ↦ apart isRefused (turn .met) (Refused (v .answer)) m (v .met) e refl f
+        | starts v ↦ apart isOpened (turn .met) Opened m (v .met) e refl g
       ]
 
       pub begin-opened : turn .met ≡ Opened → Starts T t pool s sd (x .tree) turn
       begin-opened e = elim w [
-        | denied v ↦ absurd (apart isRefused (turn .met) Refused Opened (v .met) e refl refl)
+        | denied v ↦ absurd (apart isRefused (turn .met) (Refused (v .answer)) Opened (v .met) e refl refl)
         | starts v ↦ v
       ]
 
@@ -210,17 +224,25 @@ module _ (k : Kinds) (t pool s : List ℕ) (sd : Sound t pool) where
               (subst (λ (z : List ℕ). Turned T t pool s sd here (g .below) (g .ats) (g .rest) z (stepIn t pool s st here)) (sym f)
               (turned T t pool s sd coins st here (g .below) (g .ats) (g .rest) (g .stands)))
 
-          pub step-refused : (d₀ : List ℕ) → turn .met ≡ Refused → Goal d₀ (turn .verdict) d
-          step-refused d₀ m = elim steps [
-            | refused w ↦ violation-is first-found d₀ (turn .verdict) d (g .found ∙ w .found)
-            | opened w ↦ absurd (apart isRefused (turn .met) Refused Opened m (w .met) refl refl)
-            | closed w ↦ absurd (apart isRefused (turn .met) Refused Closed m (w .met) refl refl)
-            | whole w ↦ absurd (apart isRefused (turn .met) Refused Closed m (w .met) refl refl)
+          pub step-refused : (d₀ : List ℕ) (a : Answer) → turn .met ≡ Refused a → Goal d₀ a d
+          step-refused d₀ a m = elim steps [
+            | refused w ↦ refused-is d₀ d (turn .met) a (w .answer) m (w .met) (g .found ∙ w .found)
+            | opened w ↦ absurd (apart isRefused (turn .met) (Refused a) Opened m (w .met) refl refl)
+            | closed w ↦ absurd (apart isRefused (turn .met) (Refused a) Closed m (w .met) refl refl)
+            | whole w ↦ absurd (apart isRefused (turn .met) (Refused a) Closed m (w .met) refl refl)
+          ]
+
+          pub step-lost : turn .met ≡ Lost → ⊥
+          step-lost m = elim steps [
+            | refused w ↦ apart isLost (turn .met) Lost (Refused (w .answer)) m (w .met) refl refl
+            | opened w ↦ apart isLost (turn .met) Lost Opened m (w .met) refl refl
+            | closed w ↦ apart isLost (turn .met) Lost Closed m (w .met) refl refl
+            | whole w ↦ apart isLost (turn .met) Lost Closed m (w .met) refl refl
           ]
 
           pub step-enters : turn .met ≡ Opened → Enters T t pool s sd here (g .below) (g .ats) (g .rest) st′ turn
           step-enters m = elim steps [
-            | refused w ↦ absurd (apart isOpened (turn .met) Opened Refused m (w .met) refl refl)
+            | refused w ↦ absurd (apart isOpened (turn .met) Opened (Refused (w .answer)) m (w .met) refl refl)
             | opened w ↦ w
             | closed w ↦ absurd (apart isOpened (turn .met) Opened Closed m (w .met) refl refl)
             | whole w ↦ absurd (apart isOpened (turn .met) Opened Closed m (w .met) refl refl)
@@ -228,7 +250,7 @@ module _ (k : Kinds) (t pool s : List ℕ) (sd : Sound t pool) where
 
           pub step-leaves : turn .met ≡ Closed → here .depth ≢ 0 → Leaves T t pool s sd here (g .below) (g .ats) (g .rest) st′ turn
           step-leaves m n = elim steps [
-            | refused w ↦ absurd (apart isRefused (turn .met) Refused Closed (w .met) m refl refl)
+            | refused w ↦ absurd (apart isRefused (turn .met) (Refused (w .answer)) Closed (w .met) m refl refl)
             | opened w ↦ absurd (apart isOpened (turn .met) Opened Closed (w .met) m refl refl)
             | closed w ↦ w
             | whole w ↦ absurd (n (w .root))
@@ -236,7 +258,7 @@ module _ (k : Kinds) (t pool s : List ℕ) (sd : Sound t pool) where
 
           pub step-ends : turn .met ≡ Closed → here .depth ≡ 0 → Ends T t pool s sd here (g .below) (g .ats) (g .rest) st′ turn
           step-ends m n = elim steps [
-            | refused w ↦ absurd (apart isRefused (turn .met) Refused Closed (w .met) m refl refl)
+            | refused w ↦ absurd (apart isRefused (turn .met) (Refused (w .answer)) Closed (w .met) m refl refl)
             | opened w ↦ absurd (apart isOpened (turn .met) Opened Closed (w .met) m refl refl)
             | closed w ↦ absurd (omega (arith, w .deep))
             | whole w ↦ w
@@ -300,7 +322,7 @@ module _ (k : Kinds) (t pool s : List ℕ) (sd : Sound t pool) where
             new = closes T l (rowAt l row .kind) row (g .ats) (w .chars)
 
             -- it adds these items, and nothing is found in it
-            goes-by : judged T (rowAt l row .kind) row (here .level .place) (g .ats) (w .chars) ≡ fine → Puts d at (itemsOf new) r d′ → Going d′ st′ (turn .here) r
+            goes-by : judged T (rowAt l row .kind) row (here .level .place) (g .ats) (w .chars) ≡ Fine → Puts d at (itemsOf new) r d′ → Going d′ st′ (turn .here) r
             goes-by j p = record {
               below = w .outer;
               ats = [];
@@ -327,7 +349,7 @@ module _ (k : Kinds) (t pool s : List ℕ) (sd : Sound t pool) where
             by-leaf : r ≢ 0 → (f : Leaf) → rowAt l row .kind ≡ leaf f → (v : Option (T .A)) → spelt f ≡ v → Going d′ st′ (turn .here) r
             by-leaf n f e Option.none u = absurd (n (item-of f e Option.none u))
             by-leaf n f e (Option.some v) u = goes-by
-                (ap (λ (q : Kind). judged T q row (here .level .place) (g .ats) (w .chars)) e ∙ ap (λ z. first.if (isNone z) 12 row (here .level .place)) u)
+                (ap (λ (q : Kind). judged T q row (here .level .place) (g .ats) (w .chars)) e ∙ ap (λ z. refuse (isNone z) (badValue row (here .level .place))) u)
                 (puts-as d at (row ∷ k .bytes f v) (itemsOf new) r d′
                 (sym (ap (λ (q : Kind). itemsOf (closes T l q row (g .ats) (w .chars))) e ∙ ap (λ z. itemsOf ((row, z) ∷ [])) u ∙ leaf-item row f v e))
                 (item-of f e (Option.some v) u))
@@ -335,25 +357,24 @@ module _ (k : Kinds) (t pool s : List ℕ) (sd : Sound t pool) where
             pub goes-out : r ≢ 0 → Going d′ st′ (turn .here) r
             goes-out n = kinds (rowAt l row .kind) by-group (λ f e. by-leaf n f e (spelt f) refl)
 
-            bad-leaf : (d₀ : List ℕ) → r ≡ 0 → (f : Leaf) → rowAt l row .kind ≡ leaf f → (v : Option (T .A)) → spelt f ≡ v → Goal d₀ (verdict 12 row (here .level .place)) d′
-            bad-leaf d₀ n f e Option.none u = violation-is first-found d₀ (verdict 12 row (here .level .place)) d′
-                (g .found ∙ w .found
+            bad-leaf : (d₀ : List ℕ) → r ≡ 0 → (f : Leaf) → rowAt l row .kind ≡ leaf f → (v : Option (T .A)) → spelt f ≡ v → Goal d₀ (badValue row (here .level .place)) d′
+            bad-leaf d₀ n f e Option.none u = violates (first-found ∙ g .found ∙ w .found
                 ∙ ap (λ z. orElse z (finds T t pool s sd (turn .here) (w .outer) [] (w .rest)))
-                (ap (λ (q : Kind). judged T q row (here .level .place) (g .ats) (w .chars)) e ∙ ap (λ z. first.if (isNone z) 12 row (here .level .place)) u))
+                (ap (λ (q : Kind). judged T q row (here .level .place) (g .ats) (w .chars)) e ∙ ap (λ z. refuse (isNone z) (badValue row (here .level .place))) u))
             bad-leaf d₀ n f e (Option.some v) u = absurd (omega (arith, n, (item-of f e (Option.some v) u) .behind))
 
-            pub bad-value : (d₀ : List ℕ) → r ≡ 0 → Goal d₀ (verdict 12 row (here .level .place)) d′
+            pub bad-value : (d₀ : List ℕ) → r ≡ 0 → Goal d₀ (badValue row (here .level .place)) d′
             bad-value d₀ n = kinds (rowAt l row .kind)
                 (λ b. absurd (omega (arith, n, g .least, g .put .behind, (o .group (ap isGroup (sym kind-here) ∙ b)) .behind)))
                 (λ f e. bad-leaf d₀ n f e (spelt f) refl)
 
         -- the end of the root
         pub ends-in : Spelling T → (d₀ : List ℕ) → Puts d₀ 0 (header l ++ (1 ∷ [])) a₁ d₁ → (st′ : List ℕ) (turn : Turn) → Ends T t pool s sd here (g .below) (g .ats) (g .rest) st′ turn → (d′ : List ℕ) → d′ ≡ pasted d at (0 ∷ [])
-            → Goal d₀ (verdict 0 0 (at + 1)) d′
+            → Goal d₀ (accepted (at + 1)) d′
         unfolding image
-        ends-in y d₀ p st′ turn w d′ e = holds none c has (ap (λ n. verdict 0 0 n) length-is) (λ h. image-put .is (omega (arith, h)))
+        ends-in y d₀ p st′ turn w d′ e = holds none c has (ap accepted length-is) (λ h. image-put .is (omega (arith, h)))
           where
-            none : firstViolation T l (messageOf (x .tree)) ≡ fine
+            none : firstViolation T l (messageOf (x .tree)) ≡ Fine
             none = first-found ∙ g .found ∙ w .found
 
             content : (c : Content (T .A)) × Meets (T .Is) l c × Has T l (messageOf (x .tree)) c

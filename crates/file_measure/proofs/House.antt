@@ -1,49 +1,52 @@
 -- A pass with document 01's types, from what the code's calls told. Assumes nothing.
 use mathlib.Core.Path.{_≡_, sym, subst}
 use mathlib.Core.Logic.{_≢_}
+use mathlib.Core.Bool.{false}
 use mathlib.Core.List.{List, [], _∷_, _++_}
 use Prim.Native.Nat.{ℕ, _+_, _-_, _≤_, _<_}
 use native.Mathlib.Omega.{arith}
 use lib.ListN.{length}
 use lib.Seq.{slice}
+use Rattle.answer.specs.declared.Answer.{Answer}
+use Rattle.answer.specs.Table.{accepted, badValue}
 use Rattle.text.specs.Pasting.{pasted}
 use Rattle.text.specs.Puts.{Puts}
 use Rattle.list.specs.Table.{listOf}
 use Rattle.list.specs.Sound.{Sound}
 use Rattle.xml.specs.House.{HouseXml}
 use Rattle.xml.specs.Message.{messageOf}
-use Rattle.file_walk.specs.declared.verdict.Verdict.{Verdict}
 use Rattle.file_walk.specs.declared.step.Here.{Here}
-use Rattle.file_walk.specs.declared.step.Met.the-variants.{Opened, Closed, Refused}
+use Rattle.file_walk.specs.declared.step.Met.{Met}
+use Rattle.file_walk.specs.declared.step.Met.the-variants.{Opened, Closed, Refused, Lost}
 use Rattle.file_walk.specs.declared.step.Turn.{Turn}
 use Rattle.file_walk.specs.Stride.{stepIn, stackIn}
 use Rattle.file_walk.specs.Begin.{beginIn}
 use Rattle.image.specs.Image.{header}
 use Rattle.file.specs.Instance.{houseKinds}
-use Rattle.file_measure.specs.Measured.{verdict, Measured}
+use Rattle.file_measure.specs.Measured.{Measured}
 use Rattle.file_measure.specs.Pass.{Opens, Shuts, Ready, Passes, Passed}
 use Rattle.file.proofs.House.{spelling}
 use Rattle.file_measure.proofs.Coin.{coins}
 use Rattle.file_measure.proofs.End.{says-of}
-use Rattle.file_measure.proofs.Going.{Going, begun, begin-refused, begin-closed, begin-opened, goes-first, at-most, step-refused, step-enters, step-leaves, step-ends, goes-in, goes-out, bad-value, ends-in}
+use Rattle.file_measure.proofs.Going.{isOpened, isRefused, Going, begun, begin-refused, begin-other, begin-opened, goes-first, at-most, step-refused, step-lost, step-enters, step-leaves, step-ends, goes-in, goes-out, bad-value, ends-in}
 
 module _ (t pool s : List ℕ) where
   -- where the pass stands, whatever says that the tables are sound and the text is house XML
   abbrev pub GoingOn : List ℕ → ℕ → List ℕ → List ℕ → Here → ℕ → Type 0
   GoingOn d₁ a₁ d st here at = (sd : Sound t pool) (x : HouseXml s) → Going houseKinds t pool s sd x d₁ a₁ d st here at
 
-  abbrev Says : List ℕ → Verdict → List ℕ → Type 0
+  abbrev Says : List ℕ → Answer → List ℕ → Type 0
   Says d₀ v d = Passed houseKinds (listOf t pool) s d₀ v d
 
   module _ (pre : Ready t pool s) where
     -- ---- the root's tag
 
     module _ (turn : Turn) (e : turn ≡ beginIn t pool s) where
-      pub begins-refused : (d₀ : List ℕ) → turn .met ≡ Refused → Says d₀ (turn .verdict) d₀
-      begins-refused d₀ m x = begin-refused houseKinds t pool s (pre .sound) x turn (begun houseKinds t pool s (pre .sound) x turn e) d₀ m
+      pub begins-refused : (d₀ : List ℕ) (a : Answer) → turn .met ≡ Refused a → Says d₀ a d₀
+      begins-refused d₀ a m x = begin-refused houseKinds t pool s (pre .sound) x turn (begun houseKinds t pool s (pre .sound) x turn e) d₀ a m
 
-      pub begins-closed : (d₀ d : List ℕ) → turn .met ≡ Closed → Says d₀ (turn .verdict) d
-      begins-closed d₀ d m x = absurd (begin-closed houseKinds t pool s (pre .sound) x turn (begun houseKinds t pool s (pre .sound) x turn e) m)
+      pub begins-other : (d₀ d : List ℕ) (a : Answer) (met : Met) → turn .met ≡ met → isRefused met ≡ false → isOpened met ≡ false → Says d₀ a d
+      begins-other d₀ d a met m f g x = absurd (begin-other houseKinds t pool s (pre .sound) x turn (begun houseKinds t pool s (pre .sound) x turn e) met m f g)
 
       pub begins : turn .met ≡ Opened → (st : List ℕ) → length st ≡ 80 → (d₀ d₁ : List ℕ) (a₁ : ℕ) → Puts d₀ 0 (header (listOf t pool) ++ (1 ∷ [])) a₁ d₁ → GoingOn d₁ a₁ d₁ st (turn .here) a₁
       begins m st h d₀ d₁ a₁ p sd x =
@@ -59,8 +62,11 @@ module _ (t pool s : List ℕ) where
       at-low = at-most houseKinds t pool s (pre .sound) (pre .xml) d₁ a₁ d st here at gone (pre .small)
 
       module _ (turn : Turn) (e : turn ≡ stepIn t pool s st here) (st′ : List ℕ) (f : st′ ≡ stackIn t pool s st here) where
-        pub loop-refused : (d₀ : List ℕ) → turn .met ≡ Refused → Says d₀ (turn .verdict) d
-        loop-refused d₀ m x = step-refused houseKinds t pool s (pre .sound) x d₁ a₁ d st here at (g (pre .sound) x) coins turn st′ e f d₀ m
+        pub loop-refused : (d₀ : List ℕ) (a : Answer) → turn .met ≡ Refused a → Says d₀ a d
+        loop-refused d₀ a m x = step-refused houseKinds t pool s (pre .sound) x d₁ a₁ d st here at (g (pre .sound) x) coins turn st′ e f d₀ a m
+
+        pub loop-lost : (d₀ : List ℕ) (a : Answer) → turn .met ≡ Lost → Says d₀ a d
+        loop-lost d₀ a m x = absurd (step-lost houseKinds t pool s (pre .sound) x d₁ a₁ d st here at (g (pre .sound) x) coins turn st′ e f m)
 
         module _ (m : turn .met ≡ Opened) where
           pub group-less : length s - turn .here .at < length s - here .at
@@ -75,9 +81,9 @@ module _ (t pool s : List ℕ) where
 
         module _ (m : turn .met ≡ Closed) where
           pub root-end : here .depth ≡ 0 → (d₀ : List ℕ) → Puts d₀ 0 (header (listOf t pool) ++ (1 ∷ [])) a₁ d₁ → (d′ : List ℕ) → d′ ≡ pasted d at (0 ∷ [])
-              → (v : Verdict) → v ≡ verdict 0 0 (at + 1) → Says d₀ v d′
+              → (v : Answer) → v ≡ accepted (at + 1) → Says d₀ v d′
           root-end z d₀ p d′ i v q x =
-              subst (λ (u : Verdict). Passes houseKinds (listOf t pool) (messageOf (x .tree)) d₀ u d′) (sym q)
+              subst (λ (u : Answer). Passes houseKinds (listOf t pool) (messageOf (x .tree)) d₀ u d′) (sym q)
               (ends-in houseKinds t pool s (pre .sound) x d₁ a₁ d st here at (g (pre .sound) x) spelling d₀ p st′ turn
               (step-ends houseKinds t pool s (pre .sound) x d₁ a₁ d st here at (g (pre .sound) x) coins turn st′ e f m z) d′ i)
 
@@ -93,14 +99,14 @@ module _ (t pool s : List ℕ) where
                   goes-out houseKinds t pool s sd x d₁ a₁ d st here at (g sd x) st′ turn
                   (step-leaves houseKinds t pool s sd x d₁ a₁ d st here at (g sd x) coins turn st′ e f m z) r d′ o n
 
-              pub leaf-bad : (d₀ : List ℕ) → r ≡ 0 → (v : Verdict) → v ≡ verdict 12 (here .level .row) (here .level .place) → Says d₀ v d′
+              pub leaf-bad : (d₀ : List ℕ) → r ≡ 0 → (v : Answer) → v ≡ badValue (here .level .row) (here .level .place) → Says d₀ v d′
               leaf-bad d₀ n v q x =
-                  subst (λ (u : Verdict). Passes houseKinds (listOf t pool) (messageOf (x .tree)) d₀ u d′) (sym q)
+                  subst (λ (u : Answer). Passes houseKinds (listOf t pool) (messageOf (x .tree)) d₀ u d′) (sym q)
                   (bad-value houseKinds t pool s (pre .sound) x d₁ a₁ d st here at (g (pre .sound) x) st′ turn
                   (step-leaves houseKinds t pool s (pre .sound) x d₁ a₁ d st here at (g (pre .sound) x) coins turn st′ e f m z) r d′ o d₀ n)
 
 -- ---- the entry
 
-module _ (t pool s d : List ℕ) (v : Verdict) (d′ : List ℕ) (p : Passed houseKinds (listOf t pool) s d v d′) where
+module _ (t pool s d : List ℕ) (v : Answer) (d′ : List ℕ) (p : Passed houseKinds (listOf t pool) s d v d′) where
   pub measures : Measured houseKinds (listOf t pool) s v
   measures x = says-of houseKinds (listOf t pool) (messageOf (x .tree)) d v d′ (p x)

@@ -1,4 +1,4 @@
--- What the proofs of `measure` share.
+-- What the proofs of `file_measure` share.
 -- an answer, from what the calls told
 pub mod Saying
 -- the first bytes of an image

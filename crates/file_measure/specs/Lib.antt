@@ -1,4 +1,4 @@
--- The definitions of `measure`; what it may answer is in `demands`.
+-- The definitions of `file_measure`; what it may answer is in `file`.
 -- what the walk over the bytes says
 pub mod Measured
 -- one pass over a message, whether it counts or writes

@@ -1,43 +1,36 @@
 -- What the walk over a file's bytes says of its message. Assumes nothing.
 use mathlib.Core.Path.{_≡_}
 use mathlib.Core.List.{List}
-use Prim.Native.Nat.{ℕ, _≤_}
+use Prim.Native.Nat.{ℕ}
 use lib.ListN.{length}
+use Rattle.answer.specs.declared.Answer.{Answer}
+use Rattle.answer.specs.Table.{accepted}
 use Rattle.list.specs.Listing.{Listing}
 use Rattle.list.specs.Content.{Content}
 use Rattle.xml.specs.House.{HouseXml}
 use Rattle.xml.specs.Message.{Parts, messageOf}
-use Rattle.file_walk.specs.declared.verdict.Verdict.{Verdict}
-use Rattle.file_walk.specs.First.{fine, found, firstViolation}
+use Rattle.file_walk.specs.declared.found.Found.the-variants.{Fine, Violation}
+use Rattle.file_walk.specs.First.{firstViolation}
 use Rattle.file_walk.specs.Denotes.{Has}
 use Rattle.file.specs.Instance.{Kinds}
 use Rattle.file.specs.File.{imageOf}
 
-abbrev pub verdict : ℕ → ℕ → ℕ → Verdict
-verdict c r o = record { code = c; row = r; place = o }
-
--- the codes of violations, and the row that code 4 has
-pub record Violation (code row : ℕ) : Type 0 where
-  pub least : 4 ≤ code
-  pub most : code ≤ 13
-  pub root : code ≡ 4 → row ≡ 1
-
 module _ (k : Kinds) (l : Listing) where
   -- the first violation of a message; or that there is none, and the length of its content's image
-  pub data Says (m : Parts) (v : Verdict) : Type 0 where
-    violates : (c r o : ℕ) → firstViolation (k .types) l m ≡ found c r o → v ≡ verdict c r o → Says m v
-    holds : firstViolation (k .types) l m ≡ fine → (c : Content (k .types .A)) → Has (k .types) l m c → v ≡ verdict 0 0 (length (imageOf k l c)) → Says m v
+  pub data Says (m : Parts) (a : Answer) : Type 0 where
+    violates : firstViolation (k .types) l m ≡ Violation a → Says m a
+    holds : firstViolation (k .types) l m ≡ Fine → (c : Content (k .types .A)) → Has (k .types) l m c → a ≡ accepted (length (imageOf k l c)) → Says m a
 
   -- the same of a text that is house XML
-  abbrev pub Measured : List ℕ → Verdict → Type 0
-  Measured s v = (x : HouseXml s) → Says (messageOf (x .tree)) v
+  abbrev pub Measured : List ℕ → Answer → Type 0
+  Measured s a = (x : HouseXml s) → Says (messageOf (x .tree)) a
 
   -- a text that is house XML has a message without violation
   abbrev pub Faultless : List ℕ → Type 0
-  Faultless s = (x : HouseXml s) → firstViolation (k .types) l (messageOf (x .tree)) ≡ fine
+  Faultless s = (x : HouseXml s) → firstViolation (k .types) l (messageOf (x .tree)) ≡ Fine
 
   -- a text is house XML, its message has no violation, and c is its content
   pub record Message (s : List ℕ) (c : Content (k .types .A)) : Type 0 where
     pub xml : HouseXml s
-    pub none : firstViolation (k .types) l (messageOf (xml .tree)) ≡ fine
+    pub none : firstViolation (k .types) l (messageOf (xml .tree)) ≡ Fine
     pub has : Has (k .types) l (messageOf (xml .tree)) c

@@ -5,7 +5,8 @@ use mathlib.Core.List.{List, [], _∷_}
 use mathlib.Core.Option.{Option, none, some}
 use Prim.Native.Nat.{ℕ, suc, _+_, _≤_, _<_}
 use lib.ListN.{length}
-use Rattle.answer.specs.Table.{limit}
+use Rattle.answer.specs.declared.Answer.{Answer}
+use Rattle.answer.specs.Table.{accepted, limit}
 use Rattle.text.specs.Pasting.{pasted}
 use Rattle.text.specs.Puts.{Puts}
 use Rattle.text_characters.specs.Pieces.{Spells}
@@ -17,12 +18,11 @@ use Rattle.list.specs.Sound.{Sound}
 use Rattle.xml.specs.House.{HouseXml}
 use Rattle.xml.specs.Message.{Parts, messageOf}
 use Rattle.value.specs.Code.{Ccy}
-use Rattle.file_walk.specs.declared.verdict.Verdict.{Verdict}
-use Rattle.file_walk.specs.First.{fine, found, firstViolation}
+use Rattle.file_walk.specs.declared.found.Found.the-variants.{Fine, Violation}
+use Rattle.file_walk.specs.First.{firstViolation}
 use Rattle.file_walk.specs.Denotes.{Has}
 use Rattle.file.specs.Instance.{Kinds}
 use Rattle.file.specs.File.{imageOf}
-use Rattle.file_measure.specs.Measured.{verdict}
 
 -- the place of the word raw in its list, as one byte: n is 1, or 0 where it has none
 pub record Worded (ws : List (List ℕ)) (raw d : List ℕ) (at n : ℕ) (d′ : List ℕ) : Type 0 where
@@ -90,11 +90,11 @@ pub record Ready (t pool s : List ℕ) : Type 0 where
 
 module _ (k : Kinds) (l : Listing) where
   -- the first violation of a message; or that there is none, its image's length, and its image where that fits in
-  pub data Passes (m : Parts) (d : List ℕ) (v : Verdict) (d′ : List ℕ) : Type 0 where
-    violates : (c r o : ℕ) → firstViolation (k .types) l m ≡ found c r o → v ≡ verdict c r o → Passes m d v d′
-    holds : firstViolation (k .types) l m ≡ fine → (c : Content (k .types .A)) → Has (k .types) l m c → v ≡ verdict 0 0 (length (imageOf k l c))
-        → (length (imageOf k l c) ≤ length d → d′ ≡ pasted d 0 (imageOf k l c)) → Passes m d v d′
+  pub data Passes (m : Parts) (d : List ℕ) (a : Answer) (d′ : List ℕ) : Type 0 where
+    violates : firstViolation (k .types) l m ≡ Violation a → Passes m d a d′
+    holds : firstViolation (k .types) l m ≡ Fine → (c : Content (k .types .A)) → Has (k .types) l m c → a ≡ accepted (length (imageOf k l c))
+        → (length (imageOf k l c) ≤ length d → d′ ≡ pasted d 0 (imageOf k l c)) → Passes m d a d′
 
   -- the same of a text that is house XML
-  abbrev pub Passed : List ℕ → List ℕ → Verdict → List ℕ → Type 0
-  Passed s d v d′ = (x : HouseXml s) → Passes (messageOf (x .tree)) d v d′
+  abbrev pub Passed : List ℕ → List ℕ → Answer → List ℕ → Type 0
+  Passed s d a d′ = (x : HouseXml s) → Passes (messageOf (x .tree)) d a d′

@@ -1,16 +1,18 @@
 // The walk over a message that is house XML: its first violation, or its image's length. Nothing is written: values are only counted.
 
+use answer::Answer;
 use file_walk::begin::begin;
 use file_walk::step::Here;
 use file_walk::step::Met;
 use file_walk::step::step;
 use file_walk::tag::is_group;
-use file_walk::verdict::Verdict;
 use list::lookup::cell;
 use list::table::ENUM;
 use list::table::KIND;
 use list::table::MOST;
 use list::word::word_byte;
+use list_house::tables::Pool;
+use list_house::tables::Rows;
 use value_to_bytes::write::size;
 ghost use mathlib.Core.Path.{_≡_};
 ghost use mathlib.Core.List.{[]};
@@ -18,7 +20,7 @@ ghost use Prim.Native.Nat.{_≤_};
 ghost use lib.Seq.{slice};
 ghost use Rattle.list.specs.Table.{cell, wordsIn, listOf};
 ghost use Rattle.file.specs.Instance.{houseKinds};
-ghost use Rattle.file_measure.specs.Measured.{verdict, Measured};
+ghost use Rattle.file_measure.specs.Measured.{Measured};
 ghost use Rattle.file_measure.specs.Pass.{WordSize, Sizes, Shuts, Opens, Ready};
 
 // The place behind the item of a group of this row, which is its row byte; of a leaf the same place.
@@ -78,26 +80,22 @@ fn leaf_end(rows: &[u16], pool: &[u8], s: &[u8], here: Here, less: usize, at: us
     at + 1 + n
 }
 
-fn says(code: usize, row: usize, place: usize) -> Verdict
-    ensures { λ v. ⌜ v ≡ verdict code row place ⌝ }
-{
-    Verdict { code, row, place }
-}
-
 // The header and the root's row byte.
 const HEAD: usize = 6;
 
 // From the root's tag to its end, one step after the other. No sum overflows: each step goes on in a text of at most 1,048,576 bytes, and
 // an item has at most 65,538. The tables are arrays here and not slices: where their lengths are known, each lookup has one bound less.
-pub(crate) fn found(rows: &[u16; 928], pool: &[u8; 311], s: &[u8]) -> Verdict
+// In house XML the walk is never lost, and the root's tag closes nothing: the answers of these arms are never given.
+pub(crate) fn found(rows: &Rows, pool: &Pool, s: &[u8]) -> Answer
     requires { ⌜ Ready (now rows) (now pool) (now s) ⌝ }
-    ensures { λ v. ⌜ Measured houseKinds (listOf (now (rows .entry)) (now (pool .entry))) (now (s .entry)) v ⌝ }
+    ensures { λ a. ⌜ Measured houseKinds (listOf (now (rows .entry)) (now (pool .entry))) (now (s .entry)) a ⌝ }
 {
     let first = begin(rows, pool, s);
     let begun = first.met;
     match begun {
-        Met::Refused => return first.verdict,
-        Met::Closed => return first.verdict,
+        Met::Refused(a) => return a,
+        Met::Closed => return Answer::not_house_xml(first.less),
+        Met::Lost => return Answer::not_house_xml(first.less),
         Met::Opened => {}
     }
     let mut stack = [0usize; 80];
@@ -108,18 +106,19 @@ pub(crate) fn found(rows: &[u16; 928], pool: &[u8; 311], s: &[u8]) -> Verdict
         let level = here.level;
         let met = turn.met;
         match met {
-            Met::Refused => return turn.verdict,
+            Met::Refused(a) => return a,
+            Met::Lost => return Answer::not_house_xml(turn.less),
             Met::Opened => {
                 here = turn.here;
                 at = group_end(rows, here.level.row, at);
             }
             Met::Closed => {
                 if here.depth == 0 {
-                    return says(0, 0, at + 1);
+                    return Answer::accepted(at + 1);
                 }
                 at = leaf_end(rows, pool, s, here, turn.less, at);
                 if at == 0 {
-                    return says(12, level.row, level.place);
+                    return Answer::bad_value(level.row, level.place);
                 }
                 here = turn.here;
             }

@@ -8,35 +8,38 @@ use native.Mathlib.Omega.{arith}
 use lib.Dec.{ltb}
 use lib.ListN.{length}
 use borrow.Author.Tests.{ltb-false, le-ltb}
+use Rattle.answer.specs.declared.Answer.{Answer}
 use Rattle.text.specs.Lists.{Each, same}
 use Rattle.list.specs.Listing.{Leaf, Kind, group, choice, leaf, isGroup}
 use Rattle.xml.specs.Message.{Attrs}
+use Rattle.file_walk.specs.declared.found.Found.{Found}
+use Rattle.file_walk.specs.declared.found.Found.the-variants.{Fine, Violation}
 use Rattle.file_walk.specs.Types.{Types}
-use Rattle.file_walk.specs.First.{Found, fine, found, if, orElse, isNone, empty, passed, only, noAttrs, attrsOk}
+use Rattle.file_walk.specs.First.{refuse, orElse, isNone, empty, passed, only, noAttrs, attrsOk}
 use Rattle.text.proofs.Classes.{and-is, or-not}
 use Rattle.list.proofs.Words.{same-eq, same-refl}
 
 -- ---- the first of some answers
 
-pub or-fine : (f g : Found) → orElse f g ≡ fine → (f ≡ fine) × (g ≡ fine)
-or-fine fine g e = (refl, e)
-or-fine (found c r o) g e = let z : _≡_ {A = ℕ} 0 1 = cc in absurd (omega arith)
+pub or-fine : (f g : Found) → orElse f g ≡ Fine → (f ≡ Fine) × (g ≡ Fine)
+or-fine Fine g e = (refl, e)
+or-fine (Violation a) g e = let z : _≡_ {A = ℕ} 0 1 = cc in absurd (omega arith)
 
-pub or-right : (a : Found) → orElse a fine ≡ a
-or-right fine = refl
-or-right (found x y z) = refl
+pub or-right : (a : Found) → orElse a Fine ≡ a
+or-right Fine = refl
+or-right (Violation x) = refl
 
-pub or-when : (a x y : Found) → (a ≡ fine → x ≡ y) → orElse a x ≡ orElse a y
-or-when fine x y f = f refl
-or-when (found p q r) x y f = refl
+pub or-when : (a x y : Found) → (a ≡ Fine → x ≡ y) → orElse a x ≡ orElse a y
+or-when Fine x y f = f refl
+or-when (Violation v) x y f = refl
 
 pub or-assoc : (a b c : Found) → orElse (orElse a b) c ≡ orElse a (orElse b c)
-or-assoc fine b c = refl
-or-assoc (found p q r) b c = refl
+or-assoc Fine b c = refl
+or-assoc (Violation v) b c = refl
 
-pub if-no : (b : Bool) (c r o : ℕ) → if b c r o ≡ fine → b ≡ false
-if-no true c r o e = let z : _≡_ {A = ℕ} 0 1 = cc in absurd (omega arith)
-if-no false c r o e = refl
+pub refuse-no : (b : Bool) (a : Answer) → refuse b a ≡ Fine → b ≡ false
+refuse-no true a e = let z : _≡_ {A = ℕ} 0 1 = cc in absurd (omega arith)
+refuse-no false a e = refl
 
 -- ---- both, and not
 

@@ -1,7 +1,7 @@
 -- The root's tag over bytes does what the walk over events does, in the text of a good tree. Assumes nothing.
 use mathlib.Core.Path.{_≡_, refl, sym, _∙_, ap, ap₂, subst}
 use mathlib.Core.Logic.{_≢_, inl}
-use mathlib.Core.Bool.{Bool, true, false, cond, _&&_, not}
+use mathlib.Core.Bool.{Bool, true, false, _&&_, not}
 use mathlib.Core.List.{List, [], _∷_, _++_}
 use mathlib.Core.Option.{Option}
 use Prim.Native.Nat.{ℕ, _≤_, _<_}
@@ -10,6 +10,8 @@ use lib.Dec.{eqb}
 use lib.ListN.{length, length-append}
 use lib.Seq.{slice}
 use borrow.Author.Tests.{eq-eqb, ne-eqb, lt-ltb}
+use Rattle.answer.specs.declared.Answer.{Answer}
+use Rattle.answer.specs.Table as table
 use Rattle.text.specs.Bytes.{ascii, isUnmarked}
 use Rattle.text.specs.Lists.{All, same}
 use Rattle.text_characters.specs.Pieces.{Piece, Spells}
@@ -31,13 +33,15 @@ use Rattle.xml_tags.specs.Tokens.{startOf}
 use Rattle.xml_tags.specs.Story.{Event, enter, leave, events, chars, tokenIn, attributeIn, Finds, Tagged, Tells}
 use Rattle.xml_tags.proofs.Tokens.{Ahead, token-within}
 use Rattle.xml_tags.proofs.Story.{start-root, start-opens, told}
+use Rattle.file_walk.specs.declared.found.Found.the-variants.{Violation}
+use Rattle.file_walk.specs.declared.step.Here.{Here}
 use Rattle.file_walk.specs.declared.step.Turn.{Turn}
 use Rattle.file_walk.specs.declared.step.Met.the-variants.{Opened}
 use Rattle.file_walk.specs.Types.{Types}
-use Rattle.file_walk.specs.First.{found, if, orElse, only, kindOf, isRoot, firstViolation}
+use Rattle.file_walk.specs.First.{refuse, orElse, only, kindOf, isRoot, firstViolation}
 use Rattle.file_walk.specs.Denotes.{OneElement as Single}
 use Rattle.file_walk.specs.Machine.{before, at, after, fresh, run, walk, emits}
-use Rattle.file_walk.specs.Tables.{nothing, freshIn, levels}
+use Rattle.file_walk.specs.Tables.{freshIn, levels}
 use Rattle.file_walk.specs.Stride.{named, spaceIn, refusedAt}
 use Rattle.file_walk.specs.Begin.{isFirstIn, isRootIn, rootAt as root-in, rootedIn, hollowIn, foundIn, beginBy, beginIn}
 use Rattle.file_walk.proofs.Answers.{iff-same, attrs-group}
@@ -142,22 +146,30 @@ module _ (T : Types) (t pool : List ℕ) (sd : Sound t pool) (m : Tree) (good : 
     test-is : b ≡ isRoot list n ats
     test-is = root-is t pool s sd k n ats (omega (arith, ahead .on going, ahead .within)) g
 
-    found-root : run T list before es ≡ orElse (if (not b) 4 1 (k .less)) (run T list (at (fresh list 1 (k .less)) [] [] []) more)
+    found-root : run T list before es ≡ orElse (refuse (not b) (table.wrongRoot (k .less))) (run T list (at (fresh list 1 (k .less)) [] [] []) more)
     unfolding run
     found-root = ap (run T list before) is ∙ run-before T list (startOf s) ps (enter (k .less) n ats ∷ more)
-        ∙ ap (λ z. orElse (if (not z) 4 1 (k .less)) (run T list (at (fresh list 1 (k .less)) [] [] []) more)) (sym test-is)
+        ∙ ap (λ z. orElse (refuse (not z) (table.wrongRoot (k .less))) (run T list (at (fresh list 1 (k .less)) [] [] []) more)) (sym test-is)
 
     handed-root : emits T list before es ≡ (1, Option.none) ∷ emits T list (at (fresh list 1 (k .less)) [] [] []) more
     unfolding emits
     handed-root = ap (emits T list before) is ∙ emits-before T list (startOf s) ps (enter (k .less) n ats ∷ more)
 
-    not-root : b ≡ false → Began T t pool s sd m (refusedAt (root-in t (k .less) (k .end)) 4 1 (k .less))
-    not-root e = denied (record { met = refl; code = omega arith; found = found-root ∙ ap (λ z. orElse (if (not z) 4 1 (k .less)) (run T list (at (fresh list 1 (k .less)) [] [] []) more)) e })
+    -- where the walk stands behind the root's tag
+    abbrev root : Here
+    root = root-in t (k .less) (k .end)
+
+    -- a violation that is the first
+    denies : (a : Answer) → run T list before es ≡ Violation a → Began T t pool s sd m (refusedAt root a)
+    denies a e = denied (record { answer = a; met = refl; found = e })
+
+    not-root : b ≡ false → Began T t pool s sd m (refusedAt root (table.wrongRoot (k .less)))
+    not-root e = denies (table.wrongRoot (k .less)) (found-root ∙ ap (λ z. orElse (refuse (not z) (table.wrongRoot (k .less))) (run T list (at (fresh list 1 (k .less)) [] [] []) more)) e)
 
     found-in : b ≡ true → run T list before es ≡ run T list (at (fresh list 1 (k .less)) [] [] []) more
-    found-in e = found-root ∙ ap (λ z. orElse (if (not z) 4 1 (k .less)) (run T list (at (fresh list 1 (k .less)) [] [] []) more)) e
+    found-in e = found-root ∙ ap (λ z. orElse (refuse (not z) (table.wrongRoot (k .less))) (run T list (at (fresh list 1 (k .less)) [] [] []) more)) e
 
-    stands-root : Tells s (k .end) more → (st : List ℕ) → length st ≡ 80 → Stands T t pool s sd st (root-in t (k .less) (k .end)) [] [] more
+    stands-root : Tells s (k .end) more → (st : List ℕ) → length st ≡ 80 → Stands T t pool s sd st root [] [] more
     unfolding levels
     stands-root tells st e = record {
       room = e;
@@ -175,8 +187,7 @@ module _ (T : Types) (t pool : List ℕ) (sd : Sound t pool) (m : Tree) (good : 
     open-began : k .kind ≡ Open → Tells s (k .end) more → Goal
     unfolding rootedIn
     open-began kind tells = byCases b
-        (λ e. to (record { met = Opened; here = root-in t (k .less) (k .end); less = k .less; verdict = nothing })
-        (ap (λ z. cond z (record { met = Opened; here = root-in t (k .less) (k .end); less = k .less; verdict = nothing }) (refusedAt (root-in t (k .less) (k .end)) 4 1 (k .less))) (sym e) ∙ by-kind Open kind)
+        (λ e. to (record { met = Opened; here = root; less = k .less }) (ap (λ z. rootedIn z root (k .less)) (sym e) ∙ by-kind Open kind)
         (starts (record {
           met = refl;
           rest = more;
@@ -184,24 +195,15 @@ module _ (T : Types) (t pool : List ℕ) (sd : Sound t pool) (m : Tree) (good : 
           found = found-in e ∙ ap (λ z. run T list (at z [] [] []) more) fresh-is;
           handed = handed-root ∙ ap (λ z. (1, Option.none) ∷ emits T list (at z [] [] []) more) fresh-is;
         })))
-        (λ e. to (refusedAt (root-in t (k .less) (k .end)) 4 1 (k .less))
-        (ap (λ z. cond z (record { met = Opened; here = root-in t (k .less) (k .end); less = k .less; verdict = nothing }) (refusedAt (root-in t (k .less) (k .end)) 4 1 (k .less))) (sym e) ∙ by-kind Open kind)
-        (not-root e))
+        (λ e. to (refusedAt root (table.wrongRoot (k .less))) (ap (λ z. rootedIn z root (k .less)) (sym e) ∙ by-kind Open kind) (not-root e))
 
     empty-began : (rest : List Event) → more ≡ leave ∷ rest → k .kind ≡ Empty → Goal
     unfolding hollowIn run
     empty-began rest f kind = byCases b
-        (λ e. to (refusedAt (root-in t (k .less) (k .end)) 11 1 (k .less))
-        (ap (λ z. cond z (refusedAt (root-in t (k .less) (k .end)) 11 1 (k .less)) (refusedAt (root-in t (k .less) (k .end)) 4 1 (k .less))) (sym e) ∙ by-kind Empty kind)
-        (denied (record {
-          met = refl;
-          code = omega arith;
-          found = found-in e ∙ ap (run T list (at (fresh list 1 (k .less)) [] [] [])) f
-              ∙ ap (λ z. orElse z (run T list after rest)) (closes-empty T list (kindOf list (fresh list 1 (k .less) .row)) 1 (k .less) []);
-        })))
-        (λ e. to (refusedAt (root-in t (k .less) (k .end)) 4 1 (k .less))
-        (ap (λ z. cond z (refusedAt (root-in t (k .less) (k .end)) 11 1 (k .less)) (refusedAt (root-in t (k .less) (k .end)) 4 1 (k .less))) (sym e) ∙ by-kind Empty kind)
-        (not-root e))
+        (λ e. to (refusedAt root (table.empty 1 (k .less))) (ap (λ z. hollowIn z root (k .less)) (sym e) ∙ by-kind Empty kind)
+        (denies (table.empty 1 (k .less)) (found-in e ∙ ap (run T list (at (fresh list 1 (k .less)) [] [] [])) f
+        ∙ ap (λ z. orElse z (run T list after rest)) (closes-empty T list (kindOf list (fresh list 1 (k .less) .row)) 1 (k .less) []))))
+        (λ e. to (refusedAt root (table.wrongRoot (k .less))) (ap (λ z. hollowIn z root (k .less)) (sym e) ∙ by-kind Empty kind) (not-root e))
 
   began-by : Told s (startOf s) es → Goal
   began-by (byOpen ps n ats more is kind x g tells) = open-began ps n ats more is g (goes-on (k .kind) Open kind (omega arith)) kind tells

@@ -1,7 +1,7 @@
 -- A step that refuses nothing: what it met, by the bytes behind the place where it began. Assumes nothing.
 use mathlib.Core.Path.{_≡_, refl, sym, _∙_, ap, subst}
 use mathlib.Core.Logic.{_≢_}
-use mathlib.Core.Bool.{Bool, true, false, cond, true≢false}
+use mathlib.Core.Bool.{Bool, true, false, cond, true≢false, false≢true}
 use mathlib.Core.List.{List, [], _∷_}
 use Prim.Native.Nat.{ℕ, _+_, _-_, _≤_, _<_, min}
 use native.Mathlib.Nat.{min-eq-left}
@@ -12,6 +12,7 @@ use lib.ListN.{length, getD, drop, drop-of-length-le}
 use lib.Seq.{drop-cons}
 use native.Mathlib.Numerals.{add-one}
 use borrow.Author.Tests.{eqb-true, eqb-false, lt-ltb}
+use Rattle.answer.specs.Table as table
 use Rattle.text.specs.Bytes.{isBlank}
 use Rattle.text.specs.Lists.{span}
 use Rattle.text_characters.specs.Pieces.{less, greater, solidus}
@@ -26,12 +27,14 @@ use Rattle.xml_tags.specs.Story.{tokenIn}
 use Rattle.xml_tags.proofs.Passing.{pass-at, pass-any}
 use Rattle.xml_tags.proofs.Tokens.{token-ahead}
 use Rattle.xml_tags.proofs.Steps.{token-later}
+use Rattle.file_walk.specs.declared.found.Found.{Found}
+use Rattle.file_walk.specs.declared.found.Found.the-variants.{Fine, Violation}
 use Rattle.file_walk.specs.declared.step.Here.{Here}
 use Rattle.file_walk.specs.declared.step.Turn.{Turn}
 use Rattle.file_walk.specs.declared.step.Met.{Met}
-use Rattle.file_walk.specs.declared.step.Met.the-variants.{Opened, Closed, Refused}
-use Rattle.file_walk.specs.Tables.{nothing, isGroupIn, openingIn}
-use Rattle.file_walk.specs.Stride.{ownIn, inkBefore, endIn, refusedAt, refusal, outer, closedIn, rowIn, inner, enteredIn, vacantIn, metIn, inkAhead, stepBy, stepIn}
+use Rattle.file_walk.specs.declared.step.Met.the-variants.{Opened, Closed, Refused, Lost}
+use Rattle.file_walk.specs.Tables.{isGroupIn, openingIn}
+use Rattle.file_walk.specs.Stride.{ownIn, inkBefore, endIn, refusedAt, lostAt, outer, closedBy, closedIn, rowIn, inner, enteredBy, enteredIn, vacantBy, vacantIn, metIn, inkAhead, stepBy, stepIn}
 
 -- ---- a token, by the bytes
 
@@ -137,22 +140,21 @@ module _ (s : List ℕ) (at : ℕ) where
 abbrev isOpened : Met → Bool
 isOpened Opened = true
 isOpened Closed = false
-isOpened Refused = false
+isOpened (Refused a) = false
+isOpened Lost = false
 
 clash : Opened ≡ Closed → ⊥
 clash e = true≢false (ap isOpened e)
 
-two-ways : (b c : Bool) (x y z : Turn) → x .met ≡ Refused → z .met ≡ Refused → cond b (cond c x y) z .met ≢ Refused → cond b (cond c x y) z ≡ y
-two-ways true true x y z e f n = absurd (n e)
-two-ways true false x y z e f n = refl
-two-ways false c x y z e f n = absurd (n f)
+-- neither a violation nor bytes that are no house XML
+abbrev pub goesOn : Met → Bool
+goesOn Opened = true
+goesOn Closed = true
+goesOn (Refused a) = false
+goesOn Lost = false
 
-no-way : (b : Bool) (x y : Turn) → x .met ≡ Refused → y .met ≡ Refused → cond b x y .met ≢ Refused → ⊥
-no-way true x y e f n = n e
-no-way false x y e f n = n f
-
-one-way : (b : Bool) (x y : Turn) → x .met ≡ Refused → cond b x y .met ≢ Refused → (b ≡ false) × (cond b x y ≡ y)
-one-way true x y e n = absurd (n e)
+one-way : (b : Bool) (x y : Turn) → goesOn (x .met) ≡ false → goesOn (cond b x y .met) ≡ true → (b ≡ false) × (cond b x y ≡ y)
+one-way true x y e n = absurd (false≢true (sym e ∙ n))
 one-way false x y e n = (refl, refl)
 
 module _ (t pool s st : List ℕ) (here : Here) where
@@ -163,10 +165,10 @@ module _ (t pool s st : List ℕ) (here : Here) where
   row = rowIn t pool s (here .level) (token .less) (token .stop)
 
   abbrev opens : Turn
-  opens = record { met = Opened; here = inner t here row (token .less) (token .end) (token .first); less = token .less; verdict = nothing }
+  opens = record { met = Opened; here = inner t here row (token .less) (token .end) (token .first); less = token .less }
 
   abbrev shuts : Here → Turn
-  shuts h = record { met = Closed; here = h; less = token .less; verdict = nothing }
+  shuts h = record { met = Closed; here = h; less = token .less }
 
   -- an opening tag, the root's closing tag, another's
   pub data Went (x : Turn) : Type 0 where
@@ -174,36 +176,40 @@ module _ (t pool s st : List ℕ) (here : Here) where
     ended : token .kind ≡ Close → here .depth ≡ 0 → x ≡ shuts here → Went x
     left : token .kind ≡ Close → here .depth ≢ 0 → x ≡ shuts (outer st (here .depth - 1) (token .end)) → Went x
 
-  enters : token .kind ≡ Open → (ok : Bool) → enteredIn t here row ok (token .less) (token .end) (token .first) .met ≢ Refused → Went (enteredIn t here row ok (token .less) (token .end) (token .first))
-  unfolding enteredIn
-  enters k ok n =
-      let v = openingIn t (here .level) row ok (token .less) in
-      entered k (two-ways (eqb (v .code) 0) (ltb 15 (here .depth)) (refusedAt here 3 0 (token .less)) opens (refusal here v) refl refl n)
+  enters : token .kind ≡ Open → (f : Found) → goesOn (enteredBy t here row (token .less) (token .end) (token .first) f .met) ≡ true → Went (enteredBy t here row (token .less) (token .end) (token .first) f)
+  enters k (Violation a) n = absurd (false≢true n)
+  enters k Fine n = entered k (one-way (ltb 15 (here .depth)) (lostAt here (token .less)) opens refl n .1)
 
-  leaves : token .kind ≡ Close → (g : Bool) → closedIn t g st here (token .less) (token .end) .met ≢ Refused → Went (closedIn t g st here (token .less) (token .end))
-  unfolding closedIn
-  leaves k g n = go (eqb (endIn t g (here .level) (here .at) (token .less) .code) 0) (eqb (here .depth) 0) (ltb 16 (here .depth)) refl n
+  leaves : token .kind ≡ Close → (f : Found) → goesOn (closedBy st here (token .less) (token .end) f .met) ≡ true → Went (closedBy st here (token .less) (token .end) f)
+  leaves k (Violation a) n = absurd (false≢true n)
+  leaves k Fine n = go (eqb (here .depth) 0) (ltb 16 (here .depth)) refl n
     where
-      go : (a b c : Bool) → eqb (here .depth) 0 ≡ b
-          → cond a (cond b (shuts here) (cond c (refusedAt here 3 0 (token .less)) (shuts (outer st (here .depth - 1) (token .end))))) (refusal here (endIn t g (here .level) (here .at) (token .less))) .met ≢ Refused
-          → Went (cond a (cond b (shuts here) (cond c (refusedAt here 3 0 (token .less)) (shuts (outer st (here .depth - 1) (token .end))))) (refusal here (endIn t g (here .level) (here .at) (token .less))))
-      go true true c e n = ended k (eqb-true (here .depth) 0 e) refl
-      go true false true e n = absurd (n refl)
-      go true false false e n = left k (eqb-false (here .depth) 0 e) refl
-      go false b c e n = absurd (n refl)
+      further : Turn
+      further = shuts (outer st (here .depth - 1) (token .end))
 
-  stays : (q : Kind) → token .kind ≡ q → metIn t pool s st here q token .met ≢ Refused → Went (metIn t pool s st here q token)
-  unfolding vacantIn
-  stays Open e n = enters e (ownIn t s row (token .attributes) (token .first)) n
-  stays Close e n = leaves e (isGroupIn (cell t (here .level .row) 2)) n
-  stays Empty e n = absurd (no-way (eqb (openingIn t (here .level) row (ownIn t s row (token .attributes) (token .first)) (token .less) .code) 0) _ _ refl refl n)
-  stays End e n = absurd (n refl)
+      go : (b c : Bool) → eqb (here .depth) 0 ≡ b → goesOn (cond b (shuts here) (cond c (lostAt here (token .less)) further) .met) ≡ true → Went (cond b (shuts here) (cond c (lostAt here (token .less)) further))
+      go true c e n = ended k (eqb-true (here .depth) 0 e) refl
+      go false true e n = absurd (false≢true n)
+      go false false e n = left k (eqb-false (here .depth) 0 e) refl
 
-  pub known : stepIn t pool s st here .met ≢ Refused → (ltb (inkBefore t s (here .level .row) (here .at) (token .less)) (token .less) ≡ false) × Went (stepIn t pool s st here)
+  -- an element without content has none
+  vacant : (f : Found) → goesOn (vacantBy here row (token .less) f .met) ≡ true → ⊥
+  vacant (Violation a) n = false≢true n
+  vacant Fine n = false≢true n
+
+  stays : (q : Kind) → token .kind ≡ q → goesOn (metIn t pool s st here q token .met) ≡ true → Went (metIn t pool s st here q token)
+  unfolding enteredIn closedIn vacantIn
+  stays Open e n = enters e (openingIn t (here .level) row (ownIn t s row (token .attributes) (token .first)) (token .less)) n
+  stays Close e n = leaves e (endIn t (isGroupIn (cell t (here .level .row) 2)) (here .level) (here .at) (token .less)) n
+  stays Empty e n = absurd (vacant (openingIn t (here .level) row (ownIn t s row (token .attributes) (token .first)) (token .less)) n)
+  stays End e n = absurd (false≢true n)
+
+  pub known : goesOn (stepIn t pool s st here .met) ≡ true → (ltb (inkBefore t s (here .level .row) (here .at) (token .less)) (token .less) ≡ false) × Went (stepIn t pool s st here)
   unfolding stepBy
   known n =
-      let w = one-way (ltb (inkAhead t pool s st here token) (token .less)) (refusedAt here 10 (here .level .row) (inkAhead t pool s st here token)) (metIn t pool s st here (token .kind) token) refl n in
-      (w .0, subst Went (sym (w .1)) (stays (token .kind) refl (λ f. n (ap (λ (x : Turn). x .met) (w .1) ∙ f))))
+      let ink = inkAhead t pool s st here token in
+      let w = one-way (ltb ink (token .less)) (refusedAt here (table.textInGroup (here .level .row) ink)) (metIn t pool s st here (token .kind) token) refl n in
+      (w .0, subst Went (sym (w .1)) (stays (token .kind) refl (ap (λ (x : Turn). goesOn (x .met)) (sym (w .1)) ∙ n)))
 
   -- ---- by the byte behind the `<`
 

@@ -1,4 +1,4 @@
--- What the proofs of `walk` share.
+-- What the proofs of `file_walk` share.
 -- first answers, tests
 pub mod Answers
 -- children that pass the opening tests one after the other

@@ -8,6 +8,7 @@ use native.Mathlib.Omega.{arith}
 use native.Mathlib.Decide.{ℕ-discrete, decLt}
 use lib.Dec.{eqb, ltb}
 use borrow.Author.Tests.{eqb-false, eq-eqb, ne-eqb, lt-ltb, le-ltb}
+use Rattle.answer.specs.Table as table
 use Rattle.text.specs.Bytes.{isBlank}
 use Rattle.text.specs.Lists.{Each}
 use Rattle.list.specs.Words.{times, has}
@@ -18,11 +19,13 @@ use Rattle.list.proofs.Words.{firstFrom-ext, times-hit, times-miss, has-of, eac
 use Rattle.xml.specs.Message.{Attrs, Parts, none, char, element}
 use Rattle.xml_tags.specs.Story.{Event, char as text, leave, events}
 use Rattle.file_walk.specs.declared.level.Level.{Level}
+use Rattle.file_walk.specs.declared.found.Found.{Found}
+use Rattle.file_walk.specs.declared.found.Found.the-variants.{Fine}
 use Rattle.file_walk.specs.Types.{Types}
-use Rattle.file_walk.specs.First.{Found, fine, found, if, orElse, firstOf, empty, passed, breaks, textOf, attrsOk, kindOf, isRoot, over, absent, childRows, opening, closing, inside, firstViolation}
+use Rattle.file_walk.specs.First.{refuse, orElse, firstOf, empty, passed, breaks, textOf, attrsOk, kindOf, isRoot, over, absent, childRows, opening, closing, inside, firstViolation}
 use Rattle.file_walk.specs.Denotes.{OneElement}
 use Rattle.file_walk.specs.Machine.{at, pop, fresh, advance, again, openTest, closeTest, run, walk, misses}
-use Rattle.file_walk.proofs.Answers.{or-right, or-when, or-assoc, if-no, passed-no, no-passed, group-attrs, kinds}
+use Rattle.file_walk.proofs.Answers.{or-right, or-when, or-assoc, refuse-no, passed-no, no-passed, group-attrs, kinds}
 use Rattle.list.proofs.Child.{child-found}
 use Rattle.file_walk.proofs.Tests.{no-child}
 use Rattle.file_walk.proofs.Steps.{Fits}
@@ -33,8 +36,8 @@ use Rattle.file_walk.proofs.Due.{due-start, due-step}
 -- four answers in a row, then another
 regroup : (a b c d x : Found) → orElse (firstOf (a ∷ b ∷ c ∷ d ∷ [])) x ≡ orElse a (orElse b (orElse c (orElse d x)))
 regroup a b c d x =
-    or-assoc a (orElse b (orElse c (orElse d fine))) x
-    ∙ ap (orElse a) (or-assoc b (orElse c (orElse d fine)) x ∙ ap (orElse b) (or-assoc c (orElse d fine) x ∙ ap (orElse c) (or-assoc d fine x)))
+    or-assoc a (orElse b (orElse c (orElse d Fine))) x
+    ∙ ap (orElse a) (or-assoc b (orElse c (orElse d Fine)) x ∙ ap (orElse b) (or-assoc c (orElse d Fine) x ∙ ap (orElse c) (or-assoc d Fine x)))
 
 -- ---- the closing tests ask how often, not in which order
 
@@ -104,12 +107,12 @@ module _ (t : Types) (l : Listing) where
   over-latest (leaf k) p r seen pos c a e = refl
 
   open-same : (kp kr : Kind) (p last r o : ℕ) (seen : List ℕ) (ats : Attrs) → Each (Child l p) seen → Each (λ x. x ≤ latest seen) seen → last ≡ latest seen
-      → firstOf (if (eqb r 0) 5 p o ∷ if (not (isChoice kp) && ltb r last) 6 r o ∷ if (again l kp last r) 7 r o ∷ if (not (attrsOk t kr ats)) 9 r o ∷ [])
-      ≡ firstOf (if (eqb r 0) 5 p o ∷ if (not (isChoice kp) && passed r seen) 6 r o ∷ if (over l kp seen r) 7 r o ∷ if (not (attrsOk t kr ats)) 9 r o ∷ [])
+      → firstOf (refuse (eqb r 0) (table.noChild p o) ∷ refuse (not (isChoice kp) && ltb r last) (table.outOfOrder r o) ∷ refuse (again l kp last r) (table.tooMany r o) ∷ refuse (not (attrsOk t kr ats)) (table.wrongAttributes r o) ∷ [])
+      ≡ firstOf (refuse (eqb r 0) (table.noChild p o) ∷ refuse (not (isChoice kp) && passed r seen) (table.outOfOrder r o) ∷ refuse (over l kp seen r) (table.tooMany r o) ∷ refuse (not (attrsOk t kr ats)) (table.wrongAttributes r o) ∷ [])
   open-same kp kr p last r o seen ats c a e =
       rw (e, passed-latest r seen a)
-      (or-when (if (eqb r 0) 5 p o) _ _ (λ z. or-when (if (not (isChoice kp) && passed r seen) 6 r o) _ _ (λ y.
-      ap (λ b. orElse (if b 7 r o) (orElse (if (not (attrsOk t kr ats)) 9 r o) fine)) (over-latest kp p r seen (pos (if-no (eqb r 0) 5 p o z)) c a (if-no (not (isChoice kp) && passed r seen) 6 r o y)))))
+      (or-when (refuse (eqb r 0) (table.noChild p o)) _ _ (λ z. or-when (refuse (not (isChoice kp) && passed r seen) (table.outOfOrder r o)) _ _ (λ y.
+      ap (λ b. orElse (refuse b (table.tooMany r o)) (orElse (refuse (not (attrsOk t kr ats)) (table.wrongAttributes r o)) Fine)) (over-latest kp p r seen (pos (refuse-no (eqb r 0) (table.noChild p o) z)) c a (refuse-no (not (isChoice kp) && passed r seen) (table.outOfOrder r o) y)))))
     where
       pos : eqb r 0 ≡ false → 0 < r
       pos z = elim (decLt 0 r) [ yes h ↦ h | no h ↦ absurd (eqb-false r 0 z (omega arith)) ]
@@ -229,11 +232,11 @@ module _ (t : Types) (l : Listing) where
     group-run none lv below seen rest s g = ap (λ x. orElse x (run t l (pop below) rest)) (close-same (kindOf l (lv .row)) lv seen [] [] [] [] g s)
     group-run (char o x k) lv below seen rest s g =
         let ih = group-run k lv below seen rest s g in
-        let f = if (isGroup (kindOf l (lv .row)) && not (isBlank x)) 10 (lv .row) o in
+        let f = refuse (isGroup (kindOf l (lv .row)) && not (isBlank x)) (table.textInGroup (lv .row) o) in
         let u = inside t l (lv .row) seen k in
         let v = orElse (closing t l (kindOf l (lv .row)) (lv .row) (lv .place) [] (childRows l (lv .row) k ++ seen) []) (run t l (pop below) rest) in
         ap (λ b. orElse f (run t l (at lv below [] (cond b [] (x ∷ []))) (events k (leave ∷ rest)))) g
-        ∙ ap (orElse f) ih ∙ sym (or-assoc f (orElse u fine) v ∙ ap (orElse f) (or-assoc u fine v))
+        ∙ ap (orElse f) ih ∙ sym (or-assoc f (orElse u Fine) v ∙ ap (orElse f) (or-assoc u Fine v))
     group-run (element o n ats i k) lv below seen rest s g =
         let p = lv .row in
         let r = child l p n in
@@ -262,5 +265,5 @@ module _ (t : Types) (l : Listing) where
         let c = childRows l 1 i in
         let e : closing t l (kindOf l 1) 1 o [] (c ++ []) [] ≡ closing t l (kindOf l 1) 1 o ats c (textOf i) =
         ap (λ z. closing t l (kindOf l 1) 1 o [] z []) (append-nil c) ∙ closing-group (kindOf l 1) 1 o [] ats c [] (textOf i) g in
-        ap (λ x. orElse (if (not (isRoot l n ats)) 4 1 o) (run t l (at (fresh l 1 o) [] [] []) (events i (leave ∷ events x [])))) one
-        ∙ ap (orElse (if (not (isRoot l n ats)) 4 1 o)) (group-run i (fresh l 1 o) [] [] [] (stands-fresh 1 o) g ∙ ap (λ x. orElse (inside t l 1 [] i) (orElse x fine)) e)
+        ap (λ x. orElse (refuse (not (isRoot l n ats)) (table.wrongRoot o)) (run t l (at (fresh l 1 o) [] [] []) (events i (leave ∷ events x [])))) one
+        ∙ ap (orElse (refuse (not (isRoot l n ats)) (table.wrongRoot o))) (group-run i (fresh l 1 o) [] [] [] (stands-fresh 1 o) g ∙ ap (λ x. orElse (inside t l 1 [] i) (orElse x Fine)) e)

@@ -5,6 +5,8 @@ use mathlib.Core.List.{List}
 use Prim.Native.Nat.{ℕ, _+_, _≤_, _<_}
 use lib.ListN.{length, drop}
 use borrow.Author.Tests.{lt-ltb, le-ltb}
+use Rattle.answer.specs.declared.Answer.{Answer}
+use Rattle.answer.specs.Table as table
 use Rattle.xml_tags.specs.declared.attribute.Attribute.{Attribute}
 use Rattle.xml_tags.specs.declared.token.Kind.{Kind}
 use Rattle.xml_tags.specs.declared.token.Kind.the-variants.{Open, Empty, Close, End}
@@ -14,8 +16,8 @@ use Rattle.file_walk.specs.declared.level.Level.{Level}
 use Rattle.file_walk.specs.declared.step.Here.{Here}
 use Rattle.file_walk.specs.declared.step.Turn.{Turn}
 use Rattle.file_walk.specs.declared.step.Met.the-variants.{Opened}
-use Rattle.file_walk.specs.Tables.{nothing, freshIn}
-use Rattle.file_walk.specs.Stride.{spaceIn, refusedAt}
+use Rattle.file_walk.specs.Tables.{freshIn}
+use Rattle.file_walk.specs.Stride.{spaceIn, refusedAt, lostAt}
 use Rattle.file_walk.specs.Begin.{isFirstIn, isRootIn, rootAt, rootedIn, hollowIn, foundIn, beginBy, beginIn}
 
 module _ (t pool s : List ℕ) (less stop count : ℕ) (a : Attribute) where
@@ -33,21 +35,23 @@ module _ (t pool s : List ℕ) (less stop count : ℕ) (a : Attribute) where
     root-space y f g = rw (lt-ltb less (length s) h, sym e ∙ f) g
 
 module _ (b : Bool) (here : Here) (less : ℕ) where
-  pub rooted-no : (x : Turn) → b ≡ false → x ≡ refusedAt here 4 1 less → x ≡ rootedIn b here less
-  unfolding rootedIn
-  rooted-no x e f = rw e f
-
-  pub rooted-yes : b ≡ true → record { met = Opened; here = here; less = less; verdict = nothing } ≡ rootedIn b here less
+  pub rooted-yes : b ≡ true → record { met = Opened; here = here; less = less } ≡ rootedIn b here less
   unfolding rootedIn
   rooted-yes e = rw e
 
-  pub hollow-no : (x : Turn) → b ≡ false → x ≡ refusedAt here 4 1 less → x ≡ hollowIn b here less
-  unfolding hollowIn
-  hollow-no x e f = rw e f
+  -- a is the answer that is handed on
+  module _ (a : Answer) (x : Turn) (is : x ≡ refusedAt here a) where
+    pub rooted-no : b ≡ false → a ≡ table.wrongRoot less → x ≡ rootedIn b here less
+    unfolding rootedIn
+    rooted-no e f = rw e (is ∙ ap (refusedAt here) f)
 
-  pub hollow-yes : (x : Turn) → b ≡ true → x ≡ refusedAt here 11 1 less → x ≡ hollowIn b here less
-  unfolding hollowIn
-  hollow-yes x e f = rw e f
+    pub hollow-no : b ≡ false → a ≡ table.wrongRoot less → x ≡ hollowIn b here less
+    unfolding hollowIn
+    hollow-no e f = rw e (is ∙ ap (refusedAt here) f)
+
+    pub hollow-yes : b ≡ true → a ≡ table.empty 1 less → x ≡ hollowIn b here less
+    unfolding hollowIn
+    hollow-yes e f = rw e (is ∙ ap (refusedAt here) f)
 
 -- the tag is the one where the root begins
 module _ (t pool s : List ℕ) (o : ℕ) (begins : o ≡ startOf s) (k : Token) (is : k ≡ openAt o (drop o s)) where
@@ -62,11 +66,11 @@ module _ (t pool s : List ℕ) (o : ℕ) (begins : o ≡ startOf s) (k : Token) 
     there : root ≡ rootAt t (k .less) (k .end)
     there = ap (λ (z : Level). record { level = z; depth = 0; at = k .end; value = 0; quote = 0 }) level
 
-    pub begin-close : (x : Turn) → k .kind ≡ Close → x ≡ refusedAt root 3 0 (k .less) → x ≡ beginIn t pool s
-    begin-close x e f = by-kind Close e x (f ∙ ap (λ z. refusedAt z 3 0 (k .less)) there)
+    pub begin-close : (x : Turn) → k .kind ≡ Close → x ≡ lostAt root (k .less) → x ≡ beginIn t pool s
+    begin-close x e f = by-kind Close e x (f ∙ ap (λ z. lostAt z (k .less)) there)
 
-    pub begin-end : (x : Turn) → k .kind ≡ End → x ≡ refusedAt root 3 0 (k .less) → x ≡ beginIn t pool s
-    begin-end x e f = by-kind End e x (f ∙ ap (λ z. refusedAt z 3 0 (k .less)) there)
+    pub begin-end : (x : Turn) → k .kind ≡ End → x ≡ lostAt root (k .less) → x ≡ beginIn t pool s
+    begin-end x e f = by-kind End e x (f ∙ ap (λ z. lostAt z (k .less)) there)
 
     module _ (b : Bool) (own : b ≡ isRootIn t pool s (k .less) (k .stop) (k .attributes) (k .first)) where
       pub begin-open : (x : Turn) → k .kind ≡ Open → x ≡ rootedIn b root (k .less) → x ≡ beginIn t pool s

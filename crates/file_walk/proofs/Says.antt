@@ -1,13 +1,16 @@
 -- The tests of a tag over the tables, from what the code's calls told. Assumes nothing.
-use mathlib.Core.Path.{_≡_, sym, _∙_}
+use mathlib.Core.Path.{_≡_, sym, _∙_, ap}
 use mathlib.Core.Bool.{Bool, true, false, _||_, not}
 use mathlib.Core.List.{List}
 use Prim.Native.Nat.{ℕ, _≤_, _<_}
 use lib.Dec.{eqb, ltb, leb}
 use borrow.Author.Tests.{eq-eqb, ne-eqb, lt-ltb, le-ltb, le-leb, lt-leb}
+use Rattle.answer.specs.declared.Answer.{Answer}
+use Rattle.answer.specs.Table as table
 use Rattle.list.specs.Table.{cell}
 use Rattle.file_walk.specs.declared.level.Level.{Level}
-use Rattle.file_walk.specs.Tables.{says, nothing, isGroupIn, passedIn, againIn, openingIn, brokenIn, groupEndIn}
+use Rattle.file_walk.specs.declared.found.Found.the-variants.{Fine, Violation}
+use Rattle.file_walk.specs.Tables.{isGroupIn, passedIn, againIn, openingIn, brokenIn, groupEndIn}
 
 pub leaf-kind : (c : ℕ) → 2 ≤ c → c ≤ 11 → false ≡ isGroupIn c
 unfolding isGroupIn
@@ -46,29 +49,29 @@ module _ (t : List ℕ) (lv : Level) where
 
   -- ---- the opening tests, one after the other
 
-  module _ (r : ℕ) (own : Bool) (o : ℕ) where
-    pub says-5 : r ≡ 0 → says 5 (lv .row) o ≡ openingIn t lv r own o
+  -- x is the answer that is handed on
+  module _ (r : ℕ) (own : Bool) (o : ℕ) (x : Answer) where
+    pub says-no-child : r ≡ 0 → x ≡ table.noChild (lv .row) o → Violation x ≡ openingIn t lv r own o
     unfolding openingIn
-    says-5 e = rw (eq-eqb r 0 e)
+    says-no-child e f = rw (eq-eqb r 0 e) (ap Violation f)
 
     module _ (a : r ≡ 0 → ⊥) where
-      pub says-6 : (x : Bool) → x ≡ passedIn t lv r → x ≡ true → says 6 r o ≡ openingIn t lv r own o
+      pub says-out-of-order : (y : Bool) → y ≡ passedIn t lv r → y ≡ true → x ≡ table.outOfOrder r o → Violation x ≡ openingIn t lv r own o
       unfolding openingIn
-      says-6 x e f = rw (ne-eqb r 0 a, sym e ∙ f)
+      says-out-of-order y e f g = rw (ne-eqb r 0 a, sym e ∙ f) (ap Violation g)
 
-      module _ (x : Bool) (b : x ≡ passedIn t lv r) (c : x ≡ false) where
-        pub says-7 : (y : Bool) → y ≡ againIn t lv r → y ≡ true → says 7 r o ≡ openingIn t lv r own o
+      module _ (y : Bool) (b : y ≡ passedIn t lv r) (c : y ≡ false) where
+        pub says-too-many : (z : Bool) → z ≡ againIn t lv r → z ≡ true → x ≡ table.tooMany r o → Violation x ≡ openingIn t lv r own o
         unfolding openingIn
-        says-7 y e f = rw (ne-eqb r 0 a, sym b ∙ c, sym e ∙ f)
+        says-too-many z e f g = rw (ne-eqb r 0 a, sym b ∙ c, sym e ∙ f) (ap Violation g)
 
-        module _ (y : Bool) (d : y ≡ againIn t lv r) (e : y ≡ false) where
-          pub says-none : own ≡ true → nothing ≡ openingIn t lv r own o
-          unfolding openingIn
-          says-none f = rw (ne-eqb r 0 a, sym b ∙ c, sym d ∙ e, f)
+        pub says-wrong-attributes : (z : Bool) → z ≡ againIn t lv r → z ≡ false → own ≡ false → x ≡ table.wrongAttributes r o → Violation x ≡ openingIn t lv r own o
+        unfolding openingIn
+        says-wrong-attributes z d e f g = rw (ne-eqb r 0 a, sym b ∙ c, sym d ∙ e, f) (ap Violation g)
 
-          pub says-9 : own ≡ false → says 9 r o ≡ openingIn t lv r own o
-          unfolding openingIn
-          says-9 f = rw (ne-eqb r 0 a, sym b ∙ c, sym d ∙ e, f)
+  pub opens-well : (r : ℕ) (own : Bool) (o : ℕ) → (r ≡ 0 → ⊥) → (y : Bool) → y ≡ passedIn t lv r → y ≡ false → (z : Bool) → z ≡ againIn t lv r → z ≡ false → own ≡ true → Fine ≡ openingIn t lv r own o
+  unfolding openingIn
+  opens-well r own o a y b c z d e f = rw (ne-eqb r 0 a, sym b ∙ c, sym d ∙ e, f)
 
   -- ---- a group's end
 
@@ -86,20 +89,20 @@ module _ (t : List ℕ) (lv : Level) where
       go : (b : Bool) (y : ℕ) → b ≡ false → x ≡ y → not (eqb x 0) ≡ (b || not (eqb y 0))
       go b y e f = rw (e, f)
 
-  pub says-11 : lv .last ≡ 0 → says 11 (lv .row) (lv .place) ≡ groupEndIn t lv
-  unfolding groupEndIn
-  says-11 e = rw (eq-eqb (lv .last) 0 e)
-
-  module _ (a : lv .last ≡ 0 → ⊥) where
-    pub says-8 : 0 < lv .due → says 8 (lv .due) (lv .place) ≡ groupEndIn t lv
+  module _ (v : Answer) where
+    pub says-empty : lv .last ≡ 0 → v ≡ table.empty (lv .row) (lv .place) → Violation v ≡ groupEndIn t lv
     unfolding groupEndIn
-    says-8 h = rw (ne-eqb (lv .last) 0 a, lt-ltb 0 (lv .due) h)
+    says-empty e f = rw (eq-eqb (lv .last) 0 e) (ap Violation f)
 
-    module _ (b : lv .due ≤ 0) (x : Bool) (c : x ≡ brokenIn t lv) where
-      pub says-13 : x ≡ true → says 13 (lv .row) (lv .place) ≡ groupEndIn t lv
-      unfolding groupEndIn
-      says-13 e = rw (ne-eqb (lv .last) 0 a, le-ltb 0 (lv .due) b, sym c ∙ e)
+    pub says-absent : (lv .last ≡ 0 → ⊥) → 0 < lv .due → v ≡ table.absent (lv .due) (lv .place) → Violation v ≡ groupEndIn t lv
+    unfolding groupEndIn
+    says-absent a h f = rw (ne-eqb (lv .last) 0 a, lt-ltb 0 (lv .due) h) (ap Violation f)
 
-      pub ends-well : x ≡ false → nothing ≡ groupEndIn t lv
-      unfolding groupEndIn
-      ends-well e = rw (ne-eqb (lv .last) 0 a, le-ltb 0 (lv .due) b, sym c ∙ e)
+  module _ (a : lv .last ≡ 0 → ⊥) (b : lv .due ≤ 0) (x : Bool) (c : x ≡ brokenIn t lv) where
+    pub says-rule-broken : (v : Answer) → x ≡ true → v ≡ table.ruleBroken (lv .row) (lv .place) → Violation v ≡ groupEndIn t lv
+    unfolding groupEndIn
+    says-rule-broken v e f = rw (ne-eqb (lv .last) 0 a, le-ltb 0 (lv .due) b, sym c ∙ e) (ap Violation f)
+
+    pub ends-well : x ≡ false → Fine ≡ groupEndIn t lv
+    unfolding groupEndIn
+    ends-well e = rw (ne-eqb (lv .last) 0 a, le-ltb 0 (lv .due) b, sym c ∙ e)

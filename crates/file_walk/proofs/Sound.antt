@@ -7,6 +7,7 @@ use Prim.Native.Nat.{ℕ, _≤_, _<_}
 use native.Mathlib.Omega.{arith}
 use lib.Dec.{eqb, ltb}
 use borrow.Author.Tests.{eq-eqb}
+use Rattle.answer.specs.Table as table
 use Rattle.list.specs.Listing.{Kind, group, choice, leaf, Listing, size, rowAt, Child, isGroup, isChoice, single}
 use Rattle.list.specs.Table.{cell, wordsIn, listOf}
 use Rattle.list.specs.Sound.{Sound}
@@ -17,31 +18,10 @@ use Rattle.list.proofs.Rows.{size-is, kind-is, count-is}
 use Rattle.xml.specs.Message.{Attrs}
 use Rattle.file_walk.specs.declared.level.Level.{Level}
 use Rattle.file_walk.specs.Types.{Types}
-use Rattle.file_walk.specs.First.{found, if, firstOf, attrsOk}
+use Rattle.file_walk.specs.First.{refuse, firstOf, attrsOk}
 use Rattle.file_walk.specs.First.{kindOf as kindIn}
 use Rattle.file_walk.specs.Machine.{misses, fresh, advance, again, openTest, groupTest}
-use Rattle.file_walk.specs.Tables.{freshIn, advanceIn, says, nothing, isGroupIn, passedIn, againIn, openingIn, brokenIn, groupEndIn, foundOf}
-
--- ---- the tests, whatever the cells
-
--- four tests of which the first that passes says
-opening-found : (a b c d : Bool) (p r o : ℕ)
-    → foundOf (cond a (says 5 p o) (cond b (says 6 r o) (cond c (says 7 r o) (cond (not d) (says 9 r o) nothing))))
-    ≡ firstOf (if a 5 p o ∷ if b 6 r o ∷ if c 7 r o ∷ if (not d) 9 r o ∷ [])
-unfolding foundOf
-opening-found true b c d p r o = refl
-opening-found false true c d p r o = refl
-opening-found false false true d p r o = refl
-opening-found false false false true p r o = refl
-opening-found false false false false p r o = refl
-
-ending-found : (a b c : Bool) (d r o : ℕ)
-    → foundOf (cond a (says 11 r o) (cond b (says 8 d o) (cond c (says 13 r o) nothing))) ≡ firstOf (if a 11 r o ∷ if b 8 d o ∷ if c 13 r o ∷ [])
-unfolding foundOf
-ending-found true b c d r o = refl
-ending-found false true c d r o = refl
-ending-found false false true d r o = refl
-ending-found false false false d r o = refl
+use Rattle.file_walk.specs.Tables.{freshIn, advanceIn, isGroupIn, passedIn, againIn, openingIn, brokenIn, groupEndIn}
 
 module _ (t pool : List ℕ) (s : Sound t pool) where
   abbrev l : Listing
@@ -98,16 +78,16 @@ module _ (t pool : List ℕ) (s : Sound t pool) where
 
   module _ (T : Types) where
     pub opening-in : (lv : Level) (r : ℕ) (own : Bool) (ats : Attrs) (o : ℕ) → Placed lv → (r ≡ 0) ⊎ Child l (lv .row) r → (0 < r → own ≡ attrsOk T (kindIn l r) ats)
-        → foundOf (openingIn t lv r own o) ≡ openTest T l lv r ats o
+        → openingIn t lv r own o ≡ openTest T l lv r ats o
     unfolding openingIn openTest
-    opening-in lv r own ats o p (inl e) h = opening-found (eqb r 0) (passedIn t lv r) (againIn t lv r) own (lv .row) r o ∙ rw (eq-eqb r 0 e)
-    opening-in lv r own ats o p (inr c) h =
-        opening-found (eqb r 0) (passedIn t lv r) (againIn t lv r) own (lv .row) r o
-        ∙ rw (passed-in lv r p, again-in lv r p c, h (c .first))
+    opening-in lv r own ats o p (inl e) h = rw (eq-eqb r 0 e)
+    opening-in lv r own ats o p (inr c) h = rw (passed-in lv r p, again-in lv r p c, h (c .first))
 
-    pub group-end-in : (lv : Level) → Placed lv → foundOf (groupEndIn t lv) ≡ groupTest T l lv
+    pub group-end-in : (lv : Level) → Placed lv → groupEndIn t lv ≡ groupTest T l lv
     unfolding groupEndIn brokenIn
     group-end-in lv p =
-        ending-found (eqb (lv .last) 0) (ltb 0 (lv .due)) (lv .odd || not (eqb (cell t (lv .last) 13) 0)) (lv .due) (lv .row) (lv .place)
-        ∙ ap (λ x. firstOf (if (eqb (lv .last) 0) 11 (lv .row) (lv .place) ∷ if (ltb 0 (lv .due)) 8 (lv .due) (lv .place) ∷ if (lv .odd || not (eqb x 0)) 13 (lv .row) (lv .place) ∷ []))
+        ap (λ x. firstOf (
+        refuse (eqb (lv .last) 0) (table.empty (lv .row) (lv .place)) ∷
+        refuse (ltb 0 (lv .due)) (table.absent (lv .due) (lv .place)) ∷
+        refuse (lv .odd || not (eqb x 0)) (table.ruleBroken (lv .row) (lv .place)) ∷ []))
         (s .derived (lv .last) (last-within lv p) .pair)

@@ -10,6 +10,8 @@ use lib.Dec.{eqb, ltb}
 use lib.ListN.{length, getD, drop}
 use lib.Seq.{slice}
 use borrow.Author.Tests.{eq-eqb, ne-eqb, lt-ltb, le-ltb}
+use Rattle.answer.specs.declared.Answer.{Answer}
+use Rattle.answer.specs.Table as table
 use Rattle.text.specs.Bytes.{ascii, isBlank, isCapital}
 use Rattle.text.specs.Lists.{same, span}
 use Rattle.text.proofs.Parts.{part-at, part-room}
@@ -24,12 +26,13 @@ use Rattle.xml_tags.specs.Tokens.{inkIn}
 use Rattle.xml_tags.proofs.Tokens.{token-ahead}
 use Rattle.xml_tags.proofs.Steps.{token-later}
 use Rattle.file_walk.specs.declared.level.Level.{Level}
-use Rattle.file_walk.specs.declared.verdict.Verdict.{Verdict}
+use Rattle.file_walk.specs.declared.found.Found.{Found}
+use Rattle.file_walk.specs.declared.found.Found.the-variants.{Fine, Violation}
 use Rattle.file_walk.specs.declared.step.Here.{Here}
 use Rattle.file_walk.specs.declared.step.Turn.{Turn}
 use Rattle.file_walk.specs.declared.step.Met.the-variants.{Opened, Closed}
-use Rattle.file_walk.specs.Tables.{says, nothing, isGroupIn, freshIn, advanceIn, openingIn, groupEndIn, pushed}
-use Rattle.file_walk.specs.Stride.{isCurrency, named, ownIn, spaceIn, inkBefore, textFrom, inkFrom, endIn, refusedAt, refusal, outer, closedIn, rowIn, enteredIn, belowIn, vacantIn, numberOf, metIn, leftIn, inkAhead, stepBy, stackBy, stepIn, stackIn}
+use Rattle.file_walk.specs.Tables.{isGroupIn, freshIn, advanceIn, openingIn, groupEndIn, pushed}
+use Rattle.file_walk.specs.Stride.{isCurrency, named, ownIn, spaceIn, inkBefore, textFrom, inkFrom, endIn, refusedAt, lostAt, outer, closedBy, closedIn, rowIn, enteredBy, enteredIn, belowBy, belowIn, vacantBy, vacantIn, inner, numberOf, metIn, leftIn, inkAhead, stepBy, stackBy, stepIn, stackIn}
 
 -- ---- a kind by its number
 
@@ -168,44 +171,38 @@ module _ (s : List ℕ) (g : Bool) (at o : ℕ) (k : Token) (e : o ≡ textFrom 
 -- ---- a closing tag
 
 module _ (t : List ℕ) (g : Bool) (lv : Level) (at less : ℕ) where
-  pub end-group : (v : Verdict) → g ≡ true → v ≡ groupEndIn t lv → v ≡ endIn t g lv at less
+  pub end-group : (v : Found) → g ≡ true → v ≡ groupEndIn t lv → v ≡ endIn t g lv at less
   unfolding endIn
   end-group v h j = rw h j
 
-  pub end-empty : g ≡ false → less ≡ at → says 11 (lv .row) (lv .place) ≡ endIn t g lv at less
+  pub end-empty : (a : Answer) → g ≡ false → less ≡ at → a ≡ table.empty (lv .row) (lv .place) → Violation a ≡ endIn t g lv at less
   unfolding endIn
-  end-empty h j = rw (h, eq-eqb less at j)
+  end-empty a h j f = rw (h, eq-eqb less at j) (ap Violation f)
 
-  pub end-some : g ≡ false → (less ≡ at → ⊥) → nothing ≡ endIn t g lv at less
+  pub end-some : g ≡ false → (less ≡ at → ⊥) → Fine ≡ endIn t g lv at less
   unfolding endIn
   end-some h j = rw (h, ne-eqb less at j)
 
-code-is : (v w : Verdict) → v ≡ w → (n : ℕ) → v .code ≡ n → w .code ≡ n
-code-is v w e n f = sym (ap (λ (x : Verdict). x .code) e) ∙ f
-
-module _ (t : List ℕ) (g : Bool) (st : List ℕ) (here : Here) (less end : ℕ) (v : Verdict) (e : v ≡ endIn t g (here .level) (here .at) less) where
-  pub closed-refused : (x : Turn) → (v .code ≡ 0 → ⊥) → x ≡ refusal here v → x ≡ closedIn t g st here less end
+module _ (t : List ℕ) (g : Bool) (st : List ℕ) (here : Here) (less end : ℕ) (v : Found) (e : v ≡ endIn t g (here .level) (here .at) less) where
+  pub closed-refused : (a : Answer) (x : Turn) → v ≡ Violation a → x ≡ refusedAt here a → x ≡ closedIn t g st here less end
   unfolding closedIn
-  closed-refused x h f = rw (ne-eqb (endIn t g (here .level) (here .at) less .code) 0 (λ z. h (ap (λ (w : Verdict). w .code) e ∙ z))) (f ∙ ap (refusal here) e)
+  closed-refused a x h f = f ∙ ap (closedBy st here less end) (sym h ∙ e)
 
-  module _ (h : v .code ≡ 0) where
-    well : eqb (endIn t g (here .level) (here .at) less .code) 0 ≡ true
-    well = eq-eqb (endIn t g (here .level) (here .at) less .code) 0 (code-is v _ e 0 h)
-
-    pub closed-root : here .depth ≡ 0 → record { met = Closed; here = here; less = less; verdict = nothing } ≡ closedIn t g st here less end
+  module _ (h : v ≡ Fine) where
+    well : closedBy st here less end Fine ≡ closedIn t g st here less end
     unfolding closedIn
-    closed-root f = rw (well, eq-eqb (here .depth) 0 f)
+    well = ap (closedBy st here less end) (sym h ∙ e)
+
+    pub closed-root : here .depth ≡ 0 → record { met = Closed; here = here; less = less } ≡ closedIn t g st here less end
+    closed-root f = rw (eq-eqb (here .depth) 0 f) at well
 
     module _ (f : here .depth ≡ 0 → ⊥) where
-      pub closed-deep : (x : Turn) → 16 < here .depth → x ≡ refusedAt here 3 0 less → x ≡ closedIn t g st here less end
-      unfolding closedIn
-      closed-deep x i j = rw (well, ne-eqb (here .depth) 0 f, lt-ltb 16 (here .depth) i) j
+      pub closed-deep : (x : Turn) → 16 < here .depth → x ≡ lostAt here less → x ≡ closedIn t g st here less end
+      closed-deep x i j = j ∙ rw (ne-eqb (here .depth) 0 f, lt-ltb 16 (here .depth) i) at well
 
-      pub closed-outer : (o : Here) → here .depth ≤ 16 → o ≡ outer st (here .depth - 1) end
-          → record { met = Closed; here = o; less = less; verdict = nothing } ≡ closedIn t g st here less end
-      unfolding closedIn
+      pub closed-outer : (o : Here) → here .depth ≤ 16 → o ≡ outer st (here .depth - 1) end → record { met = Closed; here = o; less = less } ≡ closedIn t g st here less end
       closed-outer o i j =
-          rw (well, ne-eqb (here .depth) 0 f, le-ltb 16 (here .depth) i) (ap (λ (z : Here). record { met = Closed; here = z; less = less; verdict = nothing }) j)
+          ap (λ (z : Here). record { met = Closed; here = z; less = less }) j ∙ rw (ne-eqb (here .depth) 0 f, le-ltb 16 (here .depth) i) at well
 
 -- ---- an opening tag
 
@@ -218,46 +215,50 @@ module _ (t pool s : List ℕ) (lv : Level) (less stop : ℕ) where
   unfolding rowIn
   row-outside h = rw (le-ltb less (length s) h)
 
-module _ (t : List ℕ) (here : Here) (r : ℕ) (ok : Bool) (less : ℕ) (v : Verdict) (e : v ≡ openingIn t (here .level) r ok less) where
-  bad : (v .code ≡ 0 → ⊥) → eqb (openingIn t (here .level) r ok less .code) 0 ≡ false
-  bad h = ne-eqb (openingIn t (here .level) r ok less .code) 0 (λ z. h (ap (λ (w : Verdict). w .code) e ∙ z))
-
-  fit : v .code ≡ 0 → eqb (openingIn t (here .level) r ok less .code) 0 ≡ true
-  fit h = eq-eqb (openingIn t (here .level) r ok less .code) 0 (code-is v _ e 0 h)
-
-  pub vacant-refused : (x : Turn) → (v .code ≡ 0 → ⊥) → x ≡ refusal here v → x ≡ vacantIn t here r ok less
+module _ (t : List ℕ) (here : Here) (r : ℕ) (ok : Bool) (less : ℕ) (v : Found) (e : v ≡ openingIn t (here .level) r ok less) where
+  pub vacant-refused : (b : Answer) (x : Turn) → v ≡ Violation b → x ≡ refusedAt here b → x ≡ vacantIn t here r ok less
   unfolding vacantIn
-  vacant-refused x h f = rw (bad h) (f ∙ ap (refusal here) e)
+  vacant-refused b x h f = f ∙ ap (vacantBy here r less) (sym h ∙ e)
 
-  pub vacant-on : (x : Turn) → v .code ≡ 0 → x ≡ refusedAt here 11 r less → x ≡ vacantIn t here r ok less
+  pub vacant-on : (b : Answer) (x : Turn) → v ≡ Fine → b ≡ table.empty r less → x ≡ refusedAt here b → x ≡ vacantIn t here r ok less
   unfolding vacantIn
-  vacant-on x h f = rw (fit h) f
+  vacant-on b x h g f = f ∙ ap (refusedAt here) g ∙ ap (vacantBy here r less) (sym h ∙ e)
 
-module _ (t st : List ℕ) (here : Here) (r : ℕ) (ok : Bool) (less end : ℕ) (a : Attribute) (v : Verdict) (e : v ≡ openingIn t (here .level) r ok less) where
-  pub entered-refused : (x : Turn) → (v .code ≡ 0 → ⊥) → x ≡ refusal here v → (x ≡ enteredIn t here r ok less end a) × (st ≡ belowIn t st here r ok less)
-  unfolding enteredIn belowIn
-  entered-refused x h f = (rw (bad t here r ok less v e h) (f ∙ ap (refusal here) e), rw (bad t here r ok less v e h))
+  module _ (st : List ℕ) (end : ℕ) (a : Attribute) where
+    abbrev Enters : Turn → List ℕ → Type 0
+    Enters x below = (x ≡ enteredIn t here r ok less end a) × (below ≡ belowIn t st here r ok less)
 
-  pub entered-deep : (x : Turn) → v .code ≡ 0 → 15 < here .depth → x ≡ refusedAt here 3 0 less → (x ≡ enteredIn t here r ok less end a) × (st ≡ belowIn t st here r ok less)
-  unfolding enteredIn belowIn
-  entered-deep x h g f = (rw (fit t here r ok less v e h, lt-ltb 15 (here .depth) g) f, rw (fit t here r ok less v e h, lt-ltb 15 (here .depth) g))
+    -- by what was found
+    entered : (w : Found) → v ≡ w → Enters (enteredBy t here r less end a w) (belowBy t st here r w)
+    unfolding enteredIn belowIn
+    entered w h = (ap (enteredBy t here r less end a) (sym h ∙ e), ap (belowBy t st here r) (sym h ∙ e))
 
-  pub entered-on : (lv around : Level) (below : List ℕ) → v .code ≡ 0 → here .depth ≤ 15 → lv ≡ freshIn t r less → around ≡ advanceIn t (here .level) r → below ≡ pushed st (here .depth) around
-      → (record { met = Opened; here = record { level = lv; depth = here .depth + 1; at = end; value = a .value; quote = a .quote }; less = less; verdict = nothing } ≡ enteredIn t here r ok less end a) × (below ≡ belowIn t st here r ok less)
-  unfolding enteredIn belowIn
-  entered-on lv around below h g f i j = (
-    rw (fit t here r ok less v e h, le-ltb 15 (here .depth) g) (ap (λ (x : Level). record { met = Opened; here = record { level = x; depth = here .depth + 1; at = end; value = a .value; quote = a .quote }; less = less; verdict = nothing }) f),
-    rw (fit t here r ok less v e h, le-ltb 15 (here .depth) g) (j ∙ ap (pushed st (here .depth)) i),
-  )
+    pub entered-refused : (b : Answer) (x : Turn) → v ≡ Violation b → x ≡ refusedAt here b → Enters x st
+    entered-refused b x h f = let w = entered (Violation b) h in (f ∙ w .0, w .1)
+
+    module _ (h : v ≡ Fine) where
+      pub entered-deep : (x : Turn) → 15 < here .depth → x ≡ lostAt here less → Enters x st
+      entered-deep x g f = let w = rw (lt-ltb 15 (here .depth) g) at (entered Fine h) in (f ∙ w .0, w .1)
+
+      goes-in : here .depth ≤ 15 → Enters (record { met = Opened; here = inner t here r less end a; less = less }) (pushed st (here .depth) (advanceIn t (here .level) r))
+      goes-in g = rw (le-ltb 15 (here .depth) g) at (entered Fine h)
+
+      pub entered-on : (lv around : Level) (below : List ℕ) → here .depth ≤ 15 → lv ≡ freshIn t r less → around ≡ advanceIn t (here .level) r → below ≡ pushed st (here .depth) around
+          → Enters (record { met = Opened; here = record { level = lv; depth = here .depth + 1; at = end; value = a .value; quote = a .quote }; less = less }) below
+      entered-on lv around below g f i j =
+          let w = goes-in g in (
+            ap (λ (x : Level). record { met = Opened; here = record { level = x; depth = here .depth + 1; at = end; value = a .value; quote = a .quote }; less = less }) f ∙ w .0,
+            j ∙ ap (pushed st (here .depth)) i ∙ w .1,
+          )
 
 -- ---- one step
 
 module _ (t pool s st : List ℕ) (here : Here) (k : Token) (i : ℕ) (e : i ≡ inkAhead t pool s st here k) where
-  pub by-ink : (x : Turn) → i < k .less → x ≡ refusedAt here 10 (here .level .row) i → (x ≡ stepBy t pool s st here k) × (st ≡ stackBy t pool s st here k)
+  pub by-ink : (a : Answer) (x : Turn) → i < k .less → a ≡ table.textInGroup (here .level .row) i → x ≡ refusedAt here a → (x ≡ stepBy t pool s st here k) × (st ≡ stackBy t pool s st here k)
   unfolding stepBy stackBy
-  by-ink x h f =
+  by-ink a x h g f =
       let z : ltb (inkAhead t pool s st here k) (k .less) ≡ true = ap (λ n. ltb n (k .less)) (sym e) ∙ lt-ltb i (k .less) h in
-      (rw z (f ∙ ap (refusedAt here 10 (here .level .row)) e), rw z)
+      (rw z (f ∙ ap (refusedAt here) (g ∙ ap (table.textInGroup (here .level .row)) e)), rw z)
 
   pub by-kind : (kind : Kind) → k .less ≤ i → k .kind ≡ kind → (x : Turn) (below : List ℕ) → x ≡ metIn t pool s st here kind k → below ≡ leftIn t pool s st here kind k
       → (x ≡ stepBy t pool s st here k) × (below ≡ stackBy t pool s st here k)
@@ -274,14 +275,14 @@ module _ (t pool s st : List ℕ) (here : Here) (k : Token) (is : k ≡ tokenIn 
   told : (x : Turn) (below : List ℕ) → (x ≡ stepBy t pool s st here k) × (below ≡ stackBy t pool s st here k) → Steps x below
   told x below w = (w .0 ∙ ap (stepBy t pool s st here) is, w .1 ∙ ap (stackBy t pool s st here) is)
 
-  pub step-ink : (x : Turn) → i < k .less → x ≡ refusedAt here 10 (here .level .row) i → Steps x st
-  step-ink x h f = told x st (by-ink t pool s st here k i e x h f)
+  pub step-ink : (a : Answer) (x : Turn) → i < k .less → a ≡ table.textInGroup (here .level .row) i → x ≡ refusedAt here a → Steps x st
+  step-ink a x h g f = told x st (by-ink t pool s st here k i e a x h g f)
 
   module _ (h : k .less ≤ i) where
     pub step-close : (x : Turn) (g : Bool) → k .kind ≡ Close → g ≡ isGroupIn (cell t (here .level .row) 2) → x ≡ closedIn t g st here (k .less) (k .end) → Steps x st
     step-close x g f j c = told x st (by-kind t pool s st here k i e Close h f x st (c ∙ ap (λ (b : Bool). closedIn t b st here (k .less) (k .end)) j) refl)
 
-    pub step-end : (x : Turn) → k .kind ≡ End → x ≡ refusedAt here 3 0 (k .less) → Steps x st
+    pub step-end : (x : Turn) → k .kind ≡ End → x ≡ lostAt here (k .less) → Steps x st
     step-end x f g = told x st (by-kind t pool s st here k i e End h f x st g refl)
 
     module _ (r : ℕ) (ok : Bool) (row : r ≡ rowIn t pool s (here .level) (k .less) (k .stop)) (own : ok ≡ ownIn t s r (k .attributes) (k .first)) where

@@ -11,8 +11,8 @@ use Rattle.xml.specs.Message.{Attrs, Parts, none, char, element}
 use Rattle.xml_tags.specs.declared.token.Kind.{Kind as Mark}
 use Rattle.xml_tags.specs.declared.token.Kind.the-variants.{Open, Empty, Close, End}
 use Rattle.xml_tags.specs.Story.{Event, enter, leave, events, chars, Text, tokenIn, Tagged, Tells, enters, passes, leaves, ends}
+use Rattle.file_walk.specs.declared.found.Found.the-variants.{Fine}
 use Rattle.file_walk.specs.Types.{Types}
-use Rattle.file_walk.specs.First.{fine}
 use Rattle.file_walk.specs.Machine.{before, after, run, emits}
 use Rattle.file_walk.proofs.Turned.{Closing}
 
@@ -57,7 +57,7 @@ closing-events (element o m ats i k) n more h = closing-events i (suc n) (leave 
 
 module _ (T : Types) (l : Listing) where
   -- behind the root nothing is found or handed out
-  pub run-after : (es : List Event) → run T l after es ≡ fine
+  pub run-after : (es : List Event) → run T l after es ≡ Fine
   unfolding run
   run-after [] = refl
   run-after (e ∷ es) = run-after es

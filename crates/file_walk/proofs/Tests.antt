@@ -9,18 +9,21 @@ use native.Mathlib.Decide.{ℕ-discrete, decLt}
 use lib.Dec.{eqb, ltb}
 use lib.ListN.{length}
 use borrow.Author.Tests.{eqb-true, eqb-false, eq-eqb, ne-eqb, ltb-true, ltb-false, lt-ltb, le-ltb, not-false}
+use Rattle.answer.specs.Table as table
 use Rattle.text.specs.Lists.{Each}
 use Rattle.list.specs.Words.{times, has, Ordered}
 use Rattle.list.specs.Listing.{Leaf, Kind, group, choice, leaf, Count, alternative, Rule, both, Listing, rowAt, size, Child, child, isGroup, isChoice, single, required}
 use Rattle.list.specs.WellFormed.{WellFormed}
 use Rattle.list.specs.Content.{Counts, Keeps, Children}
 use Rattle.xml.specs.Message.{Attrs}
+use Rattle.file_walk.specs.declared.found.Found.{Found}
+use Rattle.file_walk.specs.declared.found.Found.the-variants.{Fine}
 use Rattle.file_walk.specs.Types.{Types}
-use Rattle.file_walk.specs.First.{Found, fine, if, firstOf, empty, passed, breaks, attrsOk, over, absent, groupEnd, closing}
+use Rattle.file_walk.specs.First.{refuse, firstOf, empty, passed, breaks, attrsOk, over, absent, groupEnd, closing}
 use Rattle.text.proofs.Classes.{or-not}
 use Rattle.list.proofs.Child.{child-zero}
 use Rattle.list.proofs.Words.{firstFrom-none, firstFrom-zero, times-hit, times-miss}
-use Rattle.file_walk.proofs.Answers.{or-fine, if-no, and-not, imp-and, empty-no, no-empty, empty-yes, passed-no, no-passed}
+use Rattle.file_walk.proofs.Answers.{or-fine, refuse-no, and-not, imp-and, empty-no, no-empty, empty-yes, passed-no, no-passed}
 use Rattle.file_walk.proofs.Steps.{Fits, Steps, ordered, at-most, steps, one-step, step-one, counted, limit, need}
 
 -- ---- the opening tests
@@ -49,22 +52,22 @@ module _ (t : Types) (l : Listing) where
     -- the tests of an opening tag, its parent's kind and its own being kp and kr
     abbrev tests : Found
     tests = firstOf (
-        if (eqb r 0) 5 p o ∷ if (not (isChoice kp) && passed r seen) 6 r o ∷ if (over l kp seen r) 7 r o ∷ if (not (attrsOk t kr ats)) 9 r o ∷ [])
+        refuse (eqb r 0) (table.noChild p o) ∷ refuse (not (isChoice kp) && passed r seen) (table.outOfOrder r o) ∷ refuse (over l kp seen r) (table.tooMany r o) ∷ refuse (not (attrsOk t kr ats)) (table.wrongAttributes r o) ∷ [])
 
-    pub opened : isGroup kp ≡ true → tests ≡ fine → Opened t l kp kr seen r ats
+    pub opened : isGroup kp ≡ true → tests ≡ Fine → Opened t l kp kr seen r ats
     opened g e =
-        let a = or-fine (if (eqb r 0) 5 p o) _ e in
-        let b = or-fine (if (not (isChoice kp) && passed r seen) 6 r o) _ (a .1) in
-        let c = or-fine (if (over l kp seen r) 7 r o) _ (b .1) in
-        let d = or-fine (if (not (attrsOk t kr ats)) 9 r o) _ (c .1) in
-        let z = eqb-false r 0 (if-no (eqb r 0) 5 p o (a .0)) in
+        let a = or-fine (refuse (eqb r 0) (table.noChild p o)) _ e in
+        let b = or-fine (refuse (not (isChoice kp) && passed r seen) (table.outOfOrder r o)) _ (a .1) in
+        let c = or-fine (refuse (over l kp seen r) (table.tooMany r o)) _ (b .1) in
+        let d = or-fine (refuse (not (attrsOk t kr ats)) (table.wrongAttributes r o)) _ (c .1) in
+        let z = eqb-false r 0 (refuse-no (eqb r 0) (table.noChild p o) (a .0)) in
         record {
           row = elim (decLt 0 r) [ yes h ↦ h | no h ↦ absurd (z (omega arith)) ];
-          fits = fits-of kp seen r g (if-no (not (isChoice kp) && passed r seen) 6 r o (b .0)) (if-no (over l kp seen r) 7 r o (c .0));
-          attrs = not-false (attrsOk t kr ats) (if-no (not (attrsOk t kr ats)) 9 r o (d .0));
+          fits = fits-of kp seen r g (refuse-no (not (isChoice kp) && passed r seen) (table.outOfOrder r o) (b .0)) (refuse-no (over l kp seen r) (table.tooMany r o) (c .0));
+          attrs = not-false (attrsOk t kr ats) (refuse-no (not (attrsOk t kr ats)) (table.wrongAttributes r o) (d .0));
         }
 
-    pub opens : Opened t l kp kr seen r ats → tests ≡ fine
+    pub opens : Opened t l kp kr seen r ats → tests ≡ Fine
     opens w =
         let f = of-fits kp seen r (w .fits) in
         let z : r ≢ 0 = omega (arith, w .row) in
@@ -121,15 +124,15 @@ module _ (l : Listing) where
     full : (q : ℕ) → Child l r q → required (rowAt l q .count) ≡ true → 0 < times q rs
     rules : Each (Keeps r rs) (l .rules)
 
-  ended : (t : Types) (r o : ℕ) (rs : List ℕ) → groupEnd t l r o rs ≡ fine → Ended r rs
+  ended : (t : Types) (r o : ℕ) (rs : List ℕ) → groupEnd t l r o rs ≡ Fine → Ended r rs
   ended t r o rs e =
-      let a = or-fine (if (empty rs) 11 r o) _ e in
-      let b = or-fine (if (ltb 0 (absent l r rs)) 8 (absent l r rs) o) _ (a .1) in
-      let c = or-fine (if (breaks r rs (l .rules)) 13 r o) _ (b .1) in
-      let z = ltb-false 0 (absent l r rs) (if-no (ltb 0 (absent l r rs)) 8 (absent l r rs) o (b .0)) in
-      record { some = empty-no rs (if-no (empty rs) 11 r o (a .0)); full = none-absent r rs (omega arith); rules = kept r rs (l .rules) (if-no (breaks r rs (l .rules)) 13 r o (c .0)) }
+      let a = or-fine (refuse (empty rs) (table.empty r o)) _ e in
+      let b = or-fine (refuse (ltb 0 (absent l r rs)) (table.absent (absent l r rs) o)) _ (a .1) in
+      let c = or-fine (refuse (breaks r rs (l .rules)) (table.ruleBroken r o)) _ (b .1) in
+      let z = ltb-false 0 (absent l r rs) (refuse-no (ltb 0 (absent l r rs)) (table.absent (absent l r rs) o) (b .0)) in
+      record { some = empty-no rs (refuse-no (empty rs) (table.empty r o) (a .0)); full = none-absent r rs (omega arith); rules = kept r rs (l .rules) (refuse-no (breaks r rs (l .rules)) (table.ruleBroken r o) (c .0)) }
 
-  ends : (t : Types) (r o : ℕ) (rs : List ℕ) → Ended r rs → groupEnd t l r o rs ≡ fine
+  ends : (t : Types) (r o : ℕ) (rs : List ℕ) → Ended r rs → groupEnd t l r o rs ≡ Fine
   ends t r o rs w =
       let z : ltb 0 (absent l r rs) ≡ false = le-ltb 0 (absent l r rs) (omega (arith, absent-none r rs (w .full))) in
       rw (no-empty rs (w .some), z, keeps r rs (l .rules) (w .rules))
@@ -150,7 +153,7 @@ no-choice k e f = let z : group ≡ choice = sym e ∙ f in let y : _≡_ {A = �
 
 module _ (t : Types) (l : Listing) (w : WellFormed l) where
   pub closed : (k : Kind) (r o : ℕ) (ats : Attrs) (rs cs : List ℕ) → isGroup k ≡ true → rowAt l r .kind ≡ k → Steps l k [] rs → Each (Child l r) rs
-      → closing t l k r o ats rs cs ≡ fine → Children l r rs
+      → closing t l k r o ats rs cs ≡ Fine → Children l r rs
   closed group r o ats rs cs g e s c f =
       let z = ended l t r o rs f in
       record {
@@ -177,7 +180,7 @@ module _ (t : Types) (l : Listing) (w : WellFormed l) where
   not-required : (c : Count) → c ≡ alternative → required c ≡ true → ⊥
   not-required c e h = false≢true (sym (ap required e) ∙ h)
 
-  pub closes : (k : Kind) (r o : ℕ) (ats : Attrs) (rs cs : List ℕ) → isGroup k ≡ true → rowAt l r .kind ≡ k → Children l r rs → (closing t l k r o ats rs cs ≡ fine) × Steps l k [] rs
+  pub closes : (k : Kind) (r o : ℕ) (ats : Attrs) (rs cs : List ℕ) → isGroup k ≡ true → rowAt l r .kind ≡ k → Children l r rs → (closing t l k r o ats rs cs ≡ Fine) × Steps l k [] rs
   closes group r o ats rs cs g e c = (
     ends l t r o rs (record { some = c .nonempty; full = λ q d. need (rowAt l q .count) (times q rs) (c .counts q d); rules = c .rules }),
     steps l r [] rs (c .theirs) (c .order) (λ q z. absurd (omega arith)) (λ q d z. omega (arith, limit (rowAt l q .count) (times q rs) (c .counts q d) z)),

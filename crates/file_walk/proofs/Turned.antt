@@ -6,6 +6,7 @@ use mathlib.Core.Option.{Option}
 use Prim.Native.Nat.{ℕ, zero, suc, _≤_, _<_}
 use lib.ListN.{length}
 use lib.Seq.{slice}
+use Rattle.answer.specs.declared.Answer.{Answer}
 use Rattle.text_characters.specs.Pieces.{Spells}
 use Rattle.list.specs.Listing.{amt, leaf, Listing, Child}
 use Rattle.list.specs.Table.{listOf}
@@ -17,8 +18,10 @@ use Rattle.file_walk.specs.declared.level.Level.{Level}
 use Rattle.file_walk.specs.declared.step.Here.{Here}
 use Rattle.file_walk.specs.declared.step.Turn.{Turn}
 use Rattle.file_walk.specs.declared.step.Met.the-variants.{Opened, Closed, Refused}
+use Rattle.file_walk.specs.declared.found.Found.{Found}
+use Rattle.file_walk.specs.declared.found.Found.the-variants.{Fine, Violation}
 use Rattle.file_walk.specs.Types.{Types}
-use Rattle.file_walk.specs.First.{Found, fine, found, orElse, currency, attrsOk, kindOf}
+use Rattle.file_walk.specs.First.{orElse, currency, attrsOk, kindOf}
 use Rattle.file_walk.specs.Machine.{before, at, advance, run, opens, closes, emits}
 use Rattle.file_walk.specs.Tables.{levels}
 use Rattle.file_walk.specs.Stride.{isCurrency}
@@ -66,9 +69,9 @@ module _ (T : Types) (t pool s : List ℕ) (sd : Sound t pool) where
   module _ (here : Here) (below : List Level) (ats : Attrs) (es : List Event) (st : List ℕ) (turn : Turn) where
     -- a violation, and it is the first from here on
     pub record Refuses : Type 0 where
-      pub met : turn .met ≡ Refused
-      pub code : 3 < turn .verdict .code
-      pub found : finds here below ats es ≡ found (turn .verdict .code) (turn .verdict .row) (turn .verdict .place)
+      pub answer : Answer
+      pub met : turn .met ≡ Refused answer
+      pub found : finds here below ats es ≡ Violation answer
 
     -- an element that goes on
     pub record Enters : Type 0 where
@@ -104,7 +107,7 @@ module _ (T : Types) (t pool s : List ℕ) (sd : Sound t pool) where
     pub record Ends : Type 0 where
       pub met : turn .met ≡ Closed
       pub root : here .depth ≡ 0
-      pub found : finds here below ats es ≡ fine
+      pub found : finds here below ats es ≡ Fine
       pub handed : hands here below ats es ≡ []
 
     -- one step from here did one of these; st is the stack behind it
@@ -118,9 +121,9 @@ module _ (T : Types) (t pool s : List ℕ) (sd : Sound t pool) where
 
   module _ (m : Tree) (turn : Turn) where
     pub record Denied : Type 0 where
-      pub met : turn .met ≡ Refused
-      pub code : 3 < turn .verdict .code
-      pub found : run T list before (events (messageOf m) []) ≡ found (turn .verdict .code) (turn .verdict .row) (turn .verdict .place)
+      pub answer : Answer
+      pub met : turn .met ≡ Refused answer
+      pub found : run T list before (events (messageOf m) []) ≡ Violation answer
 
     pub record Starts : Type 0 where
       pub met : turn .met ≡ Opened

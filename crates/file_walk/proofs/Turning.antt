@@ -10,7 +10,9 @@ use native.Mathlib.Decide.{ℕ-discrete, decLt}
 use lib.Dec.{eqb, ltb}
 use lib.ListN.{length}
 use lib.Seq.{slice}
-use borrow.Author.Tests.{eqb-false, eq-eqb, ne-eqb, lt-ltb, le-ltb}
+use borrow.Author.Tests.{eqb-false, lt-ltb, le-ltb, not-false}
+use Rattle.answer.specs.declared.Answer.{Answer}
+use Rattle.answer.specs.Table as table
 use Rattle.text_characters.specs.Pieces.{Piece, resolvedAll}
 use Rattle.list.specs.Listing.{amt, Kind, group, choice, leaf, Listing, Child, child, isGroup}
 use Rattle.list.specs.Table.{cell, listOf}
@@ -26,28 +28,29 @@ use Rattle.xml_tags.specs.Story.{Event, enter, leave, chars, Text, tokenIn, Tag
 use Rattle.xml_tags.proofs.Tokens.{Ahead, token-within}
 use Rattle.xml_tags.proofs.Texts.{text-spells}
 use Rattle.file_walk.specs.declared.level.Level.{Level}
-use Rattle.file_walk.specs.declared.verdict.Verdict.{Verdict}
+use Rattle.file_walk.specs.declared.found.Found.{Found}
+use Rattle.file_walk.specs.declared.found.Found.the-variants.{Fine, Violation}
 use Rattle.file_walk.specs.declared.step.Here.{Here}
 use Rattle.file_walk.specs.declared.step.Turn.{Turn}
 use Rattle.file_walk.specs.declared.step.Met.the-variants.{Opened, Closed}
 use Rattle.file_walk.specs.Types.{Types}
-use Rattle.file_walk.specs.First.{fine, found, orElse, currency, attrsOk, kindOf}
+use Rattle.file_walk.specs.First.{refuse, orElse, firstOf, currency, attrsOk, kindOf}
 use Rattle.file_walk.specs.Machine.{State, at, pop, fresh, advance, closeTest, run, opens, closes, emits}
-use Rattle.file_walk.specs.Tables.{says, nothing, isGroupIn, freshIn, advanceIn, passedIn, againIn, openingIn, brokenIn, groupEndIn, levelAt, pushed, levels, foundOf}
-use Rattle.file_walk.specs.Stride.{isCurrency, ownIn, inkBefore, endIn, rowIn, refusedAt, refusal, closedIn, enteredIn, belowIn, vacantIn, stepIn, stackIn}
-use Rattle.file_walk.proofs.Answers.{attrs-group}
+use Rattle.file_walk.specs.Tables.{isGroupIn, freshIn, advanceIn, passedIn, againIn, openingIn, levelAt, pushed, levels}
+use Rattle.file_walk.specs.Stride.{isCurrency, ownIn, inkBefore, endIn, rowIn, refusedAt, closedIn, enteredIn, belowIn, vacantIn, stepIn, stackIn}
+use Rattle.file_walk.proofs.Answers.{or-fine, refuse-no, attrs-group}
 use Rattle.file_walk.proofs.Sound.{fresh-in, advance-in}
 use Rattle.file_walk.proofs.Items.{closes-group}
 use Rattle.file_walk.proofs.Runs.{leaf-hands, group-hands, closes-empty}
 use Rattle.file_walk.proofs.Own.{Coins, own-is, coined}
 use Rattle.file_walk.proofs.Stack.{levels-length, pushed-length, levels-push, levels-top}
 use Rattle.file_walk.proofs.Strides.{closed-refused, closed-root, closed-outer, vacant-refused, vacant-on, entered-refused, entered-on, step-ink, step-close, step-open, step-empty}
-use Rattle.file_walk.proofs.Joint.{found-or, judged, kept, text-run, close-run, row-is, open-run}
+use Rattle.file_walk.proofs.Joint.{judged, kept, text-run, close-run, row-is, open-run}
 use Rattle.file_walk.proofs.Telling.{Told, byOpen, byEmpty, byClose, byEnd, told-of, goes-on, closing-text, run-after, emits-after}
 use Rattle.file_walk.proofs.Turned.{Closing, Nested, Stands, finds, hands, Turned, refused, opened, closed, whole}
 
 module _ (T : Types) (l : Listing) where
-  pub judged-group : (k : Kind) (r o : ℕ) (ats : Attrs) (cs : List ℕ) → isGroup k ≡ true → judged T k r o ats cs ≡ fine
+  pub judged-group : (k : Kind) (r o : ℕ) (ats : Attrs) (cs : List ℕ) → isGroup k ≡ true → judged T k r o ats cs ≡ Fine
   judged-group group r o ats cs g = refl
   judged-group choice r o ats cs g = refl
   judged-group (leaf f) r o ats cs g = absurd (false≢true g)
@@ -60,49 +63,18 @@ module _ (T : Types) (l : Listing) where
 pub no-amount : (k : Kind) → isGroup k ≡ true → k ≡ leaf amt → ⊥
 no-amount k g e = true≢false (sym g ∙ ap isGroup e)
 
--- ---- codes
+-- ---- an opening tag in which nothing is found
 
-found-code : (v : Verdict) → v .code ≢ 0 → foundOf v ≡ found (v .code) (v .row) (v .place)
-unfolding foundOf
-found-code v h = rw (ne-eqb (v .code) 0 h)
+open-fits : (a b c d : Bool) (u v w x : Answer) → firstOf (refuse a u ∷ refuse b v ∷ refuse c w ∷ refuse (not d) x ∷ []) ≡ Fine → (a ≡ false) × (d ≡ true)
+open-fits a b c d u v w x e =
+    let p = or-fine (refuse a u) _ e in
+    let q = or-fine (refuse b v) _ (p .1) in
+    let r = or-fine (refuse c w) _ (q .1) in
+    (refuse-no a u (p .0), not-false d (refuse-no (not d) x (or-fine (refuse (not d) x) Fine (r .1) .0)))
 
-open-codes : (a b c d : Bool) (p r o : ℕ) (v : Verdict)
-    → v ≡ cond a (says 5 p o) (cond b (says 6 r o) (cond c (says 7 r o) (cond (not d) (says 9 r o) nothing))) → v .code ≢ 0 → 3 < v .code
-open-codes true b c d p r o v e h = let z : v .code ≡ 5 = ap (λ (x : Verdict). x .code) e in omega arith
-open-codes false true c d p r o v e h = let z : v .code ≡ 6 = ap (λ (x : Verdict). x .code) e in omega arith
-open-codes false false true d p r o v e h = let z : v .code ≡ 7 = ap (λ (x : Verdict). x .code) e in omega arith
-open-codes false false false false p r o v e h = let z : v .code ≡ 9 = ap (λ (x : Verdict). x .code) e in omega arith
-open-codes false false false true p r o v e h = absurd (h (ap (λ (x : Verdict). x .code) e))
-
-open-fits : (a b c d : Bool) (p r o : ℕ)
-    → cond a (says 5 p o) (cond b (says 6 r o) (cond c (says 7 r o) (cond (not d) (says 9 r o) nothing))) .code ≡ 0 → (a ≡ false) × (d ≡ true)
-open-fits true b c d p r o e = absurd (omega arith)
-open-fits false true c d p r o e = absurd (omega arith)
-open-fits false false true d p r o e = absurd (omega arith)
-open-fits false false false false p r o e = absurd (omega arith)
-open-fits false false false true p r o e = (refl, refl)
-
-end-codes : (g x y z e : Bool) (d r o : ℕ) (v : Verdict)
-    → v ≡ cond g (cond x (says 11 r o) (cond y (says 8 d o) (cond z (says 13 r o) nothing))) (cond e (says 11 r o) nothing) → v .code ≢ 0 → 3 < v .code
-end-codes true true y z e d r o v f h = let n : v .code ≡ 11 = ap (λ (w : Verdict). w .code) f in omega arith
-end-codes true false true z e d r o v f h = let n : v .code ≡ 8 = ap (λ (w : Verdict). w .code) f in omega arith
-end-codes true false false true e d r o v f h = let n : v .code ≡ 13 = ap (λ (w : Verdict). w .code) f in omega arith
-end-codes true false false false e d r o v f h = absurd (h (ap (λ (w : Verdict). w .code) f))
-end-codes false x y z true d r o v f h = let n : v .code ≡ 11 = ap (λ (w : Verdict). w .code) f in omega arith
-end-codes false x y z false d r o v f h = absurd (h (ap (λ (w : Verdict). w .code) f))
-
-module _ (t : List ℕ) (lv : Level) where
-  pub opening-code : (r : ℕ) (own : Bool) (o : ℕ) → openingIn t lv r own o .code ≢ 0 → 3 < openingIn t lv r own o .code
-  unfolding openingIn
-  opening-code r own o h = open-codes (eqb r 0) (passedIn t lv r) (againIn t lv r) own (lv .row) r o _ refl h
-
-  pub opening-fits : (r : ℕ) (own : Bool) (o : ℕ) → openingIn t lv r own o .code ≡ 0 → (eqb r 0 ≡ false) × (own ≡ true)
-  unfolding openingIn
-  opening-fits r own o e = open-fits (eqb r 0) (passedIn t lv r) (againIn t lv r) own (lv .row) r o e
-
-  pub end-code : (g : Bool) (a b : ℕ) → endIn t g lv a b .code ≢ 0 → 3 < endIn t g lv a b .code
-  unfolding endIn groupEndIn
-  end-code g a b h = end-codes g (eqb (lv .last) 0) (ltb 0 (lv .due)) (brokenIn t lv) (eqb b a) (lv .due) (lv .row) (lv .place) _ refl h
+opening-fits : (t : List ℕ) (lv : Level) (r : ℕ) (own : Bool) (o : ℕ) → openingIn t lv r own o ≡ Fine → (eqb r 0 ≡ false) × (own ≡ true)
+unfolding openingIn
+opening-fits t lv r own o e = open-fits (eqb r 0) (passedIn t lv r) (againIn t lv r) own _ _ _ _ e
 
 module _ (T : Types) (t pool s : List ℕ) (sd : Sound t pool) (m : Coins T) where
   abbrev l : Listing
@@ -151,9 +123,9 @@ module _ (T : Types) (t pool s : List ℕ) (sd : Sound t pool) (m : Coins T) whe
     to x y e v =
         subst (λ z. Turned T t pool s sd here below ats es z (stepIn t pool s st here)) (e .1) (subst (λ z. Turned T t pool s sd here below ats es y z) (e .0) v)
 
-    -- a verdict that refuses
-    refuses : (v : Verdict) → 3 < v .code → finds T t pool s sd here below ats es ≡ foundOf v → Turned T t pool s sd here below ats es st (refusal here v)
-    refuses v h e = let z : v .code ≢ 0 = λ f. omega arith in refused (record { met = refl; code = h; found = e ∙ found-code v z })
+    -- a violation that is the first
+    refuses : (a : Answer) → finds T t pool s sd here below ats es ≡ Violation a → Turned T t pool s sd here below ats es st (refusedAt here a)
+    refuses a e = refused (record { answer = a; met = refl; found = e })
 
     -- ---- the text
 
@@ -162,7 +134,7 @@ module _ (T : Types) (t pool s : List ℕ) (sd : Sound t pool) (m : Coins T) whe
       abbrev inside : State
       inside = at lv below ats (kept (isGroup (kindOf l (lv .row))) ps)
 
-      found-text : finds T t pool s sd here below ats es ≡ cond (ltb ink (k .less)) (found 10 (lv .row) ink) (run T l inside more)
+      found-text : finds T t pool s sd here below ats es ≡ cond (ltb ink (k .less)) (Violation (table.textInGroup (lv .row) ink)) (run T l inside more)
       found-text = ap (λ z. run T l (at lv below ats []) z) is ∙ text-run T t pool s sd lv (w .placed) below ats (here .at) (k .less) ps low high x more
 
       handed-text : hands T t pool s sd here below ats es ≡ emits T l inside more
@@ -174,8 +146,9 @@ module _ (T : Types) (t pool s : List ℕ) (sd : Sound t pool) (m : Coins T) whe
       closing-behind = closing-text (suc (here .depth)) (here .at) ps more (subst (Closing (suc (here .depth))) is (w .closing))
 
       inked : ink < k .less → Goal
-      inked h = to (refusedAt here 10 (lv .row) ink) st (step-ink t pool s st here k refl ink refl (refusedAt here 10 (lv .row) ink) h refl)
-          (refused (record { met = refl; code = omega arith; found = found-text ∙ rw (lt-ltb ink (k .less) h) }))
+      inked h =
+          let a = table.textInGroup (lv .row) ink in
+          to (refusedAt here a) st (step-ink t pool s st here k refl ink refl a (refusedAt here a) h refl refl) (refuses a (found-text ∙ rw (lt-ltb ink (k .less) h)))
 
       passed-text : k .less ≤ ink → finds T t pool s sd here below ats es ≡ run T l inside more
       passed-text h = found-text ∙ rw (le-ltb ink (k .less) h)
@@ -187,11 +160,11 @@ module _ (T : Types) (t pool s : List ℕ) (sd : Sound t pool) (m : Coins T) whe
       abbrev inGroup : Bool
       inGroup = isGroupIn (cell t (lv .row) 2)
 
-      abbrev v : Verdict
+      abbrev v : Found
       v = endIn t inGroup lv (here .at) (k .less)
 
       found-close : finds T t pool s sd here below ats es
-          ≡ cond (eqb (v .code) 0) (orElse (judged T (kindOf l (lv .row)) (lv .row) (lv .place) ats (resolvedAll ps)) (run T l (pop below) more)) (foundOf v)
+          ≡ orElse v (orElse (judged T (kindOf l (lv .row)) (lv .row) (lv .place) ats (resolvedAll ps)) (run T l (pop below) more))
       found-close = passed-text ps x (leave ∷ more) is h ∙ close-run T t pool s sd lv (w .placed) below ats (here .at) (k .less) ps low high x more
 
       close-to : (y : Turn) → y ≡ closedIn t inGroup st here (k .less) (k .end) → Turned T t pool s sd here below ats es st y → Goal
@@ -201,13 +174,16 @@ module _ (T : Types) (t pool s : List ℕ) (sd : Sound t pool) (m : Coins T) whe
       unfolding emits
       handed-close = handed-text ps x (leave ∷ more) is ∙ ap (λ z. z ++ emits T l (pop below) more) (closes-kept T l (kindOf l (lv .row)) (lv .row) ats ps)
 
-      close-refused : v .code ≢ 0 → Goal
-      close-refused n = close-to (refusal here v) (closed-refused t inGroup st here (k .less) (k .end) v refl (refusal here v) n refl)
-          (refuses v (end-code t lv inGroup (here .at) (k .less) n) (found-close ∙ rw (ne-eqb (v .code) 0 n)))
+      -- by what its tests found
+      found-by : (f : Found) → v ≡ f → finds T t pool s sd here below ats es ≡ orElse f (orElse (judged T (kindOf l (lv .row)) (lv .row) (lv .place) ats (resolvedAll ps)) (run T l (pop below) more))
+      found-by f e = found-close ∙ ap (λ g. orElse g (orElse (judged T (kindOf l (lv .row)) (lv .row) (lv .place) ats (resolvedAll ps)) (run T l (pop below) more))) e
 
-      module _ (z : v .code ≡ 0) where
+      close-refused : (a : Answer) → v ≡ Violation a → Goal
+      close-refused a e = close-to (refusedAt here a) (closed-refused t inGroup st here (k .less) (k .end) v refl a (refusedAt here a) e refl) (refuses a (found-by (Violation a) e))
+
+      module _ (z : v ≡ Fine) where
         found-on : finds T t pool s sd here below ats es ≡ orElse (judged T (kindOf l (lv .row)) (lv .row) (lv .place) ats (resolvedAll ps)) (run T l (pop below) more)
-        found-on = found-close ∙ rw (eq-eqb (v .code) 0 z)
+        found-on = found-by Fine z
 
         -- the root's
         close-root : here .depth ≡ 0 → Goal
@@ -216,7 +192,7 @@ module _ (T : Types) (t pool s : List ℕ) (sd : Sound t pool) (m : Coins T) whe
             let none : below ≡ [] = sym (w .around) ∙ ap (levels st) d in
             let row : lv .row ≡ 1 = subst (Nested T t pool s sd (lv .row)) none (w .nested) in
             let g : isGroup (kindOf l (lv .row)) ≡ true = ap (λ r. isGroup (kindOf l r)) row ∙ ap isGroup (sd .well .root .1) in
-            close-to (record { met = Closed; here = here; less = k .less; verdict = nothing }) (closed-root t inGroup st here (k .less) (k .end) v refl z d)
+            close-to (record { met = Closed; here = here; less = k .less }) (closed-root t inGroup st here (k .less) (k .end) v refl z d)
             (whole (record {
               met = refl;
               root = d;
@@ -260,7 +236,7 @@ module _ (T : Types) (t pool s : List ℕ) (sd : Sound t pool) (m : Coins T) whe
 
           close-on : Goal
           close-on =
-              close-to (record { met = Closed; here = out; less = k .less; verdict = nothing })
+              close-to (record { met = Closed; here = out; less = k .less })
               (closed-outer t inGroup st here (k .less) (k .end) v refl z d out (omega (arith, shallow)) refl)
               (closed (record {
                 met = refl;
@@ -279,10 +255,11 @@ module _ (T : Types) (t pool s : List ℕ) (sd : Sound t pool) (m : Coins T) whe
               }))
 
       close-turned : Goal
-      close-turned = elim (ℕ-discrete (v .code) 0) [
-        | yes z ↦ elim (ℕ-discrete (here .depth) 0) [ yes d ↦ close-root z d | no d ↦ close-on z d ]
-        | no n ↦ close-refused n
-      ]
+      close-turned = go v refl
+        where
+          go : (f : Found) → v ≡ f → Goal
+          go Fine z = elim (ℕ-discrete (here .depth) 0) [ yes d ↦ close-root z d | no d ↦ close-on z d ]
+          go (Violation a) e = close-refused a e
 
     -- ---- an opening tag
 
@@ -294,17 +271,20 @@ module _ (T : Types) (t pool s : List ℕ) (sd : Sound t pool) (m : Coins T) whe
       abbrev ok : Bool
       ok = ownIn t s r (k .attributes) (k .first)
 
-      abbrev u : Verdict
+      abbrev u : Found
       u = openingIn t lv r ok (k .less)
 
       shorter : k .less < length s
       shorter = omega (arith, ahead .on going, ahead .within)
 
-      found-open : finds T t pool s sd here below ats es ≡ cond (eqb (u .code) 0) (run T l (at (fresh l r (k .less)) (advance l lv r ∷ below) new []) more) (foundOf u)
+      found-open : finds T t pool s sd here below ats es ≡ orElse u (run T l (at (fresh l r (k .less)) (advance l lv r ∷ below) new []) more)
       unfolding run
       found-open = passed-text ps x (enter (k .less) n new ∷ more) is h
           ∙ ap (λ z. orElse z (run T l (at (fresh l r (k .less)) (advance l lv r ∷ below) new []) more)) (open-run T t pool s sd lv (w .placed) m (here .at) k refl shorter n new g)
-          ∙ found-or u (run T l (at (fresh l r (k .less)) (advance l lv r ∷ below) new []) more)
+
+      -- by what its tests found
+      found-as : (f : Found) → u ≡ f → finds T t pool s sd here below ats es ≡ orElse f (run T l (at (fresh l r (k .less)) (advance l lv r ∷ below) new []) more)
+      found-as f e = found-open ∙ ap (λ g. orElse g (run T l (at (fresh l r (k .less)) (advance l lv r ∷ below) new []) more)) e
 
       handed-open : hands T t pool s sd here below ats es ≡ opens T l (kindOf l r) r ++ emits T l (at (fresh l r (k .less)) (advance l lv r ∷ below) new []) more
       unfolding emits
@@ -313,7 +293,7 @@ module _ (T : Types) (t pool s : List ℕ) (sd : Sound t pool) (m : Coins T) whe
       row : r ≡ rowIn t pool s lv (k .less) (k .stop)
       row = sym (row-is T t pool s sd lv (w .placed) m (here .at) k refl shorter n new g)
 
-      module _ (z : u .code ≡ 0) where
+      module _ (z : u ≡ Fine) where
         its : Child l (lv .row) r
         its = child-found l (lv .row) n r refl (some (opening-fits t lv r ok (k .less) z .0)) .its
           where
@@ -327,7 +307,7 @@ module _ (T : Types) (t pool s : List ℕ) (sd : Sound t pool) (m : Coins T) whe
         fresh-is = fresh-in t pool sd r (k .less) (its .last)
 
         found-in : finds T t pool s sd here below ats es ≡ run T l (at (freshIn t r (k .less)) (advance l lv r ∷ below) new []) more
-        found-in = found-open ∙ ap (λ b. cond b (run T l (at (fresh l r (k .less)) (advance l lv r ∷ below) new []) more) (foundOf u)) (eq-eqb (u .code) 0 z) ∙ ap (λ y. run T l (at y (advance l lv r ∷ below) new []) more) (sym fresh-is)
+        found-in = found-as Fine z ∙ ap (λ y. run T l (at y (advance l lv r ∷ below) new []) more) (sym fresh-is)
 
         handed-in : hands T t pool s sd here below ats es ≡ opens T l (kindOf l r) r ++ emits T l (at (freshIn t r (k .less)) (advance l lv r ∷ below) new []) more
         handed-in = handed-open ∙ ap (λ y. opens T l (kindOf l r) r ++ emits T l (at y (advance l lv r ∷ below) new []) more) (sym fresh-is)
@@ -366,21 +346,21 @@ module _ (T : Types) (t pool s : List ℕ) (sd : Sound t pool) (m : Coins T) whe
         open-to y b e = to y b (step-open t pool s st here k refl ink refl h r ok row refl y b kind (e .0) (e .1))
 
         open-turned : Goal
-        open-turned = elim (ℕ-discrete (u .code) 0) [
-          | yes z ↦ open-to (record { met = Opened; here = in′ z; less = k .less; verdict = nothing }) (st′ z)
-              (entered-on t st here r ok (k .less) (k .end) (k .first) u refl (freshIn t r (k .less)) (advanceIn t lv r) (st′ z) z shallow refl refl refl)
-              (opened (record {
-                met = refl;
-                attrs = new;
-                rest = more;
-                stands = stands-in z tells;
-                found = found-in z;
-                handed = handed-in z;
-                on = omega (arith, low, ahead .on going);
-              }))
-          | no e ↦ open-to (refusal here u) st (entered-refused t st here r ok (k .less) (k .end) (k .first) u refl (refusal here u) e refl)
-              (refuses u (opening-code t lv r ok (k .less) e) (found-open ∙ rw (ne-eqb (u .code) 0 e)))
-        ]
+        open-turned = go u refl
+          where
+            go : (f : Found) → u ≡ f → Goal
+            go Fine z = open-to (record { met = Opened; here = in′ z; less = k .less }) (st′ z)
+                (entered-on t here r ok (k .less) u refl st (k .end) (k .first) z (freshIn t r (k .less)) (advanceIn t lv r) (st′ z) shallow refl refl refl)
+                (opened (record {
+                  met = refl;
+                  attrs = new;
+                  rest = more;
+                  stands = stands-in z tells;
+                  found = found-in z;
+                  handed = handed-in z;
+                  on = omega (arith, low, ahead .on going);
+                }))
+            go (Violation a) e = open-to (refusedAt here a) st (entered-refused t here r ok (k .less) u refl st (k .end) (k .first) a (refusedAt here a) e refl) (refuses a (found-as (Violation a) e))
 
     -- of an element without content
     module _ (ps : List Piece) (x : Text s (here .at) (k .less) ps) (n : List ℕ) (new : Attrs) (more : List Event) (is : es ≡ chars (here .at) ps (enter (k .less) n new ∷ leave ∷ more))
@@ -394,28 +374,29 @@ module _ (T : Types) (t pool s : List ℕ) (sd : Sound t pool) (m : Coins T) whe
       abbrev own : Bool
       own = ownIn t s q (k .attributes) (k .first)
 
-      abbrev y : Verdict
+      abbrev y : Found
       y = openingIn t lv q own (k .less)
 
       empty-to : (x : Turn) → x ≡ vacantIn t here q own (k .less) → Turned T t pool s sd here below ats es st x → Goal
       empty-to z e = to z st (step-empty t pool s st here k refl ink refl h q own (row ps x n new (leave ∷ more) is going g h) refl z kind e)
 
-      empty-found : y .code ≡ 0 → finds T t pool s sd here below ats es ≡ found 11 q (k .less)
+      empty-found : y ≡ Fine → finds T t pool s sd here below ats es ≡ Violation (table.empty q (k .less))
       unfolding run
-      empty-found z = found-open ps x n new (leave ∷ more) is going g h
-          ∙ ap (λ b. cond b (run T l (at (fresh l q (k .less)) (advance l lv q ∷ below) new []) (leave ∷ more)) (foundOf y)) (eq-eqb (y .code) 0 z)
+      empty-found z = found-as ps x n new (leave ∷ more) is going g h Fine z
           ∙ ap (λ f. orElse f (run T l (at (advance l lv q) below [] []) more)) (closes-now q)
         where
-          closes-now : (q : ℕ) → closeTest T l (kindOf l (fresh l q (k .less) .row)) (fresh l q (k .less)) new [] ≡ found 11 q (k .less)
+          closes-now : (q : ℕ) → closeTest T l (kindOf l (fresh l q (k .less) .row)) (fresh l q (k .less)) new [] ≡ Violation (table.empty q (k .less))
           closes-now q = closes-empty T l (kindOf l (fresh l q (k .less) .row)) q (k .less) new
 
       empty-turned : Goal
-      empty-turned = elim (ℕ-discrete (y .code) 0) [
-        | yes z ↦ empty-to (refusedAt here 11 q (k .less)) (vacant-on t here q own (k .less) y refl (refusedAt here 11 q (k .less)) z refl)
-            (refused (record { met = refl; code = omega arith; found = empty-found z }))
-        | no e ↦ empty-to (refusal here y) (vacant-refused t here q own (k .less) y refl (refusal here y) e refl)
-            (refuses y (opening-code t lv q own (k .less) e) (found-open ps x n new (leave ∷ more) is going g h ∙ rw (ne-eqb (y .code) 0 e)))
-      ]
+      empty-turned = go y refl
+        where
+          go : (f : Found) → y ≡ f → Goal
+          go Fine z =
+              let a = table.empty q (k .less) in
+              empty-to (refusedAt here a) (vacant-on t here q own (k .less) y refl a (refusedAt here a) z refl refl) (refuses a (empty-found z))
+          go (Violation a) e =
+              empty-to (refusedAt here a) (vacant-refused t here q own (k .less) y refl a (refusedAt here a) e refl) (refuses a (found-as ps x n new (leave ∷ more) is going g h (Violation a) e))
 
     -- ---- by what is told
 

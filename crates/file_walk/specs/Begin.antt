@@ -5,6 +5,7 @@ use Prim.Native.Nat.{ℕ, _+_}
 use lib.Dec.{ltb}
 use lib.ListN.{length, drop}
 use lib.Seq.{slice}
+use Rattle.answer.specs.Table as table
 use Rattle.text.specs.Lists.{same}
 use Rattle.list.specs.Table.{nameIn}
 use Rattle.xml_tags.specs.declared.attribute.Attribute.{Attribute}
@@ -15,8 +16,8 @@ use Rattle.xml_tags.specs.Tokens.{openAt, startOf}
 use Rattle.file_walk.specs.declared.step.Here.{Here}
 use Rattle.file_walk.specs.declared.step.Turn.{Turn}
 use Rattle.file_walk.specs.declared.step.Met.the-variants.{Opened}
-use Rattle.file_walk.specs.Tables.{nothing, freshIn}
-use Rattle.file_walk.specs.Stride.{spaceIn, refusedAt}
+use Rattle.file_walk.specs.Tables.{freshIn}
+use Rattle.file_walk.specs.Stride.{spaceIn, refusedAt, lostAt}
 
 -- s from a to b is row 1's name
 unfoldable pub isFirstIn : List ℕ → List ℕ → List ℕ → ℕ → ℕ → Bool
@@ -32,18 +33,18 @@ rootAt t less end = record { level = freshIn t 1 less; depth = 0; at = end; valu
 
 -- by whether it is the root: an element that goes on, an element without content
 unfoldable pub rootedIn : Bool → Here → ℕ → Turn
-rootedIn b here less = cond b (record { met = Opened; here = here; less = less; verdict = nothing }) (refusedAt here 4 1 less)
+rootedIn b here less = cond b (record { met = Opened; here = here; less = less }) (refusedAt here (table.wrongRoot less))
 
 unfoldable pub hollowIn : Bool → Here → ℕ → Turn
-hollowIn b here less = cond b (refusedAt here 11 1 less) (refusedAt here 4 1 less)
+hollowIn b here less = refusedAt here (cond b (table.empty 1 less) (table.wrongRoot less))
 
 module _ (t pool s : List ℕ) where
   -- by what stands where the root begins
   abbrev pub foundIn : Kind → Token → Turn
   foundIn Open k = rootedIn (isRootIn t pool s (k .less) (k .stop) (k .attributes) (k .first)) (rootAt t (k .less) (k .end)) (k .less)
   foundIn Empty k = hollowIn (isRootIn t pool s (k .less) (k .stop) (k .attributes) (k .first)) (rootAt t (k .less) (k .end)) (k .less)
-  foundIn Close k = refusedAt (rootAt t (k .less) (k .end)) 3 0 (k .less)
-  foundIn End k = refusedAt (rootAt t (k .less) (k .end)) 3 0 (k .less)
+  foundIn Close k = lostAt (rootAt t (k .less) (k .end)) (k .less)
+  foundIn End k = lostAt (rootAt t (k .less) (k .end)) (k .less)
 
   -- by the tag there
   unfoldable pub beginBy : Token → Turn

@@ -4,11 +4,13 @@ use mathlib.Core.List.{List, [], _∷_}
 use mathlib.Core.Option.{Option}
 use Prim.Native.Nat.{ℕ, suc}
 use Prim.Native.String.{String}
+use Rattle.answer.specs.Table.{wrongRoot, noChild, outOfOrder, tooMany, absent, wrongAttributes, textInGroup, empty, badValue, ruleBroken}
 use Rattle.text.specs.Bytes.{ascii}
 use Rattle.list.specs.Listing.{Leaf, ref, iban, ccy, bool, num, amt, date, dtm, txt, enum}
 use Rattle.xml.specs.Message.{Attrs, Parts, none, char, element}
 use Rattle.file_walk.specs.Types.{Types}
-use Rattle.file_walk.specs.First.{Found, fine, found}
+use Rattle.file_walk.specs.declared.found.Found.{Found}
+use Rattle.file_walk.specs.declared.found.Found.the-variants.{Fine, Violation}
 
 -- a stand-in: every text but the empty one is a value of every type but NUM, which has none
 abbrev pub someText : List ℕ → Option (List ℕ)
@@ -83,39 +85,39 @@ entry i =
 
 unfoldable pub examples : List (Parts × Found)
 examples =
-    (statement none, fine) ∷
-    (statement (balance 290 euro (entry (amount 400 euro "1" (lf 410 "CdtDbtInd" "DBIT" none)))), fine) ∷
+    (statement none, Fine) ∷
+    (statement (balance 290 euro (entry (amount 400 euro "1" (lf 410 "CdtDbtInd" "DBIT" none)))), Fine) ∷
     -- 4: no attribute; another name; a second attribute
-    (document [] none, found 4 1 0) ∷
-    (element 7 (ascii "document") space none none, found 4 1 7) ∷
-    (document ((ascii "a", []) ∷ space) none, found 4 1 0) ∷
+    (document [] none, Violation (wrongRoot 0)) ∷
+    (element 7 (ascii "document") space none none, Violation (wrongRoot 7)) ∷
+    (document ((ascii "a", []) ∷ space) none, Violation (wrongRoot 0)) ∷
     -- 5: no child of its parent; an element in a leaf
-    (statement (lf 290 "Oops" "" none), found 5 6 290) ∷
-    (message (el 110 "Id" (lf 112 "Id" "1" none) none), found 5 7 112) ∷
+    (statement (lf 290 "Oops" "" none), Violation (noChild 6 290)) ∷
+    (message (el 110 "Id" (lf 112 "Id" "1" none) none), Violation (noChild 7 112)) ∷
     -- 6: also a row that comes again behind a later sibling
-    (statement (lf 290 "Id" "S2" none), found 6 7 290) ∷
+    (statement (lf 290 "Id" "S2" none), Violation (outOfOrder 7 290)) ∷
     -- 7: over its count; second child in a choice, whichever it is
-    (message (lf 110 "Id" "S1" (lf 115 "Id" "S2" none)), found 7 7 115) ∷
-    (message (lf 110 "Id" "S1" (el 120 "Acct" (el 130 "Id" (lf 140 "IBAN" "A" (el 150 "Othr" none none)) none) none)), found 7 12 150) ∷
-    (message (lf 110 "Id" "S1" (el 120 "Acct" (el 130 "Id" (el 140 "Othr" (lf 150 "Id" "9" none) (lf 160 "IBAN" "A" none)) none) none)), found 7 11 160) ∷
+    (message (lf 110 "Id" "S1" (lf 115 "Id" "S2" none)), Violation (tooMany 7 115)) ∷
+    (message (lf 110 "Id" "S1" (el 120 "Acct" (el 130 "Id" (lf 140 "IBAN" "A" (el 150 "Othr" none none)) none) none)), Violation (tooMany 12 150)) ∷
+    (message (lf 110 "Id" "S1" (el 120 "Acct" (el 130 "Id" (el 140 "Othr" (lf 150 "Id" "9" none) (lf 160 "IBAN" "A" none)) none) none)), Violation (tooMany 11 160)) ∷
     -- 9: an attribute too many; none on an amount; another name; a currency that is none
-    (message (element 110 (ascii "Id") space none none), found 9 7 110) ∷
-    (message (lf 110 "Id" "S1" (account (balance 200 [] none))), found 9 19 240) ∷
-    (message (lf 110 "Id" "S1" (account (balance 200 space none))), found 9 19 240) ∷
-    (message (lf 110 "Id" "S1" (account (balance 200 ((ascii "Ccy", []) ∷ []) none))), found 9 19 240) ∷
+    (message (element 110 (ascii "Id") space none none), Violation (wrongAttributes 7 110)) ∷
+    (message (lf 110 "Id" "S1" (account (balance 200 [] none))), Violation (wrongAttributes 19 240)) ∷
+    (message (lf 110 "Id" "S1" (account (balance 200 space none))), Violation (wrongAttributes 19 240)) ∷
+    (message (lf 110 "Id" "S1" (account (balance 200 ((ascii "Ccy", []) ∷ []) none))), Violation (wrongAttributes 19 240)) ∷
     -- 10: the first character that is no blank
-    (message (chars 101 (ascii " xy") none), found 10 6 102) ∷
+    (message (chars 101 (ascii " xy") none), Violation (textInGroup 6 102)) ∷
     -- 11: no character in a leaf; no child in a group, blanks or not
-    (message (lf 110 "Id" "" none), found 11 7 110) ∷
-    (message none, found 11 6 100) ∷
-    (message (chars 101 (ascii " ") none), found 11 6 100) ∷
+    (message (lf 110 "Id" "" none), Violation (empty 7 110)) ∷
+    (message none, Violation (empty 6 100)) ∷
+    (message (chars 101 (ascii " ") none), Violation (empty 6 100)) ∷
     -- 8: the lowest that is absent, at the parent's `<`, and behind what stands in a later sibling
-    (message (lf 110 "Id" "S1" (account none)), found 8 15 100) ∷
-    (message (balance 200 euro none), found 8 7 100) ∷
-    (message (balance 200 [] none), found 9 19 240) ∷
+    (message (lf 110 "Id" "S1" (account none)), Violation (absent 15 100)) ∷
+    (message (balance 200 euro none), Violation (absent 7 100)) ∷
+    (message (balance 200 [] none), Violation (wrongAttributes 19 240)) ∷
     -- 12: also of blanks only
-    (message (lf 110 "Id" "S1" (lf 115 "ElctrncSeqNb" " " none)), found 12 8 115) ∷
+    (message (lf 110 "Id" "S1" (lf 115 "ElctrncSeqNb" " " none)), Violation (badValue 8 115)) ∷
     -- 13: one of the two rows, whichever it is
-    (statement (entry (amount 400 euro "1" none)), found 13 43 390) ∷
-    (statement (entry (amount 400 euro "1" (el 420 "RmtInf" (lf 430 "Ustrd" "U" none) none))), found 13 43 390) ∷
-    (statement (entry (lf 410 "CdtDbtInd" "DBIT" none)), found 13 43 390) ∷ []
+    (statement (entry (amount 400 euro "1" none)), Violation (ruleBroken 43 390)) ∷
+    (statement (entry (amount 400 euro "1" (el 420 "RmtInf" (lf 430 "Ustrd" "U" none) none))), Violation (ruleBroken 43 390)) ∷
+    (statement (entry (lf 410 "CdtDbtInd" "DBIT" none)), Violation (ruleBroken 43 390)) ∷ []

@@ -11,29 +11,22 @@ use Rattle.text.specs.Lists.{same}
 use Rattle.list.specs.Words.{has, firstFrom}
 use Rattle.list.specs.Listing.{Leaf, ref, iban, ccy, bool, num, amt, date, dtm, txt, enum, Kind, group, choice, leaf, Rule, both, Listing, rowAt, size, child, isGroup, isChoice, single, required}
 use Rattle.xml.specs.Message.{Attrs, Parts, none, char, element}
+use Rattle.file_walk.specs.declared.found.Found.{Found}
+use Rattle.file_walk.specs.declared.found.Found.the-variants.{Fine, Violation}
 use Rattle.file_walk.specs.Types.{Types}
-
--- no violation; or its code, row and place
-pub data Found : Type 0 where
-  fine : Found
-  found : (code row place : ℕ) → Found
-
--- found where the test says so
-abbrev pub if : Bool → ℕ → ℕ → ℕ → Found
-if true c r o = found c r o
-if false c r o = fine
 
 -- a line of document 01's table, where the test says so
 abbrev pub refuse : Bool → Answer → Found
-refuse b a = if b (a .code) (a .row) (a .place)
+refuse true a = Violation a
+refuse false a = Fine
 
 -- "the first violation is the answer"
 abbrev pub orElse : Found → Found → Found
-orElse fine g = g
-orElse (found c r o) g = found c r o
+orElse Fine g = g
+orElse (Violation a) g = Violation a
 
 abbrev pub firstOf : List Found → Found
-firstOf [] = fine
+firstOf [] = Fine
 firstOf (f ∷ fs) = orElse f (firstOf fs)
 
 abbrev pub isNone : {A : Type 0} → Option A → Bool
@@ -153,7 +146,7 @@ module _ (t : Types) (l : Listing) where
 
   -- "the message is walked in document order": what stands in an element of row p, one part after the other; 10 is "non-blank text in a group"
   unfoldable pub inside : ℕ → List ℕ → Parts → Found
-  inside p seen none = fine
+  inside p seen none = Fine
   inside p seen (char o x k) = firstOf (refuse (isGroup (kindOf l p) && not (isBlank x)) (table.textInGroup p o) ∷ inside p seen k ∷ [])
   inside p seen (element o n ats i k) =
       let r = child l p n in firstOf (
@@ -164,8 +157,8 @@ module _ (t : Types) (l : Listing) where
 
   -- of a message, which is one element
   unfoldable pub firstViolation : Parts → Found
-  firstViolation none = fine
-  firstViolation (char o x k) = fine
+  firstViolation none = Fine
+  firstViolation (char o x k) = Fine
   firstViolation (element o n ats i k) = firstOf (
       refuse (not (isRoot l n ats)) (table.wrongRoot o) ∷
       inside 1 [] i ∷

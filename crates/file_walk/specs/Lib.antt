@@ -1,4 +1,4 @@
--- The definitions of `walk`.
+-- The definitions of `file_walk`.
 -- what the walk asks of the types of leaves
 pub mod Types
 -- the first violation of a message

@@ -4,14 +4,17 @@ use mathlib.Core.List.{List, [], _∷_, _++_}
 use mathlib.Core.Option.{Option}
 use Prim.Native.Nat.{ℕ}
 use lib.Dec.{eqb, ltb}
+use Rattle.answer.specs.Table as table
 use Rattle.text.specs.Bytes.{isBlank}
 use Rattle.list.specs.Listing.{Kind, group, choice, leaf, Listing, rowAt, child, isGroup, isChoice, single, nextDue}
 use Rattle.list.specs.Sound.{firstOf as mate, secondOf as pair}
 use Rattle.xml.specs.Message.{Attrs, Parts}
 use Rattle.xml_tags.specs.Story.{Event, char as text, enter, leave, events}
 use Rattle.file_walk.specs.declared.level.Level.{Level}
+use Rattle.file_walk.specs.declared.found.Found.{Found}
+use Rattle.file_walk.specs.declared.found.Found.the-variants.{Fine}
 use Rattle.file_walk.specs.Types.{Types}
-use Rattle.file_walk.specs.First.{Found, fine, if, orElse, firstOf, currency, attrsOk, kindOf, isRoot, leafEnd}
+use Rattle.file_walk.specs.First.{refuse, orElse, firstOf, currency, attrsOk, kindOf, isRoot, leafEnd}
 
 -- the root is to come; the innermost open element, those around it, and of a leaf its attributes and the characters so far; the root is closed
 pub data State : Type 0 where
@@ -50,16 +53,16 @@ module _ (l : Listing) where
 module _ (t : Types) (l : Listing) where
   unfoldable pub openTest : Level → ℕ → Attrs → ℕ → Found
   openTest lv r ats o = firstOf (
-      if (eqb r 0) 5 (lv .row) o ∷
-      if (not (isChoice (kindOf l (lv .row))) && ltb r (lv .last)) 6 r o ∷
-      if (again l (kindOf l (lv .row)) (lv .last) r) 7 r o ∷
-      if (not (attrsOk t (kindOf l r) ats)) 9 r o ∷ [])
+      refuse (eqb r 0) (table.noChild (lv .row) o) ∷
+      refuse (not (isChoice (kindOf l (lv .row))) && ltb r (lv .last)) (table.outOfOrder r o) ∷
+      refuse (again l (kindOf l (lv .row)) (lv .last) r) (table.tooMany r o) ∷
+      refuse (not (attrsOk t (kindOf l r) ats)) (table.wrongAttributes r o) ∷ [])
 
   abbrev pub groupTest : Level → Found
   groupTest lv = firstOf (
-      if (eqb (lv .last) 0) 11 (lv .row) (lv .place) ∷
-      if (ltb 0 (lv .due)) 8 (lv .due) (lv .place) ∷
-      if (lv .odd || not (eqb (pair (l .rules) (lv .last)) 0)) 13 (lv .row) (lv .place) ∷ [])
+      refuse (eqb (lv .last) 0) (table.empty (lv .row) (lv .place)) ∷
+      refuse (ltb 0 (lv .due)) (table.absent (lv .due) (lv .place)) ∷
+      refuse (lv .odd || not (eqb (pair (l .rules) (lv .last)) 0)) (table.ruleBroken (lv .row) (lv .place)) ∷ [])
 
   abbrev pub closeTest : Kind → Level → Attrs → List ℕ → Found
   closeTest group lv ats cs = groupTest lv
@@ -68,13 +71,13 @@ module _ (t : Types) (l : Listing) where
 
   -- what an event finds, and what it leads to
   abbrev pub test : State → Event → Found
-  test before (enter o n ats) = if (not (isRoot l n ats)) 4 1 o
-  test before (text o x) = fine
-  test before leave = fine
+  test before (enter o n ats) = refuse (not (isRoot l n ats)) (table.wrongRoot o)
+  test before (text o x) = Fine
+  test before leave = Fine
   test (at lv below ats cs) (enter o n new) = openTest lv (child l (lv .row) n) new o
-  test (at lv below ats cs) (text o x) = if (isGroup (kindOf l (lv .row)) && not (isBlank x)) 10 (lv .row) o
+  test (at lv below ats cs) (text o x) = refuse (isGroup (kindOf l (lv .row)) && not (isBlank x)) (table.textInGroup (lv .row) o)
   test (at lv below ats cs) leave = closeTest (kindOf l (lv .row)) lv ats cs
-  test after e = fine
+  test after e = Fine
 
   abbrev pub next : State → Event → State
   next before (enter o n ats) = at (fresh l 1 o) [] [] []
@@ -86,7 +89,7 @@ module _ (t : Types) (l : Listing) where
   next after e = after
 
   unfoldable pub run : State → List Event → Found
-  run s [] = fine
+  run s [] = Fine
   run s (e ∷ es) = orElse (test s e) (run (next s e) es)
 
   unfoldable pub walk : Parts → Found

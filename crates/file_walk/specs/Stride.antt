@@ -5,6 +5,8 @@ use Prim.Native.Nat.{ℕ, _+_, _-_}
 use lib.Dec.{eqb, ltb}
 use lib.ListN.{length, getD, drop}
 use lib.Seq.{slice}
+use Rattle.answer.specs.declared.Answer.{Answer}
+use Rattle.answer.specs.Table as table
 use Rattle.text.specs.Bytes.{ascii, isBlank, isCapital}
 use Rattle.text.specs.Lists.{same, span}
 use Rattle.list.specs.Table.{cell, listOf}
@@ -16,11 +18,13 @@ use Rattle.xml_tags.specs.declared.token.Token.{Token}
 use Rattle.xml_tags.specs.Story.{tokenIn}
 use Rattle.xml_tags.specs.Tokens.{inkIn}
 use Rattle.file_walk.specs.declared.level.Level.{Level}
-use Rattle.file_walk.specs.declared.verdict.Verdict.{Verdict}
+use Rattle.file_walk.specs.declared.found.Found.{Found}
+use Rattle.file_walk.specs.declared.found.Found.the-variants.{Fine, Violation}
 use Rattle.file_walk.specs.declared.step.Here.{Here}
 use Rattle.file_walk.specs.declared.step.Turn.{Turn}
-use Rattle.file_walk.specs.declared.step.Met.the-variants.{Opened, Closed, Refused}
-use Rattle.file_walk.specs.Tables.{says, nothing, isGroupIn, freshIn, advanceIn, openingIn, groupEndIn, levelAt, pushed}
+use Rattle.file_walk.specs.declared.step.Met.the-variants.{Opened, Closed, Refused, Lost}
+use Rattle.file_walk.specs.First.{refuse}
+use Rattle.file_walk.specs.Tables.{isGroupIn, freshIn, advanceIn, openingIn, groupEndIn, levelAt, pushed}
 
 -- ---- attributes
 
@@ -57,27 +61,31 @@ inkFrom g o less = cond g o less
 
 -- ---- a closing tag
 
-unfoldable pub endIn : List ℕ → Bool → Level → ℕ → ℕ → Verdict
-endIn t g lv at less = cond g (groupEndIn t lv) (cond (eqb less at) (says 11 (lv .row) (lv .place)) nothing)
+unfoldable pub endIn : List ℕ → Bool → Level → ℕ → ℕ → Found
+endIn t g lv at less = cond g (groupEndIn t lv) (refuse (eqb less at) (table.empty (lv .row) (lv .place)))
 
-abbrev pub refusedAt : Here → ℕ → ℕ → ℕ → Turn
-refusedAt here code row place = record { met = Refused; here = here; less = place; verdict = says code row place }
+abbrev pub refusedAt : Here → Answer → Turn
+refusedAt here a = record { met = Refused a; here = here; less = a .place }
 
-abbrev pub refusal : Here → Verdict → Turn
-refusal here v = refusedAt here (v .code) (v .row) (v .place)
+-- no house XML
+abbrev pub lostAt : Here → ℕ → Turn
+lostAt here less = record { met = Lost; here = here; less = less }
 
 abbrev pub outer : List ℕ → ℕ → ℕ → Here
 outer a n end = record { level = levelAt a n; depth = n; at = end; value = 0; quote = 0 }
 
-unfoldable pub closedIn : List ℕ → Bool → List ℕ → Here → ℕ → ℕ → Turn
-closedIn t g a here less end =
-    cond (eqb (endIn t g (here .level) (here .at) less .code) 0)
-    (cond (eqb (here .depth) 0)
-    (record { met = Closed; here = here; less = less; verdict = nothing })
+-- by what its tests found
+abbrev pub closedBy : List ℕ → Here → ℕ → ℕ → Found → Turn
+closedBy a here less end (Violation v) = refusedAt here v
+closedBy a here less end Fine =
+    cond (eqb (here .depth) 0)
+    (record { met = Closed; here = here; less = less })
     (cond (ltb 16 (here .depth))
-    (refusedAt here 3 0 less)
-    (record { met = Closed; here = outer a (here .depth - 1) end; less = less; verdict = nothing })))
-    (refusal here (endIn t g (here .level) (here .at) less))
+    (lostAt here less)
+    (record { met = Closed; here = outer a (here .depth - 1) end; less = less }))
+
+unfoldable pub closedIn : List ℕ → Bool → List ℕ → Here → ℕ → ℕ → Turn
+closedIn t g a here less end = closedBy a here less end (endIn t g (here .level) (here .at) less)
 
 -- ---- an opening tag
 
@@ -87,24 +95,28 @@ rowIn t pool s lv less stop = cond (ltb less (length s)) (childAlong t pool (lv 
 abbrev pub inner : List ℕ → Here → ℕ → ℕ → ℕ → Attribute → Here
 inner t here r less end a = record { level = freshIn t r less; depth = here .depth + 1; at = end; value = a .value; quote = a .quote }
 
--- what an element that goes on leads to, and the stack behind it
+-- by what the tests of an opening tag found: what an element that goes on leads to, and the stack behind it; an element without content
+abbrev pub enteredBy : List ℕ → Here → ℕ → ℕ → ℕ → Attribute → Found → Turn
+enteredBy t here r less end a (Violation v) = refusedAt here v
+enteredBy t here r less end a Fine =
+    cond (ltb 15 (here .depth)) (lostAt here less) (record { met = Opened; here = inner t here r less end a; less = less })
+
+abbrev pub belowBy : List ℕ → List ℕ → Here → ℕ → Found → List ℕ
+belowBy t st here r (Violation v) = st
+belowBy t st here r Fine = cond (ltb 15 (here .depth)) st (pushed st (here .depth) (advanceIn t (here .level) r))
+
+abbrev pub vacantBy : Here → ℕ → ℕ → Found → Turn
+vacantBy here r less (Violation v) = refusedAt here v
+vacantBy here r less Fine = refusedAt here (table.empty r less)
+
 unfoldable pub enteredIn : List ℕ → Here → ℕ → Bool → ℕ → ℕ → Attribute → Turn
-enteredIn t here r ok less end a =
-    cond (eqb (openingIn t (here .level) r ok less .code) 0)
-    (cond (ltb 15 (here .depth))
-    (refusedAt here 3 0 less)
-    (record { met = Opened; here = inner t here r less end a; less = less; verdict = nothing }))
-    (refusal here (openingIn t (here .level) r ok less))
+enteredIn t here r ok less end a = enteredBy t here r less end a (openingIn t (here .level) r ok less)
 
 unfoldable pub belowIn : List ℕ → List ℕ → Here → ℕ → Bool → ℕ → List ℕ
-belowIn t st here r ok less =
-    cond (eqb (openingIn t (here .level) r ok less .code) 0)
-    (cond (ltb 15 (here .depth)) st (pushed st (here .depth) (advanceIn t (here .level) r)))
-    st
+belowIn t st here r ok less = belowBy t st here r (openingIn t (here .level) r ok less)
 
 unfoldable pub vacantIn : List ℕ → Here → ℕ → Bool → ℕ → Turn
-vacantIn t here r ok less =
-    cond (eqb (openingIn t (here .level) r ok less .code) 0) (refusedAt here 11 r less) (refusal here (openingIn t (here .level) r ok less))
+vacantIn t here r ok less = vacantBy here r less (openingIn t (here .level) r ok less)
 
 -- ---- one step
 
@@ -119,7 +131,7 @@ module _ (t pool s st : List ℕ) (here : Here) where
   -- by what stands behind the text
   abbrev pub metIn : Kind → Token → Turn
   metIn Close k = closedIn t (isGroupIn (cell t (here .level .row) 2)) st here (k .less) (k .end)
-  metIn End k = refusedAt here 3 0 (k .less)
+  metIn End k = lostAt here (k .less)
   metIn Open k =
       enteredIn t here (rowIn t pool s (here .level) (k .less) (k .stop)) (ownIn t s (rowIn t pool s (here .level) (k .less) (k .stop)) (k .attributes) (k .first))
       (k .less) (k .end) (k .first)
@@ -138,7 +150,7 @@ module _ (t pool s st : List ℕ) (here : Here) where
   inkAhead k = inkBefore t s (here .level .row) (here .at) (k .less)
 
   unfoldable pub stepBy : Token → Turn
-  stepBy k = cond (ltb (inkAhead k) (k .less)) (refusedAt here 10 (here .level .row) (inkAhead k)) (metIn (k .kind) k)
+  stepBy k = cond (ltb (inkAhead k) (k .less)) (refusedAt here (table.textInGroup (here .level .row) (inkAhead k))) (metIn (k .kind) k)
 
   unfoldable pub stackBy : Token → List ℕ
   stackBy k = cond (ltb (inkAhead k) (k .less)) st (leftIn (k .kind) k)

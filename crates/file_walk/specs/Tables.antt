@@ -4,20 +4,14 @@ use mathlib.Core.List.{List, [], _∷_}
 use Prim.Native.Nat.{ℕ, zero, suc, _+_, _*_}
 use lib.Dec.{eqb, ltb}
 use lib.ListN.{getD, set}
+use Rattle.answer.specs.Table as table
 use Rattle.text.specs.Bytes.{inRange}
 use Rattle.list.specs.Table.{cell}
 use Rattle.list.specs.Lookup.{dueAfter}
 use Rattle.file_walk.specs.declared.level.Level.{Level}
-use Rattle.file_walk.specs.declared.verdict.Verdict.{Verdict}
-use Rattle.file_walk.specs.First.{Found, fine, found}
+use Rattle.file_walk.specs.declared.found.Found.{Found}
+use Rattle.file_walk.specs.First.{refuse, firstOf}
 use Rattle.file_walk.specs.Machine.{misses}
-
-abbrev pub says : ℕ → ℕ → ℕ → Verdict
-says c r o = record { code = c; row = r; place = o }
-
--- no violation so far
-abbrev pub nothing : Verdict
-nothing = says 0 0 0
 
 -- a kind's number is no leaf's
 unfoldable pub isGroupIn : ℕ → Bool
@@ -44,21 +38,21 @@ module _ (t : List ℕ) where
   unfoldable pub againIn : Level → ℕ → Bool
   againIn lv r = cond (eqb (cell t (lv .row) 2) 1) (not (eqb (lv .last) 0)) (ltb (cell t r 1) 2 && eqb (lv .last) r)
 
-  unfoldable pub openingIn : Level → ℕ → Bool → ℕ → Verdict
-  openingIn lv r own o =
-      cond (eqb r 0) (says 5 (lv .row) o)
-      (cond (passedIn lv r) (says 6 r o)
-      (cond (againIn lv r) (says 7 r o)
-      (cond (not own) (says 9 r o) nothing)))
+  unfoldable pub openingIn : Level → ℕ → Bool → ℕ → Found
+  openingIn lv r own o = firstOf (
+      refuse (eqb r 0) (table.noChild (lv .row) o) ∷
+      refuse (passedIn lv r) (table.outOfOrder r o) ∷
+      refuse (againIn lv r) (table.tooMany r o) ∷
+      refuse (not own) (table.wrongAttributes r o) ∷ [])
 
   unfoldable pub brokenIn : Level → Bool
   brokenIn lv = lv .odd || not (eqb (cell t (lv .last) 13) 0)
 
-  unfoldable pub groupEndIn : Level → Verdict
-  groupEndIn lv =
-      cond (eqb (lv .last) 0) (says 11 (lv .row) (lv .place))
-      (cond (ltb 0 (lv .due)) (says 8 (lv .due) (lv .place))
-      (cond (brokenIn lv) (says 13 (lv .row) (lv .place)) nothing))
+  unfoldable pub groupEndIn : Level → Found
+  groupEndIn lv = firstOf (
+      refuse (eqb (lv .last) 0) (table.empty (lv .row) (lv .place)) ∷
+      refuse (ltb 0 (lv .due)) (table.absent (lv .due) (lv .place)) ∷
+      refuse (brokenIn lv) (table.ruleBroken (lv .row) (lv .place)) ∷ [])
 
 -- ---- the stack
 
@@ -84,8 +78,3 @@ pushed a n lv =
 unfoldable pub levels : List ℕ → ℕ → List Level
 levels a zero = []
 levels a (suc n) = levelAt a n ∷ levels a n
-
--- ---- what a verdict says
-
-unfoldable pub foundOf : Verdict → Found
-foundOf v = cond (eqb (v .code) 0) fine (found (v .code) (v .row) (v .place))

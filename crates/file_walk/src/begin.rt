@@ -5,8 +5,9 @@ use crate::level::fresh;
 use crate::step::Here;
 use crate::step::Met;
 use crate::step::Turn;
+use crate::step::lost;
 use crate::step::refused;
-use crate::verdict::Verdict;
+use answer::Answer;
 use list::lookup::cell;
 use list::table::NAME;
 use list::table::NAME_END;
@@ -51,17 +52,12 @@ fn rooted(root: bool, here: Here, less: usize) -> Turn
     ensures { λ r. ⌜ r ≡ rootedIn root here less ⌝ }
 {
     if !root {
-        return refused(here, 4, 1, less);
+        return refused(here, Answer::wrong_root(less));
     }
     Turn {
         met: Met::Opened,
         here,
         less,
-        verdict: Verdict {
-            code: 0,
-            row: 0,
-            place: 0,
-        },
     }
 }
 
@@ -70,9 +66,9 @@ fn hollow(root: bool, here: Here, less: usize) -> Turn
     ensures { λ r. ⌜ r ≡ hollowIn root here less ⌝ }
 {
     if !root {
-        return refused(here, 4, 1, less);
+        return refused(here, Answer::wrong_root(less));
     }
-    refused(here, 11, 1, less)
+    refused(here, Answer::empty(1, less))
 }
 
 // The root's tag: the walk then stands in the root. Bytes without a tag there are no house XML.
@@ -102,7 +98,7 @@ pub fn begin(rows: &[u16], pool: &[u8], s: &[u8]) -> Turn
     match kind {
         Kind::Open => rooted(root, here, less),
         Kind::Empty => hollow(root, here, less),
-        Kind::Close => refused(here, 3, 0, less),
-        Kind::End => refused(here, 3, 0, less),
+        Kind::Close => lost(here, less),
+        Kind::End => lost(here, less),
     }
 }

@@ -1,6 +1,7 @@
 // One step of the walk: a text, and the tag behind it.
 
 use crate::attributes::own;
+use crate::found::Found;
 use crate::level::Level;
 use crate::level::advance;
 use crate::level::fresh;
@@ -9,7 +10,7 @@ use crate::level::push;
 use crate::tag::group_end;
 use crate::tag::is_group;
 use crate::tag::opening;
-use crate::verdict::Verdict;
+use answer::Answer;
 use list::lookup::cell;
 use list::lookup::child;
 use list::table::KIND;
@@ -19,7 +20,7 @@ use xml_tags::token::Kind;
 use xml_tags::token::next;
 ghost use mathlib.Core.Path.{_≡_};
 ghost use Prim.Native.Nat.{_<_};
-ghost use Rattle.file_walk.specs.Stride.{textFrom, inkFrom, endIn, refusedAt, outer, closedIn, rowIn, enteredIn, belowIn, vacantIn, numberOf, stepIn, stackIn};
+ghost use Rattle.file_walk.specs.Stride.{textFrom, inkFrom, endIn, refusedAt, lostAt, outer, closedIn, rowIn, enteredIn, belowIn, vacantIn, numberOf, stepIn, stackIn};
 
 // Where the walk stands: the innermost open element, how many are around it (they are on the stack), the place behind the last tag, and
 // where that tag's first attribute has its value.
@@ -37,15 +38,16 @@ pub enum Met {
     Opened,
     // The end of the innermost element; the text before it ends at less.
     Closed,
-    // A violation, or bytes that are no house XML.
-    Refused,
+    // The first violation.
+    Refused(Answer),
+    // Bytes that are no house XML, of which the walk says nothing.
+    Lost,
 }
 
 pub struct Turn {
     pub met: Met,
     pub here: Here,
     pub less: usize,
-    pub verdict: Verdict,
 }
 
 // From where a text is looked at. In a group it is nearly always blanks, so that these are passed once and the tag stands there.
@@ -69,34 +71,35 @@ fn ink(group: bool, from: usize, less: usize) -> usize
 }
 
 // The end of an element: of a leaf only whether it has a character at all.
-fn end_of(rows: &[u16], group: bool, lv: Level, at: usize, less: usize) -> Verdict
+fn end_of(rows: &[u16], group: bool, lv: Level, at: usize, less: usize) -> Found
     ensures { λ r. ⌜ r ≡ endIn (now (rows .entry)) group lv at less ⌝ }
 {
     if group {
         return group_end(rows, lv);
     }
     if less == at {
-        return Verdict {
-            code: 11,
-            row: lv.row,
-            place: lv.place,
-        };
+        return Found::Violation(Answer::empty(lv.row, lv.place));
     }
-    Verdict {
-        code: 0,
-        row: 0,
-        place: 0,
+    Found::Fine
+}
+
+pub(crate) fn refused(here: Here, a: Answer) -> Turn
+    ensures { λ r. ⌜ r ≡ refusedAt here a ⌝ }
+{
+    Turn {
+        met: Met::Refused(a),
+        here,
+        less: a.place,
     }
 }
 
-pub(crate) fn refused(here: Here, code: usize, row: usize, place: usize) -> Turn
-    ensures { λ r. ⌜ r ≡ refusedAt here code row place ⌝ }
+pub(crate) fn lost(here: Here, less: usize) -> Turn
+    ensures { λ r. ⌜ r ≡ lostAt here less ⌝ }
 {
     Turn {
-        met: Met::Refused,
+        met: Met::Lost,
         here,
-        less: place,
-        verdict: Verdict { code, row, place },
+        less,
     }
 }
 
@@ -126,33 +129,27 @@ fn closed(
 ) -> Turn
     ensures { λ r. ⌜ r ≡ closedIn (now (rows .entry)) group (now (stack .entry)) here less end ⌝ }
 {
-    let v = end_of(rows, group, here.level, here.at, less);
-    if v.code != 0 {
-        return refused(here, v.code, v.row, v.place);
+    let found = end_of(rows, group, here.level, here.at, less);
+    match found {
+        Found::Violation(a) => return refused(here, a),
+        Found::Fine => {}
     }
-    let verdict = Verdict {
-        code: 0,
-        row: 0,
-        place: 0,
-    };
     let depth = here.depth;
     if depth == 0 {
         return Turn {
             met: Met::Closed,
             here,
             less,
-            verdict,
         };
     }
     if 16 < depth {
-        return refused(here, 3, 0, less);
+        return lost(here, less);
     }
     let outer = around(stack, depth - 1, end);
     Turn {
         met: Met::Closed,
         here: outer,
         less,
-        verdict,
     }
 }
 
@@ -179,13 +176,14 @@ fn entered(
 ) -> Turn
     ensures { λ x. ⌜ (x ≡ enteredIn (now (rows .entry)) here r ok less end a) × (now (stack .exit) ≡ belowIn (now (rows .entry)) (now (stack .entry)) here r ok less) ⌝ }
 {
-    let v = opening(rows, here.level, r, ok, less);
-    if v.code != 0 {
-        return refused(here, v.code, v.row, v.place);
+    let found = opening(rows, here.level, r, ok, less);
+    match found {
+        Found::Violation(v) => return refused(here, v),
+        Found::Fine => {}
     }
     let n = here.depth;
     if 15 < n {
-        return refused(here, 3, 0, less);
+        return lost(here, less);
     }
     let around = advance(rows, here.level, r);
     push(stack, n, around);
@@ -201,11 +199,6 @@ fn entered(
         met: Met::Opened,
         here: inner,
         less,
-        verdict: Verdict {
-            code: 0,
-            row: 0,
-            place: 0,
-        },
     }
 }
 
@@ -213,11 +206,10 @@ fn entered(
 fn vacant(rows: &[u16], here: Here, r: usize, ok: bool, less: usize) -> Turn
     ensures { λ x. ⌜ x ≡ vacantIn (now (rows .entry)) here r ok less ⌝ }
 {
-    let v = opening(rows, here.level, r, ok, less);
-    if v.code != 0 {
-        return refused(here, v.code, v.row, v.place);
+    match opening(rows, here.level, r, ok, less) {
+        Found::Violation(v) => refused(here, v),
+        Found::Fine => refused(here, Answer::empty(r, less)),
     }
-    refused(here, 11, r, less)
 }
 
 const EMPTY: u8 = 1;
@@ -249,7 +241,7 @@ pub fn step(rows: &[u16], pool: &[u8], s: &[u8], stack: &mut [usize; 80], here: 
     let less = token.less;
     let bad = ink(group, from, less);
     if bad < less {
-        return refused(here, 10, lv.row, bad);
+        return refused(here, Answer::text_in_group(lv.row, bad));
     }
     let stands = token.kind;
     let kind = number(stands);
@@ -257,7 +249,7 @@ pub fn step(rows: &[u16], pool: &[u8], s: &[u8], stack: &mut [usize; 80], here: 
         return closed(rows, group, stack, here, less, token.end);
     }
     if kind == END {
-        return refused(here, 3, 0, less);
+        return lost(here, less);
     }
     // The lookup is the longest part of a step, so that it stands once, for elements with and without content.
     let a = token.first;

@@ -1,7 +1,8 @@
-// The tests of a tag, in the paper's order: at its opening 5, 6, 7, 9, at a group's end 11, 8, 13. Code 0 says that none finds a violation.
+// The tests of a tag, in the paper's order: at its opening 5, 6, 7, 9, at a group's end 11, 8, 13. Each answers with its line of the table.
 
+use crate::found::Found;
 use crate::level::Level;
-use crate::verdict::Verdict;
+use answer::Answer;
 use list::lookup::cell;
 use list::table::CHOICE;
 use list::table::COUNT;
@@ -45,42 +46,22 @@ fn again(rows: &[u16], lv: Level, r: usize) -> bool
 }
 
 // An opening tag below the root, of row r (0: no child of its parent), with its `<` at a place; `own` says whether its attributes are its type's.
-pub(crate) fn opening(rows: &[u16], lv: Level, r: usize, own: bool, place: usize) -> Verdict
+pub(crate) fn opening(rows: &[u16], lv: Level, r: usize, own: bool, place: usize) -> Found
     ensures { λ x. ⌜ x ≡ openingIn (now (rows .entry)) lv r own place ⌝ }
 {
     if r == 0 {
-        return Verdict {
-            code: 5,
-            row: lv.row,
-            place,
-        };
+        return Found::Violation(Answer::no_child(lv.row, place));
     }
     if passed(rows, lv, r) {
-        return Verdict {
-            code: 6,
-            row: r,
-            place,
-        };
+        return Found::Violation(Answer::out_of_order(r, place));
     }
     if again(rows, lv, r) {
-        return Verdict {
-            code: 7,
-            row: r,
-            place,
-        };
+        return Found::Violation(Answer::too_many(r, place));
     }
     if own {
-        return Verdict {
-            code: 0,
-            row: 0,
-            place: 0,
-        };
+        return Found::Fine;
     }
-    Verdict {
-        code: 9,
-        row: r,
-        place,
-    }
+    Found::Violation(Answer::wrong_attributes(r, place))
 }
 
 // Whether a rule is broken at a group's end: for good already, or by a first row that came last.
@@ -94,35 +75,17 @@ fn broken(rows: &[u16], lv: Level) -> bool
 }
 
 // The end of a group.
-pub(crate) fn group_end(rows: &[u16], lv: Level) -> Verdict
+pub(crate) fn group_end(rows: &[u16], lv: Level) -> Found
     ensures { λ x. ⌜ x ≡ groupEndIn (now (rows .entry)) lv ⌝ }
 {
-    let row = lv.row;
-    let place = lv.place;
     if lv.last == 0 {
-        return Verdict {
-            code: 11,
-            row,
-            place,
-        };
+        return Found::Violation(Answer::empty(lv.row, lv.place));
     }
     if 0 < lv.due {
-        return Verdict {
-            code: 8,
-            row: lv.due,
-            place,
-        };
+        return Found::Violation(Answer::absent(lv.due, lv.place));
     }
     if broken(rows, lv) {
-        return Verdict {
-            code: 13,
-            row,
-            place,
-        };
+        return Found::Violation(Answer::rule_broken(lv.row, lv.place));
     }
-    Verdict {
-        code: 0,
-        row: 0,
-        place: 0,
-    }
+    Found::Fine
 }

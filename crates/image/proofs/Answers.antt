@@ -1,6 +1,6 @@
 -- One answer only, and bytes after the first image do not matter. Assumes nothing.
 use mathlib.Core.Path.{_≡_, refl, sym, _∙_, ap, ap₂, subst}
-use mathlib.Core.Logic.{_≢_, _⊎_, inl, inr}
+use mathlib.Core.Logic.{_≢_, _⊎_, _↔_, inl, inr}
 use mathlib.Core.Bool.{Bool, true, false, cond}
 use mathlib.Core.List.{List, [], _∷_, _++_, append-assoc, head-eq-of-cons-eq, tail-eq-of-cons-eq}
 use mathlib.Core.Option.{Option, none, some}
@@ -213,6 +213,13 @@ module _ (vs : Values) (ls : List Listing) where
     reads-one run a b (whole i n x e) (version j y z u f) = absurd (not-version run (x .list) (x .head) (x .behind) (x .front) (x .at) u)
     reads-one run a b (whole i n x e) (broken j l k h q s y m z f) = absurd (unbroken run l k h q s y m z n x)
     reads-one run a b (whole i n x e) (whole j m y f) = e ∙ ap accepted (accepts-one run n m x y) ∙ sym f
+
+    -- demand 2, of the reader: it accepts with n exactly where the run is within the limit and begins with the image, n bytes long, of a content that meets its list
+    pub reads-exactly : (run : List ℕ) (a : Answer) → Reads vs ls run a → (n : ℕ) → ((a .code ≡ 0) × (a .place ≡ n)) ↔ ((length run ≤ limit) × Accepts vs ls run n)
+    reads-exactly run a r n = (
+      (λ z. let w = accepting run a r (z .0) in (w .0, subst (Accepts vs ls run) (z .1) (w .1))),
+      (λ w. let e = reads-one run a (accepted n) r (whole (w .0) n (w .1) refl) in (ap (λ (x : Answer). x .code) e, ap (λ (x : Answer). x .place) e)),
+    )
 
     not-refused : (run : List ℕ) (a : Answer) (k : ℕ) → Reads vs ls run a → a .code ≢ 0 → length run ≤ limit → Accepts vs ls run k → ⊥
     not-refused run a k r n h w = n (ap (λ (z : Answer). z .code) (reads-one run a (accepted k) r (whole h k w refl)))

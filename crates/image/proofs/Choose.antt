@@ -47,6 +47,14 @@ zero-row : (l : Listing) → isGroup (rowAt l 0 .kind) ≡ true
 unfolding rowAt
 zero-row l = refl
 
+-- an item of a leaf has a value of its type
+module _ (vs : Values) (l : Listing) where
+  pub leaf-value : (k : Kind) (v : Option (vs .Value)) → OfKind vs l k v → isGroup k ≡ false → (f : Leaf) × (k ≡ leaf f) × ((w : vs .Value) × (v ≡ some w) × vs .Is f w)
+  leaf-value group v h e = absurd (true≢false e)
+  leaf-value choice v h e = absurd (true≢false e)
+  leaf-value (leaf f) none h e = absurd h
+  leaf-value (leaf f) (some w) h e = (f, refl, (w, refl, h))
+
 -- one turn, by its tests
 module _ (t : List ℕ) (fin : ℕ → ℕ → ℕ) (s : List ℕ) (r n i : ℕ) where
   pub hunt-out : getD s i 0 ≡ 0 → hunt t fin s r n i ≡ stop 0
@@ -278,18 +286,12 @@ module _ (t : List ℕ) (fin : ℕ → ℕ → ℕ) (s : List ℕ) where
       none-there : Finds t fin s from r n 0 → Missing vs l (w .content) r n
       none-there f = ⊎-elim (λ h. inl (h .0)) (λ h. ⊎-elim (λ g. inr (g .1)) (λ g. absurd (omega (arith, g .0))) (h .1)) (finds 0 f)
 
-    leaf-value : (k : Kind) (v : Option (vs .Value)) → OfKind vs l k v → isGroup k ≡ false → (f : Leaf) × (k ≡ leaf f) × ((w : vs .Value) × (v ≡ some w) × vs .Is f w)
-    leaf-value group v h e = absurd (true≢false e)
-    leaf-value choice v h e = absurd (true≢false e)
-    leaf-value (leaf f) none h e = absurd h
-    leaf-value (leaf f) (some w) h e = (f, refl, (w, refl, h))
-
     module _ (hd : (r : ℕ) (f : Leaf) → 0 < r → r ≤ size l → rowAt l r .kind ≡ leaf f → headOf t r ≡ vs .head f) where
       spot-picked : (from k : ℕ) (w : Holds vs l (drop from s) k) (r n p : ℕ) (part : List ℕ) → isLeaf t r ≡ true → Spot from (w .content) (w .rest) r n r p
           → part ≡ slice (p + headOf t r) (fin r p) s → Picked vs l from (w .content) r n (p + headOf t r) part
       spot-picked from k w r n p part e g f =
           let simple : isGroup (rowAt l r .kind) ≡ false = leafed (isGroup (rowAt l r .kind)) (sym (ls .line r (g .row .0) (g .row .1) .leaf) ∙ e) in
-          let o = leaf-value (rowAt l r .kind) (g .value) (g .good) simple in
+          let o = leaf-value vs l (rowAt l r .kind) (g .value) (g .good) simple in
           let h = hd r (o .0) (g .row .0) (g .row .1) (o .1) in
           let vb-is : vb r (g .value) ≡ vs .bytes (o .0) (o .2 .0) = ap₂ (valueBytes vs l) (o .1) (o .2 .1) in
           record {

@@ -15,6 +15,8 @@ pub mod Prefix
 pub mod Stops
 -- demand 3 in its own words
 pub mod Images
+-- over a list within another
+pub mod Within
 -- one answer only; bytes after the first image
 pub mod Answers
 -- where a picked part stands
@@ -31,12 +33,12 @@ pub mod Heads
 pub mod Ends
 -- each turn of the loop
 pub mod Turning
--- tables that are alike
-pub mod Alike
 -- the turns of the reader and the picker
 pub mod Run
 -- the turns of the picker
 pub mod Choose
+-- what is not missing is found
+pub mod Some
 -- each turn of its loop
 pub mod Hunting
 -- document 01's values are lawful

@@ -29,7 +29,7 @@ use Rattle.image.specs.Run.{Behind, headOf, Chooses}
 use Rattle.image.proofs.Rows.{well}
 use Rattle.image.proofs.Lines.{lines}
 use Rattle.image.proofs.Lawful.{lawful}
-use Rattle.image.proofs.Run.{Ending, behind-tells}
+use Rattle.image.proofs.Run.{Ending, behind-tells, behind-some}
 use Rattle.image.proofs.Choose.{chooses-selects}
 
 -- two bytes stand before a text, by the number of its kind
@@ -94,7 +94,7 @@ module _ (t pool : List ℕ) (so : Sound t pool) (s : List ℕ) where
   leaf-value (leaf g) f none e o = absurd o
   leaf-value (leaf g) f (some w) e o = let d : g ≡ f = cc in (w, subst (λ (y : Leaf). IsValue y w) d o, refl)
 
-  ending : Ending t (itemEnd t s) s values l
+  pub ending : Ending t (itemEnd t s) s values l
   ending = record { none = λ x i a b c d e v u g o. absent x i b d e v u g o c (sort x i a b) a; some = λ x i a b c d e. present x i b d e (sort x i a b) a }
     where
       absent : (x i : ℕ) → x ≤ size l → i ≤ length s → itemEnd t s x i ≡ 0 → (v : Option Value) (u : List ℕ) → drop i s ≡ valueBytes values l (rowAt l x .kind) v ++ u → ItemOk values l x v → 0 < i → Sort x i → 0 < x → ⊥
@@ -119,6 +119,10 @@ module _ (t pool : List ℕ) (so : Sound t pool) (s : List ℕ) where
   -- the reader's promise, in sound tables
   pub body-means : (from : ℕ) (a : Answer) → Behind t (itemEnd t s) s from a → Tells values l (drop from s) from a
   body-means from a h = behind-tells t (itemEnd t s) s values lawful l (so .well) (lines t pool so) ending from a h
+
+  -- some answer fits
+  pub body-some : (from : ℕ) → (a : Answer) × Tells values l (drop from s) from a
+  body-some from = let o = behind-some t (itemEnd t s) s values lawful l (so .well) (lines t pool so) ending from in (o .0, body-means from (o .0) (o .1))
 
   head-is : (r : ℕ) (f : Leaf) → 0 < r → r ≤ size l → rowAt l r .kind ≡ leaf f → headOf t r ≡ lengthBytes f
   unfolding headOf

@@ -7,7 +7,7 @@ use mathlib.Core.Option.{Option, none, some}
 use Prim.Native.Nat.{ℕ, zero, suc, _+_, _≤_, _<_}
 use native.Mathlib.Omega.{arith}
 use native.Mathlib.Numerals.{add-one}
-use native.Mathlib.Decide.{decLt}
+use native.Mathlib.Decide.{decLt, ℕ-discrete}
 use lib.Dec.{leb, eqb}
 use lib.ListN.{length, getD, drop, drop-of-length-le}
 use lib.Seq.{drop-cons}
@@ -198,3 +198,25 @@ module _ (t : List ℕ) (fin : ℕ → ℕ → ℕ) (s : List ℕ) where
         let n : from + 0 ≡ from = omega arith in
         broke 0 (breaks-root vs lw l wf (drop from s) (not-root from z)) (e ∙ ap brokenImage (sym n))
     behind-tells from a (rooted y z g) = halt-tells from a y z (goes-halt (omega arith) (well l wf .rows) (omega arith) g)
+
+    -- some answer: each turn that goes on goes further
+    turned : (q i : ℕ) → 0 < q → q ≤ size l → ((x j : ℕ) → 0 < x → x ≤ size l → i < j → i < length s → (a : Answer) × Goes t fin s a x j) → (r : Turn Answer) → turn t fin s q i ≡ r → (a : Answer) × Goes t fin s a q i
+    turned q i p b rec (stop a) e = (a, halts e)
+    turned q i p b rec (next x j) e =
+        let o = onto q i x j e (case q i) in
+        let r = next-in l (follows-is l (well l wf) t ls q x p b .so (o .goes)) in
+        let v = en .some x (i + 1) (r .0) (r .1) (omega arith) (omega (arith, o .here′)) (subst (λ (y : ℕ). 0 < y) (o .place) (o .some)) in
+        let g = rec x j (r .0) (r .1) (omega (arith, o .place, v .3)) (o .here′) in
+        (g .0, moves x j e (g .1))
+
+    turns-some : (f q i : ℕ) → 0 < q → q ≤ size l → length s ≤ i + f → (a : Answer) × Goes t fin s a q i
+    turns-some zero q i p b h = turned q i p b (λ x j c d u k. absurd (omega arith)) (turn t fin s q i) refl
+    turns-some (suc f) q i p b h = turned q i p b (λ x j c d u k. turns-some f x j c d (omega arith)) (turn t fin s q i) refl
+
+    pub behind-some : (from : ℕ) → (a : Answer) × Behind t fin s from a
+    behind-some from = go (decLt from (length s)) (ℕ-discrete (getD s from 0) 1)
+      where
+        go : Dec (from < length s) → Dec (getD s from 0 ≡ 1) → (a : Answer) × Behind t fin s from a
+        go (no h) d = (brokenImage from, rootless (inl (omega arith)) refl)
+        go (yes h) (no d) = (brokenImage from, rootless (inr d) refl)
+        go (yes h) (yes d) = let o = turns-some (length s) 1 (from + 1) (omega arith) (well l wf .rows) (omega arith) in (o .0, rooted h d (o .1))

@@ -15,8 +15,6 @@ pub mod Follow
 pub mod Step
 -- a mirror: where an item ends
 pub mod Ends
--- a mirror: a table over another
-pub mod Laid
 -- a mirror: the reader and the picker over a run
 pub mod Run
 -- a mirror: the reader item by item

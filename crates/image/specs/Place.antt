@@ -1,7 +1,7 @@
 -- What a reader of images answers: the first image's length, or where it breaks. Assumes nothing.
 use mathlib.Core.Path.{_≡_}
 use mathlib.Core.Logic.{_≢_, _⊎_}
-use mathlib.Core.List.{List, [], _∷_, _++_}
+use mathlib.Core.List.{List, _++_}
 use Prim.Native.Nat.{ℕ, _+_, _≤_, _<_}
 use lib.ListN.{length, take}
 use Rattle.answer.specs.declared.Answer.{Answer}
@@ -9,6 +9,7 @@ use Rattle.answer.specs.Table.{accepted, limit, tooLong, noHeader, wrongVersion
 use Rattle.text.specs.Bytes.{ascii}
 use Rattle.list.specs.Listing.{Listing}
 use Rattle.list.specs.Content.{Content, items, Meets}
+pub use Rattle.list.specs.Within.{Among}
 use Rattle.image.specs.Image.{Values, Item, versioned, header, bytes, body}
 
 -- ---- behind the header: items and the closing 0
@@ -53,11 +54,6 @@ module _ (vs : Values) (l : Listing) where
 -- an image of a content of the list begins with h
 pub data Front (l : Listing) (h : List ℕ) : Type 0 where
   now : h ≡ header l → Front l h
-
--- l is one of the lists
-abbrev pub Among : Listing → List Listing → Type 0
-Among l [] = ⊥
-Among l (m ∷ ms) = (l ≡ m) ⊎ Among l ms
 
 -- what one run begins with is of one list, and ends at one place
 pub record Apart (ls : List Listing) : Type 0 where

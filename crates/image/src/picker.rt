@@ -21,7 +21,7 @@ fn head(rows: &[u16], r: usize) -> usize
 }
 
 // Where the value of the n-th leaf of `row` stands, behind its row byte; 0 where there is none.
-fn find(rows: &[u16], run: &[u8], from: usize, row: usize, n: usize) -> usize
+fn find(rows: &[u16; 4096], run: &[u8], from: usize, row: usize, n: usize) -> usize
     ensures { λ p. ⌜ Finds (now (rows .entry)) (itemEnd (now (rows .entry)) (now (run .entry))) (now (run .entry)) from row n p ⌝ }
 {
     if is_leaf(rows, row) {
@@ -31,7 +31,7 @@ fn find(rows: &[u16], run: &[u8], from: usize, row: usize, n: usize) -> usize
 }
 
 // The same for a row of a leaf.
-fn find_leaf(rows: &[u16], run: &[u8], from: usize, row: usize, n: usize) -> usize
+fn find_leaf(rows: &[u16; 4096], run: &[u8], from: usize, row: usize, n: usize) -> usize
     ensures { λ p. ⌜ Comes (hunt (now (rows .entry)) (itemEnd (now (rows .entry)) (now (run .entry))) (now (run .entry)) row) p n from ⌝ }
 {
     let mut left = n;
@@ -57,7 +57,7 @@ fn find_leaf(rows: &[u16], run: &[u8], from: usize, row: usize, n: usize) -> usi
 }
 
 // The answer for the n-th leaf, from 0, of `row`: its row, and where its part begins.
-pub fn pick_from(rows: &[u16], run: &[u8], from: usize, row: usize, n: usize) -> Answer
+pub fn pick_from(rows: &[u16; 4096], run: &[u8], from: usize, row: usize, n: usize) -> Answer
     ensures { λ a. ⌜ Answered (now (rows .entry)) (itemEnd (now (rows .entry)) (now (run .entry))) (now (run .entry)) from row n a ⌝ }
 {
     let at = find(rows, run, from, row, n);
@@ -68,7 +68,13 @@ pub fn pick_from(rows: &[u16], run: &[u8], from: usize, row: usize, n: usize) ->
 }
 
 // Its part of the run: the value's bytes without row byte and length, empty where `pick_from` refuses.
-pub fn picked_from<'a>(rows: &[u16], run: &'a [u8], from: usize, row: usize, n: usize) -> &'a [u8]
+pub fn picked_from<'a>(
+    rows: &[u16; 4096],
+    run: &'a [u8],
+    from: usize,
+    row: usize,
+    n: usize,
+) -> &'a [u8]
     ensures { λ s. ⌜ Handed (now (rows .entry)) (itemEnd (now (rows .entry)) (now (run .entry))) (now (run .entry)) from row n (now s) ⌝ }
 {
     let value = find(rows, run, from, row, n);

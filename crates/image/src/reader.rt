@@ -7,13 +7,9 @@ use list::lookup::cell;
 use list::table::KIND;
 use list::table::MOST;
 use list::table::WORD_COUNT;
-use text::part::least;
 use value_from_bytes::kinds::value_end;
 ghost use mathlib.Core.Path.{_≡_};
-ghost use Prim.Native.Nat.{_+_, _≤_, _<_};
-ghost use lib.ListN.{length};
 ghost use Rattle.image.specs.Ends.{itemEnd};
-ghost use Rattle.image.specs.Laid.{Laid};
 ghost use Rattle.image.specs.Run.{Goes, Behind};
 
 pub(crate) fn wide(x: u8) -> usize
@@ -23,7 +19,7 @@ pub(crate) fn wide(x: u8) -> usize
 }
 
 // Where the item of row x ends whose row byte stands before `at`; 0 where no value of its type stands there.
-pub(crate) fn item_end(rows: &[u16], run: &[u8], x: usize, at: usize) -> usize
+pub fn item_end(rows: &[u16], run: &[u8], x: usize, at: usize) -> usize
     ensures { λ r. ⌜ r ≡ itemEnd (now (rows .entry)) (now (run .entry)) x at ⌝ }
 {
     if is_leaf(rows, x) {
@@ -36,19 +32,6 @@ pub(crate) fn item_end(rows: &[u16], run: &[u8], x: usize, at: usize) -> usize
         );
     }
     at
-}
-
-// A table's beginning over another's.
-fn lay(rows: &[u16], table: &mut [u16; 4096])
-    requires { ⌜ length (now table) ≡ 4096 ⌝ }
-    ensures { λ _. ⌜ Laid (now (rows .entry)) (now (table .entry)) (now (table .exit)) ⌝ }
-{
-    let n = least(rows.len(), 4096);
-    let mut i = 0;
-    while i < n {
-        table[i] = rows[i];
-        i += 1;
-    }
 }
 
 // From behind the root's row byte on. Most items are groups, so that only a leaf's costs a call.
@@ -89,9 +72,9 @@ fn items(rows: &[u16], run: &[u8], from: usize) -> Answer
     Answer::broken_image(i)
 }
 
-// The answer for the items from a place of a run on: where they end, or where they break. They are read over a table of 256 rows, zeros
-// behind the last: the compiler knows its length, so that no lookup in it asks for its end.
-pub fn body(rows: &[u16], run: &[u8], from: usize) -> Answer
+// The answer for the items from a place of a run on: where they end, or where they break. The table is an array of 256 rows and not a
+// slice: the compiler knows its length, so that no lookup in it asks for its end.
+pub fn body(rows: &[u16; 4096], run: &[u8], from: usize) -> Answer
     ensures { λ a. ⌜ Behind (now (rows .entry)) (itemEnd (now (rows .entry)) (now (run .entry))) (now (run .entry)) from a ⌝ }
 {
     if run.len() <= from {
@@ -100,7 +83,5 @@ pub fn body(rows: &[u16], run: &[u8], from: usize) -> Answer
     if run[from] != 1 {
         return Answer::broken_image(from);
     }
-    let mut table = [0u16; 4096];
-    lay(rows, &mut table);
-    items(&table, run, from + 1)
+    items(rows, run, from + 1)
 }

@@ -1,4 +1,4 @@
--- The laws of `hold`.
+-- The laws of `image_hold`.
 -- the reader that holds its run
 pub mod Holding
 -- a held reader is taken apart, and another function is called

@@ -1,3 +1,3 @@
--- The definitions of `hold`, and the mirrors of its code.
+-- The definitions of `image_hold`, and the mirrors of its code.
 -- what a reader that holds its run answers
 pub mod Held

@@ -10,7 +10,8 @@
 //
 // and the values of an image are picked before it is read. At the run's end, and past it, every call answers 15: nothing is left there.
 //
-// The four functions that have a `Held` only take it apart; the work is done by the others, on the slice and the place.
+// The functions that have a `Held` only make it or take it apart; the work is done by the others, on the slice and the place. A caller that
+// keeps the place itself, and has no `Held`, goes by `next_at`.
 use answer::Answer;
 use image_reading::first;
 ghost use mathlib.Core.Path.{_≡_};
@@ -25,7 +26,7 @@ pub struct Held<'a> {
 }
 
 // What was read at a place, and the place to read at next.
-pub(crate) struct Step {
+pub struct Step {
     pub answer: Answer,
     pub at: usize,
 }
@@ -82,6 +83,15 @@ pub fn next<'s, 'a>(h: &'s mut Held<'a>) -> Answer
     let step = read_at(h.run, h.at);
     h.at = step.at;
     step.answer
+}
+
+// The same for a run and a place: held for one call, and where it is held then.
+pub fn next_at(run: &[u8], at: usize) -> Step
+    ensures { λ r. ⌜ Steps (now (run .entry)) at r ⌝ }
+{
+    let mut h = Held { run, at };
+    let answer = next(&mut h);
+    Step { answer, at: h.at }
 }
 
 // The answer for the n-th leaf, from 0, of `row` in the image at its place.

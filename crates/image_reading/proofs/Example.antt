@@ -9,25 +9,29 @@ use lib.ListN.{length, getD, take}
 use lib.Seq.{slice}
 use Rattle.answer.specs.declared.Answer.{Answer}
 use Rattle.answer.specs.Table.{accepted, brokenImage, picked}
-use Rattle.text.specs.Bytes.{isCapital}
+use Rattle.text.specs.Bytes.{ascii, isCapital}
 use Rattle.text.specs.Numbers.{bigEndian, numberFrom}
 use Rattle.text_characters.specs.Decoding.{decoded}
 use Rattle.list.specs.Table.{cell}
 use Rattle.list_house.specs.House.{house}
 use Rattle.list_house.specs.HouseTable.{houseRows}
+use Rattle.list_house.proofs.HouseSound.{house-is, house-sound}
 use Rattle.value.specs.Text.{isRef, isTxt}
 use Rattle.value_from_bytes.specs.Tests.{isByte, every, some as any, apart as slashes}
 use Rattle.value_from_bytes.specs.Chars.{charsFrom}
 use Rattle.value_from_bytes.specs.Judges.{isReference, textFrom, isWriting, isCurrency, isPlace, isAmount, isReal, isDay, isMoment}
 use Rattle.value_from_bytes.specs.Ends.{head, width, isValue, begins, valueEnd}
 use Rattle.image.specs.Image.{header}
-use Rattle.image.specs.Place.{now}
 use Rattle.image.specs.Step.{isLeaf, again, owed, before, mated, inOrder, beside, inside, climbs, follows, rests, ended}
 use Rattle.image.specs.Ends.{itemEnd}
-use Rattle.image.specs.Run.{Turn, stop, next, Comes, halts, moves, headOf, turn, rooted, hunt, leaves, found}
+use Rattle.image.specs.Run.{Turn, stop, next, Comes, halts, moves, headOf, turn, Behind, rooted, hunt, leaves, found}
 use Rattle.image.specs.Example.{printed}
-use Rattle.image_reading.specs.Reads.{HouseReads, HousePicks, Begun}
-use Rattle.image_reading.proofs.House.{begins as reading-begins, begun-picks}
+use Rattle.image.proofs.Heads.{header-is}
+use Rattle.image_reading.specs.Reads.{HouseReads, HousePicks}
+use Rattle.image_reading.specs.Forms.{Begun}
+use Rattle.image_reading.specs.Front.{Fronts}
+use Rattle.image_reading.specs.declared.front.Reading.{Reading}
+use Rattle.image_reading.proofs.House.{Says, front-first, begins as reading-begins, begins-not, begun-reads, begun-picks}
 
 -- at most k turns, computed
 abbrev on : {A : Type 0} → (ℕ → ℕ → Option A) → Turn A → Option A
@@ -75,31 +79,41 @@ example-found = (
 -- its first bytes
 record Headed (s : List ℕ) (n : ℕ) : Type 0 where
   long : length s ≡ n
+  named : take 3 s ≡ ascii "KTO"
   header′ : take 5 s ≡ header house
   root : getD s 5 0 ≡ 1
 
 example-headed : Headed printed 67 × Headed (take 66 printed) 66
 unfolding printed header bigEndian
-example-headed = (record { long = refl; header′ = refl; root = refl }, record { long = refl; header′ = refl; root = refl })
+example-headed = (record { long = refl; named = refl; header′ = refl; root = refl }, record { long = refl; named = refl; header′ = refl; root = refl })
 
-ran : (s : List ℕ) (n : ℕ) (a : Answer) → Headed s n → 5 < n → n ≤ 67 → Read s a → Begun s (record { answer = a; from = 5 })
-ran s n a h l u e =
-    reading-begins s 5 (λ z. omega arith) (record { known = λ z. (omega (arith, h .long), now (h .header′)); unknown = λ z. absurd (omega arith) }) (omega (arith, h .long)) a
-    (rooted (omega (arith, h .long)) (h .root) (turns-come (turn houseRows (itemEnd houseRows s) s) 30 1 6 a e))
+says : Says houseRows
+says = record { sound = house-sound; is = house-is }
 
-example-runs : Begun printed (record { answer = accepted 67; from = 5 })
-example-runs = ran printed 67 (accepted 67) (example-headed .0) (omega arith) (omega arith) (example-turns .0)
+fronted : (s : List ℕ) (n : ℕ) → Headed s n → 5 < n → n ≤ 67 → Fronts s (record { answer = accepted 5; form = 1; from = 5 })
+fronted s n h l u = front-first s (accepted 5) (omega (arith, h .long)) (omega (arith, h .long), h .named) (h .header′ ∙ header-is house)
+
+ran : (s : List ℕ) (n : ℕ) (a : Answer) → Headed s n → 5 < n → Read s a → Behind houseRows (itemEnd houseRows s) s 5 a
+ran s n a h l e = rooted (omega (arith, h .long)) (h .root) (turns-come (turn houseRows (itemEnd houseRows s) s) 30 1 6 a e)
+
+example-runs : Begun printed (record { answer = accepted 67; form = 1; from = 5 })
+example-runs = reading-begins printed (record { answer = accepted 5; form = 1; from = 5 }) (fronted printed 67 (example-headed .0) (omega arith) (omega arith)) (λ z. omega arith) houseRows says (accepted 67) (ran printed 67 (accepted 67) (example-headed .0) (omega arith) (example-turns .0)) refl
 
 -- 67 bytes are read; one less is no image, and all its items begin one
 pub example-reads : HouseReads printed (accepted 67)
-example-reads = example-runs .reads
+example-reads = begun-reads printed (record { answer = accepted 67; form = 1; from = 5 }) example-runs
 
 pub example-cut : HouseReads (take 66 printed) (brokenImage 66)
-example-cut = ran (take 66 printed) 66 (brokenImage 66) (example-headed .1) (omega arith) (omega arith) (example-turns .1) .reads
+example-cut =
+    begun-reads (take 66 printed) cut
+    (begins-not (take 66 printed) (record { answer = accepted 5; form = 1; from = 5 }) (fronted (take 66 printed) 66 (example-headed .1) (omega arith) (omega arith)) (λ z. omega arith) houseRows says (brokenImage 66) (ran (take 66 printed) 66 (brokenImage 66) (example-headed .1) (omega arith) (example-turns .1)) (λ z. omega arith) cut (refl, refl, refl) .0)
+  where
+    cut : Reading
+    cut = record { answer = brokenImage 66; form = 0; from = 0 }
 
 picks : (r n p : ℕ) (a : Answer) (part : List ℕ) → Found r n p a part → HousePicks printed r n a part
 picks r n p a part f =
-    begun-picks printed (record { answer = accepted 67; from = 5 }) example-runs refl r n a part
+    begun-picks printed houseRows says (record { answer = accepted 67; form = 1; from = 5 }) example-runs refl r n a part
     (found p (f .some′) (leaves (f .leafy) (turns-come (hunt houseRows (itemEnd houseRows printed) printed r) 30 n 5 p (f .hunts))) (f .says) (f .holds))
 
 -- MsgId's two bytes, the balance's amount

@@ -1,4 +1,4 @@
--- The laws of `reading`.
+-- The laws of `image_reading`.
 -- the first bytes of a run
 pub mod Heads
 -- what the code finds is what is defined, and nothing else is

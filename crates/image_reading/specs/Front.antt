@@ -2,13 +2,16 @@
 use mathlib.Core.Path.{_≡_}
 use mathlib.Core.Logic.{_≢_, _⊎_}
 use mathlib.Core.Bool.{Bool, true, false}
-use mathlib.Core.List.{List}
+use mathlib.Core.List.{List, _++_}
 use Prim.Native.Nat.{ℕ, _≤_, _<_}
 use lib.ListN.{length, take}
+use Rattle.answer.specs.Table.{limit}
 use Rattle.text.specs.Bytes.{ascii}
-use Rattle.list_house.specs.House.{house}
+use Rattle.list.specs.Listing.{Listing}
 use Rattle.image.specs.Image.{versioned}
-use Rattle.image.specs.Place.{Front}
+use Rattle.image_reading.specs.Reads.{HouseReads}
+use Rattle.image_reading.specs.Forms.{Formed}
+use Rattle.image_reading.specs.declared.front.Reading.{Reading}
 
 -- five bytes or more, of which the first three are `KTO`
 abbrev pub Kto : List ℕ → Type 0
@@ -18,7 +21,12 @@ pub record Named (s : List ℕ) (b : Bool) : Type 0 where
   pub yes′ : b ≡ true → Kto s
   pub no′ : b ≡ false → (length s < 5) ⊎ (take 3 s ≢ ascii "KTO")
 
--- the items begin at n, or at 0 the version is unknown
-pub record Fronts (s : List ℕ) (n : ℕ) : Type 0 where
-  pub known : n ≢ 0 → (n ≤ length s) × Front house (take n s)
-  pub unknown : n ≡ 0 → take 5 s ≢ versioned 1
+-- of version 1, or not
+pub record OfVersion (s : List ℕ) (b : Bool) : Type 0 where
+  pub yes′ : b ≡ true → take 5 s ≡ versioned 1
+  pub no′ : b ≡ false → take 5 s ≢ versioned 1
+
+-- up to the items: no image begins here, or one of this form may, whose items begin behind its header
+pub data Fronts (run : List ℕ) (r : Reading) : Type 0 where
+  nothing : HouseReads run (r .answer) → r .answer .code ≢ 0 → r .form ≡ 0 → r .from ≡ 0 → Fronts run r
+  headed : length run ≤ limit → (l : Listing) (h s : List ℕ) → Formed (r .form) l h → run ≡ h ++ s → r .from ≡ length h → Fronts run r

@@ -1,5 +1,7 @@
--- The definitions of `reading`, and the mirrors of its code.
--- what is answered over the house list
+-- The definitions of `image_reading`, and the mirrors of its code.
+-- what is answered over the lists of stored images
 pub mod Reads
+-- the forms of images, and what is told of the first one
+pub mod Forms
 -- a mirror: how a run begins
 pub mod Front

@@ -1,19 +1,11 @@
--- What the reader and the picker answer over the house list. Assumes nothing.
-use mathlib.Core.Path.{_≡_}
-use mathlib.Core.List.{List, [], _∷_}
+-- What the reader and the picker answer over the lists that stored images keep to. Assumes nothing.
+use mathlib.Core.List.{List}
 use Prim.Native.Nat.{ℕ}
-use lib.ListN.{length}
 use Rattle.answer.specs.declared.Answer.{Answer}
-use Rattle.list.specs.Listing.{Listing}
-use Rattle.list_house.specs.House.{house}
+pub use Rattle.list_house.specs.Lists.{stored}
 use Rattle.image.specs.Kinds.{values}
 use Rattle.image.specs.Place.{Accepts, Reads}
 use Rattle.image.specs.Pick.{Picks, Answers, Hands}
-use Rattle.image_reading.specs.declared.first.Reading.{Reading}
-
--- the lists that images keep to
-abbrev pub stored : List Listing
-stored = house ∷ []
 
 -- the run begins with an image, n bytes long
 abbrev pub HouseAccepts : List ℕ → ℕ → Type 0
@@ -32,8 +24,3 @@ HouseAnswers run r n a = Answers values stored run r n a
 
 abbrev pub HouseHands : List ℕ → ℕ → ℕ → List ℕ → Type 0
 HouseHands run r n part = Hands values stored run r n part
-
--- a mirror: the answer, and where the items of the image begin
-pub record Begun (run : List ℕ) (r : Reading) : Type 0 where
-  pub reads : HouseReads run (r .answer)
-  pub place : r .answer .code ≡ 0 → (k : ℕ) (w : HouseAccepts run k) → r .from ≡ length (w .head)

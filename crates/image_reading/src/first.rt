@@ -1,53 +1,57 @@
 // The image that a run begins with: its length, or why it begins with none, and the values in it.
+use crate::front::Reading;
 use crate::front::front;
-use crate::front::named;
+use crate::front::refused;
 use answer::Answer;
 use image::picker::pick_from;
 use image::picker::picked_from;
 use image::reader::body;
+use list::lay::lay;
+use list::table::REF;
+use list_house::kinds::kind;
 use list_house::tables::rows;
-ghost use Rattle.image_reading.specs.Reads.{HouseReads, HouseAnswers, HouseHands, Begun};
+ghost use mathlib.Core.Path.{_≡_};
+ghost use Rattle.list.specs.Laid.{zeros, laid};
+ghost use Rattle.list_house.specs.Lists.{keptRows};
+ghost use Rattle.image_reading.specs.Reads.{HouseReads, HouseAnswers, HouseHands};
+ghost use Rattle.image_reading.specs.Forms.{Begun};
 
-// What was read, and where the items begin.
-pub(crate) struct Reading {
-    pub answer: Answer,
-    pub from: usize,
-}
-
-fn begun(run: &[u8]) -> Reading
-    ensures { λ r. ⌜ Begun (now (run .entry)) r ⌝ }
+// Reads it, over a table that is lent as zeros and is, where an image is accepted, its list's from then on: who goes on in that image
+// need not lay it again.
+fn begun(run: &[u8], table: &mut [u16; 4096]) -> Reading
+    requires { ⌜ now table ≡ zeros 4096 ⌝ }
+    ensures { λ r. ⌜ Begun (now (run .entry)) r × (r .answer .code ≡ 0 → now (table .exit) ≡ laid keptRows) ⌝ }
 {
-    if Answer::LIMIT < run.len() {
-        return Reading {
-            answer: Answer::too_long(),
-            from: 0,
-        };
-    }
-    if !named(run) {
-        return Reading {
-            answer: Answer::no_header(),
-            from: 0,
-        };
-    }
-    let from = front(run);
-    if from == 0 {
-        return Reading {
-            answer: Answer::wrong_version(),
-            from,
-        };
+    let front = front(run);
+    if front.form == 0 {
+        return front;
     }
     let rows = rows();
+    lay(&rows, table);
+    let answer = body(table, run, front.from);
+    if answer.code != Answer::ACCEPTED {
+        return refused(answer);
+    }
     Reading {
-        answer: body(&rows, run, from),
-        from,
+        answer,
+        form: front.form,
+        from: front.from,
     }
 }
 
-// The answer for a run: the length of the image that it begins with, or why it begins with none.
+// The answer for a run, the form of the image that it begins with, and where the items of that image begin.
+pub fn reading(run: &[u8]) -> Reading
+    ensures { λ r. ⌜ Begun (now (run .entry)) r ⌝ }
+{
+    let mut table = [0u16; 4096];
+    begun(run, &mut table)
+}
+
+// The answer alone: the length of the image that the run begins with, or why it begins with none.
 pub fn read(run: &[u8]) -> Answer
     ensures { λ a. ⌜ HouseReads (now (run .entry)) a ⌝ }
 {
-    let r = begun(run);
+    let r = reading(run);
     r.answer
 }
 
@@ -55,22 +59,28 @@ pub fn read(run: &[u8]) -> Answer
 pub fn pick(run: &[u8], row: usize, n: usize) -> Answer
     ensures { λ a. ⌜ HouseAnswers (now (run .entry)) row n a ⌝ }
 {
-    let r = begun(run);
+    let mut table = [0u16; 4096];
+    let r = begun(run, &mut table);
     if r.answer.code != Answer::ACCEPTED {
         return r.answer;
     }
-    let rows = rows();
-    pick_from(&rows, run, r.from, row, n)
+    if kind(row) < REF {
+        return Answer::no_such_leaf();
+    }
+    pick_from(&table, run, r.from, row, n)
 }
 
 // That part itself, without row byte and length; empty where `pick` refuses.
 pub fn picked<'a>(run: &'a [u8], row: usize, n: usize) -> &'a [u8]
     ensures { λ s. ⌜ HouseHands (now (run .entry)) row n (now s) ⌝ }
 {
-    let r = begun(run);
+    let mut table = [0u16; 4096];
+    let r = begun(run, &mut table);
     if r.answer.code != Answer::ACCEPTED {
         return &run[0..0];
     }
-    let rows = rows();
-    picked_from(&rows, run, r.from, row, n)
+    if kind(row) < REF {
+        return &run[0..0];
+    }
+    picked_from(&table, run, r.from, row, n)
 }

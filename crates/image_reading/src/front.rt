@@ -1,8 +1,30 @@
-// How a run begins: where the items of its first image stand, by its name and its version.
-ghost use Rattle.image_reading.specs.Front.{Kto, Named, Fronts};
+// How a run begins: the form of its first image, by its name and its version, and where the items of that image stand.
+use answer::Answer;
+ghost use mathlib.Core.Path.{_≡_};
+ghost use Rattle.image_reading.specs.Front.{Kto, Named, OfVersion, Fronts};
+
+// What is told of the image that a run begins with: the answer, its form and where its items begin; 0 and 0 where none begins there.
+pub struct Reading {
+    pub answer: Answer,
+    pub form: usize,
+    pub from: usize,
+}
+
+// The forms by number. Version 1:
+pub const FIRST: usize = 1;
+
+pub(crate) fn refused(answer: Answer) -> Reading
+    ensures { λ r. ⌜ (r .answer ≡ answer) × (r .form ≡ 0) × (r .from ≡ 0) ⌝ }
+{
+    Reading {
+        answer,
+        form: 0,
+        from: 0,
+    }
+}
 
 // Five bytes or more, the first three `KTO`.
-pub(crate) fn named(run: &[u8]) -> bool
+fn named(run: &[u8]) -> bool
     ensures { λ b. ⌜ Named (now (run .entry)) b ⌝ }
 {
     if run.len() < 5 {
@@ -17,16 +39,33 @@ pub(crate) fn named(run: &[u8]) -> bool
     run[2] == 79
 }
 
-// Where the items begin, behind version 1; 0 for every other version.
-pub(crate) fn front(run: &[u8]) -> usize
+// Version 1 in 16 bits behind the name.
+fn of_version_1(run: &[u8]) -> bool
     requires { ⌜ Kto (now run) ⌝ }
-    ensures { λ n. ⌜ Fronts (now (run .entry)) n ⌝ }
+    ensures { λ b. ⌜ OfVersion (now (run .entry)) b ⌝ }
 {
     if run[3] != 0 {
-        return 0;
+        return false;
     }
-    if run[4] != 1 {
-        return 0;
+    run[4] == 1
+}
+
+// All that is asked of a run before its items: the answer is code 0 and the header's length where an image may begin.
+pub(crate) fn front(run: &[u8]) -> Reading
+    ensures { λ r. ⌜ Fronts (now (run .entry)) r ⌝ }
+{
+    if Answer::LIMIT < run.len() {
+        return refused(Answer::too_long());
     }
-    5
+    if !named(run) {
+        return refused(Answer::no_header());
+    }
+    if !of_version_1(run) {
+        return refused(Answer::wrong_version());
+    }
+    Reading {
+        answer: Answer::accepted(5),
+        form: FIRST,
+        from: 5,
+    }
 }

@@ -1,3 +1,3 @@
 // Images of the house list: the first one of a run is read, and picked from.
-mod front; // front.rt: how a run begins
+pub mod front; // front.rt: how a run begins
 pub mod first; // first.rt: the image that it begins with

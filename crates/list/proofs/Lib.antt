@@ -27,3 +27,7 @@ pub mod Places
 pub mod Sound
 -- every row of a well-formed list
 pub mod EachRow
+-- a table over 256 rows says the same list
+pub mod Laid
+-- a list within another
+pub mod Within

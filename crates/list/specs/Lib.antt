@@ -7,8 +7,12 @@ pub mod Listing
 pub mod WellFormed
 -- contents, and what a list asks of one
 pub mod Content
+-- a list within another
+pub mod Within
 -- a list as two tables of numbers
 pub mod Table
+-- a table over 256 rows
+pub mod Laid
 -- tables that say a well-formed list, and what follows from it
 pub mod Sound
 -- what well-formedness says of a single row

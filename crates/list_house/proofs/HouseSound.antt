@@ -1,4 +1,5 @@
 -- The constants say the house list, and they are sound: two computed equations. Assumes nothing.
+-- Written by tools/lists/make.
 use mathlib.Core.Path.{_≡_, refl}
 use mathlib.Core.Bool.{true}
 use Prim.Native.Nat.{ℕ}
@@ -12,9 +13,11 @@ use Rattle.list.specs.Sound.{nextChild, firstOf, secondOf, levelIn, Sound}
 use Rattle.list.specs.Test.{every, begins, among, wordsOk, rowTests, ruleTests, derivedTests, well, derived, sound}
 use Rattle.list.specs.EachRow.{EachRow}
 use Rattle.list.proofs.EachRow.{each-row}
+use Rattle.list.proofs.Sound.{is-sound}
 use Rattle.list_house.specs.House.{house}
 use Rattle.list_house.specs.HouseTable.{houseRows, housePool}
-use Rattle.list.proofs.Sound.{is-sound}
+
+-- ---- camt.053.001.08
 
 pub house-is : listOf houseRows housePool ≡ house
 unfolding house houseRows housePool cell words rowOf rowsFrom rulesFrom listOf
@@ -30,6 +33,6 @@ house-sound = is-sound houseRows housePool house-test
 pub house-well : WellFormed house
 house-well = rw house-is at (house-sound .well)
 
--- and so every row of the house list keeps to the rules
+-- and so every row keeps to the rules
 pub house-row : (p r : ℕ) → Child house p r → EachRow house p r
 house-row p r c = each-row house house-well p r c

@@ -1,5 +1,9 @@
--- The definitions of `house`.
+-- The definitions of `list_house`.
 -- the house list
 pub mod House
 -- its tables
 pub mod HouseTable
+-- the kind of a row, as a number
+pub mod Kind
+-- the lists of files and of images
+pub mod Lists

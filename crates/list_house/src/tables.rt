@@ -1,9 +1,15 @@
 // The house list as its two tables.
+// Written by tools/lists/make.
 ghost use mathlib.Core.Path.{_≡_};
 ghost use Rattle.list_house.specs.HouseTable.{houseRows, housePool};
 
-// Sixteen cells a row (lookup's columns), row 0 the list's own.
-const ROWS: [u16; 928] = [
+// Rows of sixteen cells (lookup's columns), row 0 the list's own.
+pub type Rows = [u16; 928];
+
+// Names, words, namespace, one behind the other.
+pub type Pool = [u8; 311];
+
+const ROWS: Rows = [
     // the list: its rows, its namespace
     57,
     265,
@@ -992,19 +998,18 @@ const ROWS: [u16; 928] = [
     0,
 ];
 
-// Names, words, namespace, one behind the other.
-const POOL: [u8; 311] =
+const POOL: Pool =
     *b"DocumentBkToCstmrStmtGrpHdrMsgIdCreDtTmStmtIdElctrncSeqNbAcctIBANOthrCcyBalTpCdOrPrtryCdAmtCdtDbtIndDtNtryRvslIndStsBookgDtValDtAcctSvcrRefBkTxCdDomnFmlySubFmlyCdPrtryNtryDtlsTxDtlsRefsEndToEndIdMndtIdRltdPtiesDbtrPtyNmDbtrAcctRmtInfUstrdOPBD CLBD PRCDCRDT DBITBOOKurn:iso:std:iso:20022:tech:xsd:camt.053.001.08";
 
 // The rows of the house list. A constant is copied where it is named: bind this once, and lend it.
-pub fn rows() -> [u16; 928]
+pub fn rows() -> Rows
     ensures { λ r. ⌜ r ≡ houseRows ⌝ }
 {
     ROWS
 }
 
-// The names, words and namespace of the house list.
-pub fn pool() -> [u8; 311]
+// The names, words and namespace.
+pub fn pool() -> Pool
     ensures { λ r. ⌜ r ≡ housePool ⌝ }
 {
     POOL

@@ -1,4 +1,4 @@
--- The laws of `feed`.
+-- The laws of `program_feed`.
 -- a head, number by number, and what it asks for
 pub mod Heads
 -- a line, piece by piece

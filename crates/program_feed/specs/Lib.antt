@@ -1,4 +1,4 @@
--- The definitions of `feed`.
+-- The definitions of `program_feed`.
 -- what a head asks for
 pub mod Cases
 -- the lines that answer a feed

@@ -1,4 +1,4 @@
--- The definitions of `line`.
+-- The definitions of `program_line`.
 -- the line of an answer
 pub mod Line
 -- bytes in hexadecimal

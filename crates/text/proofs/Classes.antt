@@ -117,7 +117,7 @@ abbrev pub elem : List ℕ → ℕ → Bool
 elem [] x = false
 elem (k ∷ ks) x = eqb x k || elem ks x
 
-key-passes : (p : ℕ → Bool) (ks : List ℕ) → allOf p ks ≡ true → (x : ℕ) → OneOf ks x → p x ≡ true
+pub key-passes : (p : ℕ → Bool) (ks : List ℕ) → allOf p ks ≡ true → (x : ℕ) → OneOf ks x → p x ≡ true
 key-passes p (k ∷ []) e x h = rw h (and-is (p k) true e .0)
 key-passes p (k ∷ j ∷ ks) e x (inl h) = rw h (and-is (p k) (allOf p (j ∷ ks)) e .0)
 key-passes p (k ∷ j ∷ ks) e x (inr h) = key-passes p (j ∷ ks) (and-is (p k) (allOf p (j ∷ ks)) e .1) x h

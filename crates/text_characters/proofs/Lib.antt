@@ -1,4 +1,4 @@
--- The laws of `characters`.
+-- The laws of `text_characters`.
 -- the first character of a text, for any signs
 pub mod Chars
 -- a character of UTF-8 is decoded right

@@ -1,4 +1,4 @@
--- The definitions of `characters`.
+-- The definitions of `text_characters`.
 -- well-formed UTF-8 and its longest prefix
 pub mod Utf8
 -- XML characters and entities

@@ -44,7 +44,7 @@ module _ (s : List ℕ) (a : Answer) (p : Finds s a) where
       go d′ (long h e f) = long h e refl
       go d′ (bytes h u m q e f) = bytes h u m q e refl
       go d′ (markup h u x m q e f) = markup h u x m q e refl
-      go d′ (violation w c r o q e f) = violation w c r o q e refl
+      go d′ (violation w q f) = violation w q refl
       go d′ (room c f h e g) = absurd (omega (arith, h, image-no-longer s c f))
       go d′ (image c f h e g) = absurd (n (ap (λ (x : Answer). x .code) e))
 

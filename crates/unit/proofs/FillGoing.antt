@@ -9,6 +9,8 @@ use native.Mathlib.Omega.{arith}
 use lib.ListN.{length, drop, replicate, length-replicate}
 use lib.Seq.{slice}
 use borrow.Author.Tests.{lt-ltb}
+use Rattle.answer.specs.declared.Answer.{Answer}
+use Rattle.answer.specs.Table.{accepted, badValue}
 use Rattle.text.specs.Bytes.{isBlank}
 use Rattle.text.specs.Lists.{span}
 use Rattle.text.specs.Pasting.{pasted}
@@ -26,12 +28,12 @@ use Rattle.xml_tags.specs.declared.token.Token.{Token}
 use Rattle.xml_tags.specs.Passing.{but, headIs, behind}
 use Rattle.xml_tags.specs.Tokens.{openAt}
 use Rattle.xml_tags.specs.Story.{tokenIn}
-use Rattle.file_walk.specs.declared.verdict.Verdict.{Verdict}
+use Rattle.file_walk.specs.declared.found.Found.the-variants.{Fine}
 use Rattle.file_walk.specs.declared.step.Here.{Here}
-use Rattle.file_walk.specs.declared.step.Met.the-variants.{Opened, Closed, Refused}
+use Rattle.file_walk.specs.declared.step.Met.the-variants.{Opened, Closed}
 use Rattle.file_walk.specs.declared.step.Turn.{Turn}
 use Rattle.file_walk.specs.Types.{Types, Spelling}
-use Rattle.file_walk.specs.First.{fine, found, firstViolation}
+use Rattle.file_walk.specs.First.{firstViolation}
 use Rattle.file_walk.specs.Machine.{advance}
 use Rattle.file_walk.specs.Tables.{isGroupIn, levels}
 use Rattle.file_walk.specs.Stride.{rowIn, inner, stepIn, stackIn}
@@ -40,16 +42,15 @@ use Rattle.file_walk.proofs.Sound.{Placed, group-in}
 use Rattle.file_walk.proofs.Own.{Coins}
 use Rattle.file_walk.proofs.Beginning.{first-is}
 use Rattle.file_walk.proofs.Turned.{Nested, Enters, Leaves, refused, opened, closed, whole, Starts, denied, starts, finds}
-use Rattle.file_walk.proofs.Known.{less-is, is-open, close-end, blanks-less, Went, known, there, by-close, by-open, opened-here, closed-here}
+use Rattle.file_walk.proofs.Known.{less-is, is-open, close-end, blanks-less, Went, goesOn, known, there, by-close, by-open, opened-here, closed-here}
 use Rattle.image.specs.Image.{header}
 use Rattle.file.specs.Instance.{Kinds}
 use Rattle.unit.specs.declared.fill.Spot.{Spot}
-use Rattle.file_measure.specs.Measured.{verdict}
 use Rattle.file_measure.specs.Pass.{Shuts, Passes, violates, holds}
 use Rattle.unit.specs.Fill.{spotAt, Comes}
 use Rattle.file_measure.proofs.Leaf.{opens-group, opens-leaf, shuts-group}
 use Rattle.file.proofs.One.{fine-found}
-use Rattle.file_measure.proofs.Going.{isRefused, apart, Going, begun, goes-first, at-most, steps, step-enters, step-leaves, step-ends, goes-in, goes-out, bad-value, ends-in}
+use Rattle.file_measure.proofs.Going.{Going, begun, goes-first, at-most, steps, step-enters, step-leaves, step-ends, goes-in, goes-out, bad-value, ends-in}
 
 -- a stack to begin with: the walk asks of it only that it has room
 room : List ℕ
@@ -80,7 +81,7 @@ module _ (k : Kinds) (t pool s : List ℕ) (sd : Sound t pool) (x : HouseXml s) 
       pub group : isGroup (rowAt l (here .row) .kind) ≡ true
       pub last : (here .last ≡ 0) ⊎ Child l (here .row) (here .last)
 
-    module _ (coins : Coins T) (none : firstViolation T l (messageOf (x .tree)) ≡ fine) where
+    module _ (coins : Coins T) (none : firstViolation T l (messageOf (x .tree)) ≡ Fine) where
       -- ---- a step of the walk
 
       module _ (d st : List ℕ) (full : Here) (at : ℕ) (g : Going k t pool s sd x d₁ a₁ d st full at) where
@@ -96,15 +97,15 @@ module _ (k : Kinds) (t pool s : List ℕ) (sd : Sound t pool) (x : HouseXml s) 
         abbrev row : ℕ
         row = full .level .row
 
-        fine-here : finds T t pool s sd full (g .below) (g .ats) (g .rest) ≡ fine
+        fine-here : finds T t pool s sd full (g .below) (g .ats) (g .rest) ≡ Fine
         fine-here = sym (g .found) ∙ sym (first-is T l (sd .well) (x .tree) (x .good)) ∙ none
 
-        goes-on : turn .met ≢ Refused
-        goes-on m = elim (steps k t pool s sd x d₁ a₁ d st full at g coins turn st′ refl refl) [
-          | refused w ↦ fine-found _ _ _ _ fine-here (w .found)
-          | opened w ↦ apart isRefused (turn .met) Refused Opened m (w .met) refl refl
-          | closed w ↦ apart isRefused (turn .met) Refused Closed m (w .met) refl refl
-          | whole w ↦ apart isRefused (turn .met) Refused Closed m (w .met) refl refl
+        goes-on : goesOn (turn .met) ≡ true
+        goes-on = elim (steps k t pool s sd x d₁ a₁ d st full at g coins turn st′ refl refl) [
+          | refused w ↦ fine-found _ (w .answer) fine-here (w .found)
+          | opened w ↦ ap goesOn (w .met)
+          | closed w ↦ ap goesOn (w .met)
+          | whole w ↦ ap goesOn (w .met)
         ]
 
         pub went : Went t pool s st full turn
@@ -139,9 +140,9 @@ module _ (k : Kinds) (t pool s : List ℕ) (sd : Sound t pool) (x : HouseXml s) 
         unfolding advance
         below m = enters m .stands .nested .0
 
-        no-bad : (d′ : List ℕ) → Passes k l (messageOf (x .tree)) [] (verdict 12 row (full .level .place)) d′ → ⊥
-        no-bad d′ (violates c q z f h) = fine-found _ c q z none f
-        no-bad d′ (holds f c h v p) = let z : _≡_ {A = ℕ} 12 0 = ap (λ (u : Verdict). u .code) v in omega arith
+        no-bad : (d′ : List ℕ) → Passes k l (messageOf (x .tree)) [] (badValue row (full .level .place)) d′ → ⊥
+        no-bad d′ (violates f) = fine-found _ (badValue row (full .level .place)) none f
+        no-bad d′ (holds f c h v p) = let z : _≡_ {A = ℕ} 12 0 = ap (λ (u : Answer). u .code) v in omega arith
 
         -- the end of an element within another
         pub leaves-to : (m : turn .met ≡ Closed) (n : full .depth ≢ 0) (r : ℕ) (d′ : List ℕ)
@@ -164,7 +165,7 @@ module _ (k : Kinds) (t pool s : List ℕ) (sd : Sound t pool) (x : HouseXml s) 
         where
           w : Starts T t pool s sd (x .tree) first
           w = elim (begun k t pool s sd x first e) [
-            | denied v ↦ fine-found _ _ _ _ none (first-is T l (sd .well) (x .tree) (x .good) ∙ v .found)
+            | denied v ↦ fine-found _ (v .answer) none (first-is T l (sd .well) (x .tree) (x .good) ∙ v .found)
             | starts v ↦ v
           ]
 
@@ -214,7 +215,7 @@ module _ (k : Kinds) (t pool s : List ℕ) (sd : Sound t pool) (x : HouseXml s) 
           shut = by-close t pool s (w .st) full step gone o at-less b
 
           pub spot-ends : here .row ≡ 1 → Spelling T → (d₀ : List ℕ) → Puts d₀ 0 (header l ++ (1 ∷ [])) a₁ d₁ → (d′ : List ℕ) → d′ ≡ pasted d at (0 ∷ [])
-              → Passes k l (messageOf (x .tree)) d₀ (verdict 0 0 (at + 1)) d′
+              → Passes k l (messageOf (x .tree)) d₀ (accepted (at + 1)) d′
           spot-ends r y d₀ p d′ f =
               let n = is-root d (w .st) full at g (w .row ∙ r) shut in
               ends-in k t pool s sd x d₁ a₁ d (w .st) full at g y d₀ p stack step (step-ends k t pool s sd x d₁ a₁ d (w .st) full at g coins step stack refl refl shut n) d′ f

@@ -7,6 +7,7 @@ use Prim.Native.Nat.{ℕ, _+_, _-_, _≤_, _<_}
 use native.Mathlib.Omega.{arith}
 use lib.ListN.{length, drop}
 use lib.Seq.{slice}
+use Rattle.answer.specs.Table.{accepted}
 use Rattle.text.specs.Bytes.{isBlank}
 use Rattle.text.specs.Lists.{span}
 use Rattle.text.specs.Pasting.{pasted}
@@ -28,7 +29,7 @@ use Rattle.image.specs.Image.{header}
 use Rattle.file.specs.Instance.{houseKinds}
 use Rattle.file.proofs.House.{spelling}
 use Rattle.unit.specs.declared.fill.Spot.{Spot}
-use Rattle.file_measure.specs.Measured.{verdict, Faultless}
+use Rattle.file_measure.specs.Measured.{Faultless}
 use Rattle.file_measure.specs.Pass.{Shuts, Ready}
 use Rattle.unit.specs.Fill.{spotAt, Comes, FilledIn}
 use Rattle.file_measure.proofs.Coin.{coins}
@@ -68,7 +69,7 @@ module _ (t pool s : List ℕ) where
           pub fill-ends : here .row ≡ 1 → (d₀ : List ℕ) → Puts d₀ 0 (header (listOf t pool) ++ (1 ∷ [])) a₁ d₁ → (d′ : List ℕ) → d′ ≡ pasted d at (0 ∷ [])
               → FilledIn houseKinds (listOf t pool) s d₀ d′
           fill-ends r d₀ p d′ f q m h =
-              filled-of houseKinds (listOf t pool) spelling (sd .well) s q m d₀ (verdict 0 0 (at + 1)) d′
+              filled-of houseKinds (listOf t pool) spelling (sd .well) s q m d₀ (accepted (at + 1)) d′
               (spot-ends houseKinds t pool s sd (m .xml) d₁ a₁ coins (pre .1 (m .xml)) d here at (w sd (m .xml)) o e (sym is ∙ y) r spelling d₀ p d′ f) h
 
           module _ (r : here .row ≢ 1) (p : ℕ) (f : p ≡ cell t (here .row) 0) (z : ℕ) (g : z ≡ behind greater (o + 1) (drop (o + 1) s)) (here′ : Spot) (h : here′ ≡ spotAt p (here .row) z) where

@@ -34,7 +34,7 @@ module _ (s d e : List ℕ) (n : length d ≡ length e) where
   moved a d′ (long h q r) = (e, long h q refl)
   moved a d′ (bytes h u k l q r) = (e, bytes h u k l q refl)
   moved a d′ (markup h u x k l q r) = (e, markup h u x k l q refl)
-  moved a d′ (violation w c x o f q r) = (e, violation w c x o f q refl)
+  moved a d′ (violation w f r) = (e, violation w f refl)
   moved a d′ (room c f h q r) = (e, room c f (omega (arith, n)) q refl)
   moved a d′ (image c f h q r) = (imageOf houseKinds house c ++ drop (length (imageOf houseKinds house c)) e, image c f (omega (arith, n)) q refl)
 

@@ -1,4 +1,4 @@
--- The definitions of `unit`; what check may answer is in `demands`.
+-- The definitions of `unit`; what check may answer is in `file`.
 -- the pass that writes
 pub mod Fill
 -- what the exports for C answer

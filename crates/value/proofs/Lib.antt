@@ -1,4 +1,4 @@
--- The laws of `types`.
+-- The laws of `value`.
 -- what the classes say of numbers
 pub mod Classes
 -- texts by their bytes
@@ -43,8 +43,8 @@ pub mod Variants
 pub mod Numbered
 -- judgements by kind are right
 pub mod Rights
--- the worked examples of document 01 on values
-pub mod Stars
+-- examples of document 01 on values
+pub mod Examples
 -- blanks at both ends, taken by the decision
 pub mod Trimming
 -- days and moments, read by the decision

@@ -1,4 +1,4 @@
--- The definitions of `types`: a kind of value has a file; Value puts them together.
+-- The definitions of `value`: a kind of value has a file; Value puts them together.
 -- references and texts
 pub mod Text
 -- account numbers, currencies, listed words

@@ -1,4 +1,4 @@
--- A decision: which characters a raw text spells, computed; `Spells` of `text` says what is right, and proofs/Resolved that this is it. Assumes nothing.
+-- A decision: which characters a raw text spells, computed; `Spells` of `text_characters` says what is right, and proofs/Resolved that this is it. Assumes nothing.
 use mathlib.Core.Bool.{cond}
 use mathlib.Core.List.{List, [], _∷_}
 use mathlib.Core.Option.{Option, some, none}

@@ -1,4 +1,4 @@
--- The laws of `stored`.
+-- The laws of `value_from_bytes`.
 -- tests of lists, and what they say
 pub mod Listed
 -- what it is that bytes are exactly those of a kind's values

@@ -1,4 +1,4 @@
--- The definition of `stored`, and the mirrors of its code; what ties them is in proofs/Meaning.
+-- The definition of `value_from_bytes`, and the mirrors of its code; what ties them is in proofs/Meaning.
 -- where a stored value ends
 pub mod Stands
 -- a mirror: tests of lists

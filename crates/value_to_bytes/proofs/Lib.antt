@@ -1,4 +1,4 @@
--- The laws of `written`.
+-- The laws of `value_to_bytes`.
 -- a value's parts put one behind the other
 pub mod Putting
 -- three capitals, byte by byte

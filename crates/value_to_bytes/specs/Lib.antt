@@ -1,4 +1,4 @@
--- The definitions of `written`.
+-- The definitions of `value_to_bytes`.
 -- the bytes of the value that a raw text spells, and what is written of them
 pub mod Giving
 -- a mirror: the bytes between entities

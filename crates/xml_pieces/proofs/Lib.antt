@@ -1,4 +1,4 @@
--- The laws of `pieces`.
+-- The laws of `xml_pieces`.
 -- over a construct, a byte at a time, and that only one answer fits
 pub mod Overs
 -- given bytes

@@ -1,4 +1,4 @@
--- The definitions of `pieces`.
+-- The definitions of `xml_pieces`.
 -- what a function that goes over a construct answers
 pub mod Over
 -- the constructs: pieces, given bytes, rows of `]`, runs by a table

@@ -1,9 +1,9 @@
--- The laws of `scan`.
+-- The laws of `xml_scan`.
 -- what comes of a text from a place and a state on
 pub mod Fate
 -- constructs one after the other
 pub mod Goes
--- what the functions of `pieces` say of the automaton
+-- what the functions of `xml_pieces` say of the automaton
 pub mod Passed
 -- the table of classes
 pub mod Classes

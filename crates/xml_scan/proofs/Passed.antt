@@ -1,4 +1,4 @@
--- What the functions of `pieces` say of the automaton. Assumes nothing.
+-- What the functions of `xml_pieces` say of the automaton. Assumes nothing.
 use mathlib.Core.Path.{_≡_, refl, sym, _∙_, ap, subst}
 use mathlib.Core.Bool.{Bool, true, false, cond}
 use mathlib.Core.List.{List, [], _∷_}

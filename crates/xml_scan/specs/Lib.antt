@@ -1,4 +1,4 @@
--- The definitions of `scan`.
+-- The definitions of `xml_scan`.
 -- what the answer says
 pub mod Right
 -- a mirror: the table of classes

@@ -1,4 +1,4 @@
--- The laws of `tags`.
+-- The laws of `xml_tags`.
 -- bytes passed at once
 pub mod Passing
 -- a text or a value holds no byte that ends it

@@ -1,4 +1,4 @@
--- The definitions of `tags`.
+-- The definitions of `xml_tags`.
 -- a message in document order, and what a cursor that goes from token to token tells of a text
 pub mod Story
 -- the places of a tag and of an attribute of a tree

@@ -6,5 +6,5 @@ mod draft;
 mod made;
 
 pub use damage::damage;
-pub use draft::{Draft, Part, Style};
+pub use draft::{Draft, Part, Path, Style};
 pub use made::{valid, Size};

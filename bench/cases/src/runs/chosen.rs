@@ -2,23 +2,28 @@
 
 use independent::list::{find, Kind};
 
-use super::{image_of, put_together, take_apart};
+use super::{image_of, items_of, put_together, take_apart};
 use crate::feed::Case;
 use crate::message::chosen::{EVERY_ROW, WHOLE};
 
 /// The fixed set for programs in the gate: reads and picks.
 pub fn fixed_set() -> Vec<Case> {
+    let mut cases: Vec<Case> = reads().into_iter().map(Case::read).collect();
+    cases.extend(picks(&image_of(WHOLE.as_bytes()), &image_of(EVERY_ROW.as_bytes())));
+    cases
+}
+
+/// The runs of the fixed set that are read.
+pub fn reads() -> Vec<Vec<u8>> {
     let whole = image_of(WHOLE.as_bytes());
     let every_row = image_of(EVERY_ROW.as_bytes());
-    let mut cases = Vec::new();
-    cases.extend(cuts(&whole).into_iter().map(Case::read));
-    cases.extend(heads(&whole).into_iter().map(Case::read));
-    cases.extend(joined(&whole, &every_row).into_iter().map(Case::read));
-    cases.extend(items_changed(&every_row).into_iter().map(Case::read));
-    cases.extend(bad_values_in(&every_row).into_iter().map(Case::read));
-    cases.extend(orders().into_iter().map(Case::read));
-    cases.extend(picks(&whole, &every_row));
-    cases
+    let mut runs = cuts(&whole);
+    runs.extend(heads(&whole));
+    runs.extend(joined(&whole, &every_row));
+    runs.extend(items_changed(&every_row));
+    runs.extend(bad_values_in(&every_row));
+    runs.extend(orders());
+    runs
 }
 
 /// Every beginning of an image, and the whole of it.
@@ -215,8 +220,6 @@ fn odd_times() -> Vec<Vec<u8>> {
 
 /// Orders of items in one entry's details, written as rows; each begins with a whole statement and entry.
 fn orders() -> Vec<Vec<u8>> {
-    let every_row = take_apart(&image_of(EVERY_ROW.as_bytes()));
-    let item = |row: u8| every_row.iter().find(|item| item[0] == row).expect("every row").clone();
     let up_to_entry = [1, 2, 3, 4, 5, 6, 7, 9, 10, 11, 15, 16, 17, 18, 19, 20, 21, 22, 23, 24, 25, 27, 28, 34];
     let details: [&[u8]; 36] = [
         &[],
@@ -256,7 +259,7 @@ fn orders() -> Vec<Vec<u8>> {
         &[40, 41, 42, 43, 56, 57, 15],
         &[40, 41, 42, 43, 56, 57, 6],
     ];
-    let run = |rows: &[u8]| put_together(&rows.iter().map(|row| item(*row)).collect::<Vec<_>>());
+    let run = |rows: &[u8]| put_together(&items_of(rows));
     let mut runs: Vec<Vec<u8>> = details.iter().map(|rows| run(&[&up_to_entry[..], rows].concat())).collect();
     runs.push(run(&[1, 2, 3, 4, 5, 6, 7, 9, 10, 11, 12, 13]));
     runs.push(run(&[1, 2, 3, 4, 5, 6, 7, 9, 10, 12, 11]));

@@ -3,11 +3,13 @@
 mod chosen;
 mod damage;
 
-pub use chosen::fixed_set;
+pub use chosen::{fixed_set, reads};
 pub use damage::damaged;
 
 use independent::content::{END, HEADER};
 use independent::read::first_image;
+
+use crate::message::chosen::EVERY_ROW;
 
 /// The image of an accepted file.
 pub fn image_of(file: &[u8]) -> Vec<u8> {
@@ -23,6 +25,19 @@ pub fn take_apart(image: &[u8]) -> Vec<Vec<u8>> {
 }
 
 /// Header, items, closing 0.
-pub fn put_together(items: &[Vec<u8>]) -> Vec<u8> {
-    [&HEADER[..], &items.concat(), &[END]].concat()
+pub fn put_together(items: &[impl AsRef<[u8]>]) -> Vec<u8> {
+    let items = items.iter().flat_map(AsRef::as_ref);
+    HEADER.iter().chain(items).chain(&[END]).copied().collect()
+}
+
+/// An item for each of these rows, as the message with every row has it first.
+pub fn items_of(rows: &[u8]) -> Vec<Vec<u8>> {
+    let every_row = take_apart(&image_of(EVERY_ROW.as_bytes()));
+    rows.iter().map(|row| every_row.iter().find(|item| item[0] == *row).expect("every row").clone()).collect()
+}
+
+/// Bytes with blanks behind them up to a length.
+pub fn filled(mut bytes: Vec<u8>, length: usize) -> Vec<u8> {
+    bytes.resize(length, b' ');
+    bytes
 }

@@ -9,6 +9,11 @@ pub struct Amount {
 }
 
 impl Amount {
+    /// Its currency as text.
+    pub fn currency(&self) -> String {
+        self.currency.iter().copied().map(char::from).collect()
+    }
+
     /// "scale is at most 5, coefficient below 10^18", and the scale is the smallest: with a scale above 0, the last digit
     /// of the coefficient is not 0.
     pub fn is_canonical(&self) -> bool {

@@ -2,25 +2,28 @@
 //! difference. Exit status: 0 none, 1 a difference, 2 a fault of its own.
 
 use std::fs;
+use std::io::{self, Write};
 use std::path::PathBuf;
 use std::process::ExitCode;
 use std::time::{Instant, SystemTime, UNIX_EPOCH};
 
-use tools::compare::compare;
-use tools::unit::Unit;
+use cases::feed::ALL_OPS;
+use tools::compare::{compare, Asked};
+use tools::output::{self, named};
+use tools::unit::{Unit, KNOWN_OPS};
 
 struct Options {
-    seed: u64,
-    cases: u64,
-    first: u64,
+    asked: Asked,
     keep: Option<PathBuf>,
     unit: Unit,
 }
 
-const USAGE: &str = "usage: compare [--seed S] [--cases N] [--first I] [--keep FILE] [--replay PATH | --independent]
+const USAGE: &str =
+    "usage: compare [--seed S] [--cases N] [--first I] [--ops LIST] [--keep FILE] [--replay PATH | --independent]
   --seed S       the seed of the cases (a fresh one without it)
   --cases N      how many (20000)
   --first I      the number of the first case (0)
+  --ops LIST     the ops that are asked for, as 0,1,2 (those that the unit knows): 0 check, 1 read, 2 pick, 3 write
   --keep FILE    where to write the bytes of a case that differs
   --replay PATH  the proved program replay (target/bin/replay, or what REPLAY names)
   --independent  the independent program in place of the unit, to try compare itself";
@@ -28,13 +31,15 @@ const USAGE: &str = "usage: compare [--seed S] [--cases N] [--first I] [--keep F
 fn options() -> Option<Options> {
     let fresh = SystemTime::now().duration_since(UNIX_EPOCH).map_or(1, |time| time.as_nanos() as u64 % 1_000_000_000);
     let path = std::env::var("REPLAY").unwrap_or("target/bin/replay".to_string());
-    let mut options = Options { seed: fresh, cases: 20_000, first: 0, keep: None, unit: Unit::Replay(path.into()) };
+    let asked = Asked { ops: KNOWN_OPS.to_vec(), seed: fresh, first: 0, count: 20_000 };
+    let mut options = Options { asked, keep: None, unit: Unit::Replay(path.into()) };
     let mut words = std::env::args().skip(1);
     while let Some(word) = words.next() {
         match word.as_str() {
-            "--seed" => options.seed = words.next()?.parse().ok()?,
-            "--cases" => options.cases = words.next()?.parse().ok()?,
-            "--first" => options.first = words.next()?.parse().ok()?,
+            "--seed" => options.asked.seed = words.next()?.parse().ok()?,
+            "--cases" => options.asked.count = words.next()?.parse().ok()?,
+            "--first" => options.asked.first = words.next()?.parse().ok()?,
+            "--ops" => options.asked.ops = ops(&words.next()?)?,
             "--keep" => options.keep = Some(words.next()?.into()),
             "--replay" => options.unit = Unit::Replay(words.next()?.into()),
             "--independent" => options.unit = Unit::Independent,
@@ -44,47 +49,54 @@ fn options() -> Option<Options> {
     Some(options)
 }
 
+/// Ops that the independent program answers.
+fn ops(list: &str) -> Option<Vec<u8>> {
+    list.split(',').map(|op| op.parse().ok().filter(|op| ALL_OPS.contains(op))).collect()
+}
+
 fn main() -> ExitCode {
     let Some(options) = options() else {
         eprintln!("{USAGE}");
         return ExitCode::from(2);
     };
-    let asked = match &options.unit {
+    output::run("compare", |out| compare_all(&options, out))
+}
+
+fn compare_all(Options { asked, keep, unit }: &Options, out: &mut dyn Write) -> io::Result<u8> {
+    let who = match unit {
         Unit::Replay(path) => path.display().to_string(),
         Unit::Independent => "the independent program itself".to_string(),
     };
-    println!("seed {}, {} cases, asked: {asked}", options.seed, options.cases);
+    writeln!(out, "seed {}, {} cases, asked: {who}", asked.seed, asked.count)?;
+    out.flush()?;
     let start = Instant::now();
-    let found = match compare(&options.unit, options.seed, options.first, options.cases) {
-        Ok(found) => found,
-        Err(error) => {
-            eprintln!("compare: {error}");
-            return ExitCode::from(2);
-        }
-    };
-    print!("{found}");
+    let found = compare(unit, asked)?;
+    write!(out, "{found}")?;
     let seconds = start.elapsed().as_secs_f32();
-    match found.difference {
-        None => {
-            println!("{} cases, no difference, {seconds:.1} s", found.compared);
-            if options.first == 0 && options.cases >= 20_000 && !found.reached_every_code() {
-                println!("but not every code from 0 to 18 was reached");
-                return ExitCode::from(2);
-            }
-            ExitCode::SUCCESS
+    let Some(difference) = &found.difference else {
+        writeln!(out, "{} cases, no difference, {seconds:.1} s", found.compared)?;
+        if asked.first == 0 && asked.count >= 20_000 && !found.unreached().is_empty() {
+            writeln!(out, "but these codes were never the answer: {:?}", found.unreached())?;
+            return Ok(2);
         }
-        Some(difference) => {
-            println!("a difference after {} cases, {seconds:.1} s", found.compared);
-            print!("{difference}");
-            let again = format!("--seed {} --first {} --cases 1", options.seed, difference.number);
-            println!("  again: compare {again}");
-            if let Some(path) = &options.keep {
-                match fs::write(path, &difference.case.bytes) {
-                    Ok(()) => println!("  its bytes are in {}", path.display()),
-                    Err(error) => eprintln!("compare: {}: {error}", path.display()),
-                }
-            }
-            ExitCode::FAILURE
-        }
+        return Ok(0);
+    };
+    writeln!(out, "a difference after {} cases, {seconds:.1} s", found.compared)?;
+    write!(out, "{difference}")?;
+    writeln!(out, "  again: compare {}", again(asked, difference.number))?;
+    if let Some(path) = keep {
+        fs::write(path, &difference.case.bytes).map_err(named(path))?;
+        writeln!(out, "  its bytes are in {}", path.display())?;
     }
+    Ok(1)
+}
+
+/// The words that ask for one case again.
+fn again(asked: &Asked, number: u64) -> String {
+    let mut words = format!("--seed {} --first {number} --cases 1", asked.seed);
+    if asked.ops != KNOWN_OPS {
+        let ops: Vec<String> = asked.ops.iter().map(u8::to_string).collect();
+        words += &format!(" --ops {}", ops.join(","));
+    }
+    words
 }

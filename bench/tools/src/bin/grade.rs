@@ -1,43 +1,123 @@
-//! `grade FILE..` judges statement files with the unit and says what is wrong where; `grade show IMAGE..` prints images.
-//! Exit status: 0 all accepted, 1 some refused, 2 a fault of its own.
+//! `grade FILE..` judges statement files with the unit and says what is wrong where; `grade show IMAGE..` prints images, `grade write
+//! IMAGE..` writes them as files, `grade make DIR` makes statements. Exit status: 0 all accepted, 1 some refused, 2 a fault of its own.
 
+use std::ffi::OsString;
 use std::fs;
-use std::io;
-use std::path::PathBuf;
+use std::io::{self, Write};
+use std::path::{Path, PathBuf};
 use std::process::ExitCode;
 
-use tools::grade::{find_files, grade, show};
+use cases::statement::CODES;
+use tools::grade::{
+    find_files, judge, keep, make_files, object, show, write_files, Found, Order, Outcome, Page, Report, Tally,
+};
+use tools::output::{self, named};
 use tools::unit::Unit;
 
-const USAGE: &str = "usage: grade [--write DIR] FILE..      judge statement files, and the .xml files of folders
-       grade show IMAGE..               print images as trees
+const USAGE: &str = "usage: grade [OPTIONS] FILE..                 judge statement files, and the .xml files of folders
+       grade show IMAGE..                     print images as trees
+       grade write [--write DIR] IMAGE..      write images as statement files, NAME.xml beside each image or in DIR
+       grade make [--seed S] [--entries N] [--files M] [--code C|all] [--dense] DIR
+                                              make statements, and a table of the answers that they must get
 options:
   --write DIR    keep the images of accepted files, as DIR/NAME.kto
+  --json         one JSON object for each file, a line each, and nothing else
+  --html FILE    also write a report that a browser shows
   --replay PATH  the proved program replay (target/bin/replay, or what REPLAY names)
-  --independent  judge with the independent program instead of the unit";
+  --independent  ask the independent program instead of the unit
+of make:
+  --seed S       the first file's seed, the next file has the next one (1)
+  --entries N    how many entries each statement has (20)
+  --files M      how many files (1; with --code all 14)
+  --code C       the code that each must get, 0 to 13, or all of them in turn (0: good ones)
+  --dense        no declaration and no blanks between tags";
+
+#[derive(Clone, Copy, PartialEq)]
+enum Verb {
+    Judge,
+    Show,
+    Write,
+    Make,
+}
 
 struct Options {
     unit: Unit,
-    show: bool,
+    verb: Verb,
     write: Option<PathBuf>,
+    json: bool,
+    html: Option<PathBuf>,
+    /// What `make` is asked for; a word of its own belongs to no other verb.
+    order: Order,
+    of_make: bool,
     words: Vec<PathBuf>,
 }
 
-fn options() -> Option<Options> {
-    let path = std::env::var("REPLAY").unwrap_or("target/bin/replay".to_string());
-    let mut options = Options { unit: Unit::Replay(path.into()), show: false, write: None, words: Vec::new() };
-    let mut words = std::env::args_os().skip(1);
-    while let Some(word) = words.next() {
-        match word.to_str() {
-            Some("--write") => options.write = Some(words.next()?.into()),
-            Some("--replay") => options.unit = Unit::Replay(words.next()?.into()),
-            Some("--independent") => options.unit = Unit::Independent,
-            Some("show") if options.words.is_empty() && !options.show => options.show = true,
-            Some(unknown) if unknown.starts_with('-') => return None,
-            _ => options.words.push(word.into()),
+impl Options {
+    fn new() -> Options {
+        let path = std::env::var("REPLAY").unwrap_or("target/bin/replay".to_string());
+        Options {
+            unit: Unit::Replay(path.into()),
+            verb: Verb::Judge,
+            write: None,
+            json: false,
+            html: None,
+            order: Order { seed: 1, entries: 20, files: 0, codes: vec![0], dense: false },
+            of_make: false,
+            words: Vec::new(),
         }
     }
-    (!options.words.is_empty()).then_some(options)
+
+    /// Takes a word of the command line, and those that belong to it.
+    fn take(&mut self, word: OsString, words: &mut impl Iterator<Item = OsString>) -> Option<()> {
+        let is_first = self.words.is_empty() && self.verb == Verb::Judge;
+        match word.to_str() {
+            Some("--write") => self.write = Some(words.next()?.into()),
+            Some("--json") => self.json = true,
+            Some("--html") => self.html = Some(words.next()?.into()),
+            Some("--replay") => self.unit = Unit::Replay(words.next()?.into()),
+            Some("--independent") => self.unit = Unit::Independent,
+            Some("show") if is_first => self.verb = Verb::Show,
+            Some("write") if is_first => self.verb = Verb::Write,
+            Some("make") if is_first => self.verb = Verb::Make,
+            Some(option) if option.starts_with('-') => self.take_of_make(option, words)?,
+            _ => self.words.push(word.into()),
+        }
+        Some(())
+    }
+
+    fn take_of_make(&mut self, option: &str, words: &mut impl Iterator<Item = OsString>) -> Option<()> {
+        self.of_make = true;
+        if option == "--dense" {
+            self.order.dense = true;
+            return Some(());
+        }
+        let value = words.next()?.into_string().ok()?;
+        match option {
+            "--seed" => self.order.seed = value.parse().ok()?,
+            "--entries" => self.order.entries = value.parse().ok()?,
+            "--files" => self.order.files = value.parse().ok()?,
+            "--code" if value == "all" => self.order.codes = CODES.collect(),
+            "--code" => self.order.codes = vec![value.parse().ok()?],
+            _ => return None,
+        }
+        Some(())
+    }
+}
+
+fn options() -> Option<Options> {
+    let mut options = Options::new();
+    let mut words = std::env::args_os().skip(1);
+    while let Some(word) = words.next() {
+        options.take(word, &mut words)?;
+    }
+    if options.order.files == 0 {
+        options.order.files = options.order.codes.len();
+    }
+    let good = match options.verb {
+        Verb::Make => options.words.len() == 1,
+        _ => !options.words.is_empty() && !options.of_make,
+    };
+    good.then_some(options)
 }
 
 fn main() -> ExitCode {
@@ -45,33 +125,67 @@ fn main() -> ExitCode {
         eprintln!("{USAGE}");
         return ExitCode::from(2);
     };
-    if let Unit::Independent = options.unit {
-        println!("judged by the independent program, not by the unit");
-    }
-    let done = if options.show { show_all(&options) } else { grade_all(&options) };
-    match done {
-        Ok(status) => ExitCode::from(status),
-        Err(error) => {
-            eprintln!("grade: {error}");
-            ExitCode::from(2)
+    output::run("grade", |out| {
+        if options.verb == Verb::Make {
+            return make_files(&options.order, &options.words[0], out).map(|()| 0);
         }
+        say_who(&options, out)?;
+        match options.verb {
+            Verb::Make => unreachable!("made above"),
+            Verb::Judge => grade_all(&options, out),
+            Verb::Show => each_run(&options, out, |path, run, out| {
+                writeln!(out, "{}", path.display())?;
+                show(&options.unit, run, out)
+            }),
+            Verb::Write => each_run(&options, out, |path, run, out| {
+                let beside = path.parent().unwrap_or(Path::new(""));
+                let folder = options.write.as_deref().unwrap_or(beside);
+                write_files(&options.unit, path, run, folder, out)
+            }),
+        }
+    })
+}
+
+/// Nobody shall take the independent program's word for the unit's. Objects stand alone on standard output.
+fn say_who(options: &Options, out: &mut dyn Write) -> io::Result<()> {
+    const NOT_THE_UNIT: &str = "judged by the independent program, not by the unit";
+    match options.unit {
+        Unit::Replay(_) => Ok(()),
+        Unit::Independent if options.json => writeln!(io::stderr(), "{NOT_THE_UNIT}"),
+        Unit::Independent => writeln!(out, "{NOT_THE_UNIT}"),
     }
 }
 
-fn grade_all(options: &Options) -> io::Result<u8> {
+fn grade_all(options: &Options, out: &mut dyn Write) -> io::Result<u8> {
     let found = find_files(&options.words);
-    let mut tally = grade(&options.unit, &found.files, options.write.as_deref())?;
+    let mut tally = Tally::default();
+    let mut page = Page::new(match options.unit {
+        Unit::Replay(_) => "the unit",
+        Unit::Independent => "the independent program, not by the unit",
+    });
+    let mut take = |report: Report, image: &[u8]| {
+        tally.add(&report.outcome);
+        match options.json {
+            true => writeln!(out, "{}", object(&report))?,
+            false => write!(out, "{report}")?,
+        }
+        if let (Some(folder), Outcome::Accepted(_)) = (&options.write, &report.outcome) {
+            keep(folder, &report.path, "kto", image)?;
+        }
+        if options.html.is_some() {
+            page.add(report);
+        }
+        out.flush()
+    };
+    judge(&options.unit, &found.files, &mut take)?;
     for (path, error) in &found.unreadable {
-        println!("{}: can't be read: {error}", path.display());
-        tally.unreadable += 1;
+        take(Report { path: path.clone(), outcome: Outcome::Unreadable(error.to_string()) }, &[])?;
     }
-    if found.files.len() > 1 {
-        println!("{}", tally.summary());
+    if !options.json {
+        say_all(&found, &tally, out)?;
     }
-    match found.left_aside {
-        0 => {}
-        1 => println!("1 file whose name doesn't end in .xml was left aside; name it to have it judged"),
-        many => println!("{many} files whose names don't end in .xml were left aside; name one to have it judged"),
+    if let Some(path) = &options.html {
+        fs::write(path, page.text()).map_err(named(path))?;
     }
     Ok(match (tally.unreadable, tally.refused()) {
         (0, 0) => 0,
@@ -80,19 +194,37 @@ fn grade_all(options: &Options) -> io::Result<u8> {
     })
 }
 
-fn show_all(options: &Options) -> io::Result<u8> {
+/// The tally where there are several files, and what was left aside.
+fn say_all(found: &Found, tally: &Tally, out: &mut dyn Write) -> io::Result<()> {
+    if found.files.len() > 1 {
+        write!(out, "{tally}")?;
+    }
+    match found.left_aside {
+        0 => Ok(()),
+        1 => writeln!(out, "1 file whose name doesn't end in .xml was left aside; name it to have it judged"),
+        many => {
+            writeln!(out, "{many} files whose names don't end in .xml were left aside; name one to have it judged")
+        }
+    }
+}
+
+/// Does something with each run of images that is named; it says whether all is well with the run.
+fn each_run(
+    options: &Options,
+    out: &mut dyn Write,
+    act: impl Fn(&Path, &[u8], &mut dyn Write) -> io::Result<bool>,
+) -> io::Result<u8> {
     let mut status = 0;
     for path in &options.words {
         let run = match fs::read(path) {
             Ok(run) => run,
             Err(error) => {
-                println!("{}: can't be read: {error}", path.display());
+                writeln!(out, "{}: can't be read: {error}", path.display())?;
                 status = 2;
                 continue;
             }
         };
-        println!("{}", path.display());
-        if !show(&options.unit, &run)? {
+        if !act(path, &run, out)? {
             status = status.max(1);
         }
     }

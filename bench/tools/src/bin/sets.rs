@@ -1,12 +1,21 @@
-//! `sets KIND DIR`: writes a stored set for a program of the gate, the feed as DIR/stdin and the lines that the independent
-//! program expects as DIR/stdout. KIND is xml, values, runs, checks, feed or kto. The sets are fixed: each run writes the same bytes.
+//! `sets KIND DIR`: writes a stored set for a program of the gate, with what the independent program answers. The sets are fixed:
+//! each run writes the same bytes.
+//!
+//! A set is one input, DIR/stdin, and what must come out, DIR/stdout. Of a program that takes one input a time (kto, writes, images)
+//! these are the first of several, and each is there as DIR/NUMBER.in and DIR/NUMBER.out.
 
 use std::fs;
+use std::io;
 use std::path::Path;
 use std::process::ExitCode;
 
 use cases::feed::{hexadecimal, Case};
+use cases::inputs::{self, Said};
 use independent::house;
+use tools::output::{self, named};
+use tools::unit::KNOWN_OPS;
+
+const USAGE: &str = "usage: sets xml|values|runs|checks|feed|kto|writes|images DIR";
 
 /// A feed and the lines expected.
 #[derive(Default)]
@@ -27,39 +36,59 @@ impl Set {
 
 fn main() -> ExitCode {
     let arguments: Vec<String> = std::env::args().skip(1).collect();
-    let set = match arguments.first().map(String::as_str) {
-        Some("xml") => xml(),
-        Some("values") => values(),
-        Some("runs") => replayed(cases::runs::fixed_set()),
-        Some("checks") => replayed(cases::checks::fixed_set()),
-        Some("feed") => broken_off(replayed([cases::checks::fixed_set(), cases::runs::fixed_set()].concat())),
-        Some("kto") => return inputs(&arguments),
-        _ => return usage(),
-    };
     let [kind, folder] = &arguments[..] else {
-        return usage();
+        eprintln!("{USAGE}");
+        return ExitCode::from(2);
     };
-    match write(Path::new(folder), &set) {
-        Ok(()) => {
-            println!("{kind}: {} cases, {} bytes of feed", set.count, set.feed.len());
-            ExitCode::SUCCESS
+    output::run("sets", |out| {
+        let Some(size) = write(kind, Path::new(folder))? else {
+            eprintln!("{USAGE}");
+            return Ok(2);
+        };
+        writeln!(out, "{kind}: {size}")?;
+        Ok(0)
+    })
+}
+
+/// Writes the set of a kind, if there is such a kind, and says how large it is.
+fn write(kind: &str, folder: &Path) -> io::Result<Option<String>> {
+    let set = match kind {
+        "xml" => xml(),
+        "values" => values(),
+        "runs" => replayed(cases::runs::fixed_set()),
+        "checks" => replayed(cases::checks::fixed_set()),
+        "feed" => broken_off(replayed(known())),
+        "kto" => return write_inputs(folder, inputs::kto()).map(Some).map_err(named(folder)),
+        "writes" => return write_inputs(folder, inputs::writes()).map(Some).map_err(named(folder)),
+        "images" => return write_inputs(folder, inputs::images()).map(Some).map_err(named(folder)),
+        _ => return Ok(None),
+    };
+    write_pair(folder, ("stdin", &set.feed), ("stdout", set.lines.as_bytes())).map_err(named(folder))?;
+    Ok(Some(format!("{} cases, {} bytes of feed", set.count, set.feed.len())))
+}
+
+/// One run for each input: the first as stdin and stdout, and each as NUMBER.in and NUMBER.out.
+fn write_inputs(folder: &Path, inputs: Vec<Said>) -> io::Result<String> {
+    for (number, (input, said)) in inputs.iter().enumerate() {
+        if number == 0 {
+            write_pair(folder, ("stdin", input), ("stdout", said))?;
         }
-        Err(error) => {
-            eprintln!("sets: {folder}: {error}");
-            ExitCode::from(2)
-        }
+        write_pair(folder, (&format!("{number}.in"), input), (&format!("{number}.out"), said))?;
     }
+    Ok(format!("{} inputs", inputs.len()))
 }
 
-fn usage() -> ExitCode {
-    eprintln!("usage: sets xml|values|runs|checks|feed|kto DIR");
-    ExitCode::from(2)
-}
-
-fn write(folder: &Path, set: &Set) -> std::io::Result<()> {
+/// Two files with their names.
+fn write_pair(folder: &Path, one: (&str, &[u8]), other: (&str, &[u8])) -> io::Result<()> {
     fs::create_dir_all(folder)?;
-    fs::write(folder.join("stdin"), &set.feed)?;
-    fs::write(folder.join("stdout"), &set.lines)
+    fs::write(folder.join(one.0), one.1)?;
+    fs::write(folder.join(other.0), other.1)
+}
+
+/// The cases of all ops that the proved `replay` knows.
+fn known() -> Vec<Case> {
+    let all = [cases::checks::fixed_set(), cases::runs::fixed_set(), cases::writes::fixed_set()].concat();
+    all.into_iter().filter(|case| KNOWN_OPS.contains(&case.op.number())).collect()
 }
 
 /// For each text a 16-bit big-endian length and its bytes; `whole`, or `stops PLACE`.
@@ -104,33 +133,4 @@ fn broken_off(mut set: Set) -> Set {
     let line = format!("feed broken at case {}", set.count);
     set.add(&whole[..whole.len() - 1], &line);
     set
-}
-
-/// One run for each input: the first as stdin and stdout, and each as NUMBER.in and NUMBER.out.
-fn inputs(arguments: &[String]) -> ExitCode {
-    let [kind, folder] = arguments else {
-        return usage();
-    };
-    let runs = cases::inputs::fixed_set();
-    let written = runs.iter().enumerate().try_for_each(|(number, input)| {
-        let folder = Path::new(folder);
-        let said = independent::program(input);
-        fs::create_dir_all(folder)?;
-        if number == 0 {
-            fs::write(folder.join("stdin"), input)?;
-            fs::write(folder.join("stdout"), &said)?;
-        }
-        fs::write(folder.join(format!("{number}.in")), input)?;
-        fs::write(folder.join(format!("{number}.out")), &said)
-    });
-    match written {
-        Ok(()) => {
-            println!("{kind}: {} inputs", runs.len());
-            ExitCode::SUCCESS
-        }
-        Err(error) => {
-            eprintln!("sets: {folder}: {error}");
-            ExitCode::from(2)
-        }
-    }
 }

@@ -31,14 +31,14 @@ hollow-requires c κs = search needs
 enum-told-3 : tie.Need-enum-told-3
 enum-told-3 c = search needs
 
-refused-requires : tie.Need-refused-requires
-refused-requires c κs = search needs
+lost-requires : tie.Need-lost-requires
+lost-requires c κs = search needs
 
 enum-told-4 : tie.Need-enum-told-4
 enum-told-4 c = search needs
 
-refused-requires-2 : tie.Need-refused-requires-2
-refused-requires-2 c κs = search needs
+lost-requires-2 : tie.Need-lost-requires-2
+lost-requires-2 c κs = search needs
 
 returns : tie.Need-returns
 returns c = begin-open _ _ _ _ (c .before .before .before .before .before .before .start .ensures) _ (c .before .before .before .before .before .opening .ensures) _ (c .before .before .before .before .fresh .ensures) _ (c .before .before .before .is-root .ensures) _ (c .before .enum-told .given .1) (c .rooted .ensures)
@@ -47,10 +47,10 @@ returns-2 : tie.Need-returns-2
 returns-2 c = begin-empty _ _ _ _ (c .before .before .before .before .before .before .start .ensures) _ (c .before .before .before .before .before .opening .ensures) _ (c .before .before .before .before .fresh .ensures) _ (c .before .before .before .is-root .ensures) _ (c .before .enum-told2 .given .1) (c .hollow .ensures)
 
 returns-3 : tie.Need-returns-3
-returns-3 c = begin-close _ _ _ _ (c .before .before .before .before .before .before .start .ensures) _ (c .before .before .before .before .before .opening .ensures) _ (c .before .before .before .before .fresh .ensures) _ (c .before .enum-told3 .given .1) (c .refused .ensures)
+returns-3 c = begin-close _ _ _ _ (c .before .before .before .before .before .before .start .ensures) _ (c .before .before .before .before .before .opening .ensures) _ (c .before .before .before .before .fresh .ensures) _ (c .before .enum-told3 .given .1) (c .lost .ensures)
 
 returns-4 : tie.Need-returns-4
-returns-4 c = begin-end _ _ _ _ (c .before .before .before .before .before .before .start .ensures) _ (c .before .before .before .before .before .opening .ensures) _ (c .before .before .before .before .fresh .ensures) _ (c .before .enum-told4 .given .1) (c .refused2 .ensures)
+returns-4 c = begin-end _ _ _ _ (c .before .before .before .before .before .before .start .ensures) _ (c .before .before .before .before .before .opening .ensures) _ (c .before .before .before .before .fresh .ensures) _ (c .before .enum-told4 .given .1) (c .lost2 .ensures)
 
 pub begin-spec : {M : Type 1} → statement M
 begin-spec =
@@ -65,9 +65,9 @@ begin-spec =
     enum-told-2
     hollow-requires
     enum-told-3
-    refused-requires
+    lost-requires
     enum-told-4
-    refused-requires-2
+    lost-requires-2
     returns
     returns-2
     returns-3

@@ -8,19 +8,25 @@ use Rattle.file_walk.proofs.Strides.{entered-refused, entered-deep, ent
 opening-requires : tie.Need-opening-requires
 opening-requires c κs = search needs
 
+enum-known-found : tie.Need-enum-known-found
+enum-known-found c = search needs
+
 refused-requires : tie.Need-refused-requires
 refused-requires c κs = search needs
 
 returns : tie.Need-returns
 returns c =
-    entered-refused _ _ _ _ _ _ _ _ _ (c .before .before .before .opening .ensures) _ (c .before .if1 .taken) (c .refused .ensures)
+    entered-refused _ _ _ _ _ _ (c .before .before .before .before .opening .ensures) _ _ _ _ _ (c .before .before .found .given .1) (c .refused .ensures)
 
-refused-requires-2 : tie.Need-refused-requires-2
-refused-requires-2 c κs = search needs
+enum-told : tie.Need-enum-told
+enum-told c = search needs
+
+lost-requires : tie.Need-lost-requires
+lost-requires c κs = search needs
 
 returns-2 : tie.Need-returns-2
 returns-2 c =
-    entered-deep _ _ _ _ _ _ _ _ _ (c .before .before .before .before .opening .ensures) _ (c .before .before .if1 .left) (c .before .if2 .taken) (c .refused2 .ensures)
+    entered-deep _ _ _ _ _ _ (c .before .before .before .before .opening .ensures) _ _ _ (c .before .before .enum-told .given .1) _ (c .before .if1 .taken) (c .lost .ensures)
 
 advance-requires : tie.Need-advance-requires
 advance-requires c κs = search needs
@@ -31,24 +37,26 @@ push-requires c κs = search needs
 fresh-requires : tie.Need-fresh-requires
 fresh-requires c κs = search needs
 
-add-t17 : tie.Need-add-t17
-add-t17 c = search needs
+add-t18 : tie.Need-add-t18
+add-t18 c = search needs
 
 returns-3 : tie.Need-returns-3
 returns-3 c =
-    entered-on _ _ _ _ _ _ _ _ _ (c .before .before .before .before .before .before .before .opening .ensures) _ _ _ (c .before .before .before .before .before .if1 .left) (omega (arith, c .before .before .before .before .if2 .left)) (c .fresh .ensures) (c .before .before .before .advance .ensures) (c .before .push .ensures)
+    entered-on _ _ _ _ _ _ (c .before .before .before .before .before .before .before .opening .ensures) _ _ _ (c .before .before .before .before .before .enum-told .given .1) _ _ _ (omega (arith, c .before .before .before .before .if1 .left)) (c .fresh .ensures) (c .before .before .before .advance .ensures) (c .before .push .ensures)
 
 pub entered-spec : {M : Type 1} → statement M
 entered-spec =
     tie.close
     (tie.spec
     opening-requires
+    enum-known-found
     refused-requires
     returns
-    refused-requires-2
+    enum-told
+    lost-requires
     returns-2
     advance-requires
     push-requires
     fresh-requires
-    add-t17
+    add-t18
     returns-3)

@@ -22,18 +22,21 @@ next-requires c κs = search needs
 ink-requires : tie.Need-ink-requires
 ink-requires c κs = search needs
 
+text-in-group-requires : tie.Need-text-in-group-requires
+text-in-group-requires c κs = search needs
+
 refused-requires : tie.Need-refused-requires
 refused-requires c κs = search needs
 
 returns : tie.Need-returns
 returns c =
-    let i = c .before .before in
+    let i = c .before .before .before in
     let n = i .before in
     let x = n .before in
     let d = group-is _ _ _ _ (x .before .before .cell .ensures) (x .before .is-group .ensures) in
     let k = token-from _ _ _ _ _ (x .text-from .ensures) (n .next .ensures) in
     let f = ink-from _ _ _ _ _ (x .text-from .ensures) (n .next .ensures) _ _ _ d (i .ink .ensures) in
-    step-ink _ _ _ _ _ _ k _ f _ (c .before .if1 .taken) (c .refused .ensures)
+    step-ink _ _ _ _ _ _ k _ f _ _ (c .before .before .if1 .taken) (c .before .text-in-group .ensures) (c .refused .ensures)
 
 number-requires : tie.Need-number-requires
 number-requires c κs = search needs
@@ -53,8 +56,8 @@ returns-2 c =
     let q = kind-by _ Close _ (c .before .before .before .number .ensures) (c .before .before .if2 .taken) in
     step-close _ _ _ _ _ _ k _ f (omega (arith, c .before .before .before .before .if1 .left)) _ _ q d (c .closed .ensures)
 
-refused-requires-2 : tie.Need-refused-requires-2
-refused-requires-2 c κs = search needs
+lost-requires : tie.Need-lost-requires
+lost-requires c κs = search needs
 
 returns-3 : tie.Need-returns-3
 unfolding numberOf
@@ -66,7 +69,7 @@ returns-3 c =
     let k = token-from _ _ _ _ _ (x .text-from .ensures) (n .next .ensures) in
     let f = ink-from _ _ _ _ _ (x .text-from .ensures) (n .next .ensures) _ _ _ d (i .ink .ensures) in
     let q = kind-by _ End _ (c .before .before .before .number .ensures) (c .before .if3 .taken) in
-    step-end _ _ _ _ _ _ k _ f (omega (arith, c .before .before .before .before .if1 .left)) _ q (c .refused2 .ensures)
+    step-end _ _ _ _ _ _ k _ f (omega (arith, c .before .before .before .before .if1 .left)) _ q (c .lost .ensures)
 
 row-of-requires : tie.Need-row-of-requires
 row-of-requires c κs = search needs
@@ -112,12 +115,13 @@ step-spec =
     text-from-requires
     next-requires
     ink-requires
+    text-in-group-requires
     refused-requires
     returns
     number-requires
     closed-requires
     returns-2
-    refused-requires-2
+    lost-requires
     returns-3
     row-of-requires
     own-requires

@@ -2,35 +2,58 @@
 use borrow.Author.Needs.{needs}
 use Rattle.file_walk.proofs.tag.opening.Statement.{statement}
 use Rattle.file_walk.proofs.tag.opening.Tie as tie
-use Rattle.file_walk.proofs.Says.{says-5, says-6, says-7, says-none, says-9}
+use Rattle.file_walk.proofs.Says.{says-no-child, says-out-of-order, says-too-many, opens-well, says-wrong-attributes}
+
+no-child-requires : tie.Need-no-child-requires
+no-child-requires c κs = search needs
 
 returns : tie.Need-returns
 returns c =
-    says-5 _ _ _ _ _ (c .if1 .taken)
+    says-no-child _ _ _ _ _ _ (c .before .if1 .taken) (c .no-child .ensures)
 
 passed-requires : tie.Need-passed-requires
 passed-requires c κs = search needs
 
+out-of-order-requires : tie.Need-out-of-order-requires
+out-of-order-requires c κs = search needs
+
 returns-2 : tie.Need-returns-2
 returns-2 c =
-    says-6 _ _ _ _ _ (c .before .before .if1 .left) _ (c .before .passed .ensures) (c .if2 .taken)
+    says-out-of-order _ _ _ _ _ _ (c .before .before .before .if1 .left) _ (c .before .before .passed .ensures) (c .before .if2 .taken) (c .out-of-order .ensures)
 
 again-requires : tie.Need-again-requires
 again-requires c κs = search needs
 
+too-many-requires : tie.Need-too-many-requires
+too-many-requires c κs = search needs
+
 returns-3 : tie.Need-returns-3
 returns-3 c =
-    says-7 _ _ _ _ _ (c .before .before .before .before .if1 .left) _ (c .before .before .before .passed .ensures) (c .before .before .if2 .left) _ (c .before .again .ensures) (c .if3 .taken)
+    says-too-many _ _ _ _ _ _ (c .before .before .before .before .before .if1 .left) _ (c .before .before .before .before .passed .ensures) (c .before .before .before .if2 .left) _ (c .before .before .again .ensures) (c .before .if3 .taken) (c .too-many .ensures)
 
 returns-4 : tie.Need-returns-4
 returns-4 c =
-    says-none _ _ _ _ _ (c .before .before .before .before .before .if1 .left) _ (c .before .before .before .before .passed .ensures) (c .before .before .before .if2 .left) _ (c .before .before .again .ensures) (c .before .if3 .left) (c .if4 .taken)
+    opens-well _ _ _ _ _ (c .before .before .before .before .before .if1 .left) _ (c .before .before .before .before .passed .ensures) (c .before .before .before .if2 .left) _ (c .before .before .again .ensures) (c .before .if3 .left) (c .if4 .taken)
+
+wrong-attributes-requires : tie.Need-wrong-attributes-requires
+wrong-attributes-requires c κs = search needs
 
 returns-5 : tie.Need-returns-5
 returns-5 c =
-    says-9 _ _ _ _ _ (c .before .before .before .before .before .if1 .left) _ (c .before .before .before .before .passed .ensures) (c .before .before .before .if2 .left) _ (c .before .before .again .ensures) (c .before .if3 .left) (c .if4 .left)
+    says-wrong-attributes _ _ _ _ _ _ (c .before .before .before .before .before .before .if1 .left) _ (c .before .before .before .before .before .passed .ensures) (c .before .before .before .before .if2 .left) _ (c .before .before .before .again .ensures) (c .before .before .if3 .left) (c .before .if4 .left) (c .wrong-attributes .ensures)
 
 pub opening-spec : {M : Type 1} → statement M
 opening-spec =
     tie.close
-    (tie.spec returns passed-requires returns-2 again-requires returns-3 returns-4 returns-5)
+    (tie.spec
+    no-child-requires
+    returns
+    passed-requires
+    out-of-order-requires
+    returns-2
+    again-requires
+    too-many-requires
+    returns-3
+    returns-4
+    wrong-attributes-requires
+    returns-5)

@@ -18,7 +18,7 @@ abbrev μ-loop : tie.MeasureT-loop
 
 loop-holds : tie.Need-loop-holds Inv-loop μ-loop
 loop-holds c =
-    let g = c .before .before .args in
+    let g = c .before .args in
     seeks (g .rows .now) (itemEnd (g .rows .now) (g .run .now)) (g .run .now) (g .from) (g .row) (g .n)
 
 shared-slice-read-wide : tie.Need-shared-slice-read-wide Inv-loop μ-loop
@@ -31,7 +31,7 @@ wide-requires c κs =
 
 returns : tie.Need-returns Inv-loop μ-loop
 returns c =
-    let g = c .before .before .before .before .before .before .before .args in
+    let g = c .before .before .before .before .before .before .args in
     seek-end (g .rows .now) (itemEnd (g .rows .now) (g .run .now)) (g .run .now) (g .from) (g .row) (g .n) (c .before .before .before .before .loop .left) (c .before .before .before .before .loop .i) (c .before .before .before .before .loop .inv) (c .before .wide .result) (c .before .before .before .loop-test .taken) (c .before .wide .ensures) (c .if1 .taken)
 
 add-item-end : tie.Need-add-item-end Inv-loop μ-loop
@@ -45,7 +45,13 @@ item-end-requires c κs =
 returns-2 : tie.Need-returns-2 Inv-loop μ-loop
 returns-2 c =
     let g = c .before .before .before .before .before .before .before .before .before .args in
-    seek-bad (g .rows .now) (itemEnd (g .rows .now) (g .run .now)) (g .run .now) (g .from) (g .row) (g .n) (c .before .before .before .before .before .before .loop .left) (c .before .before .before .before .before .before .loop .i) (c .before .before .before .before .before .before .loop .inv) (c .before .before .before .wide .result) (c .before .before .before .before .before .loop-test .taken) (c .before .before .before .wide .ensures) (c .before .item-end .result) (c .before .before .if1 .left) (c .before .item-end .ensures) (c .if2 .taken)
+    let at-if1 = c .before .before .before in
+    let at-wide = at-if1 .before in
+    let at-loop-test = at-wide .before .before in
+    let at-loop = at-loop-test .before in
+    seek-bad (g .rows .now) (itemEnd (g .rows .now) (g .run .now)) (g .run .now) (g .from) (g .row) (g .n) (at-loop .loop .left) (at-loop .loop .i)
+    (at-loop .loop .inv) (at-wide .wide .result) (at-loop-test .loop-test .taken) (at-wide .wide .ensures) (c .before .item-end .result)
+    (at-if1 .if1 .left) (c .before .item-end .ensures) (c .if2 .taken)
 
 add-result : tie.Need-add-result Inv-loop μ-loop
 add-result c =
@@ -54,7 +60,15 @@ add-result c =
 returns-3 : tie.Need-returns-3 Inv-loop μ-loop
 returns-3 c =
     let g = c .before .before .before .before .before .before .before .before .before .before .before .args in
-    seek-here (g .rows .now) (itemEnd (g .rows .now) (g .run .now)) (g .run .now) (g .from) (g .row) (g .n) (c .before .before .before .before .before .before .before .before .loop .left) (c .before .before .before .before .before .before .before .before .loop .i) (c .before .before .before .before .before .before .before .before .loop .inv) (c .before .before .before .before .before .wide .result) (c .before .before .before .before .before .before .before .loop-test .taken) (c .before .before .before .before .before .wide .ensures) (c .before .before .before .item-end .result) (c .before .before .before .before .if1 .left) (c .before .before .before .item-end .ensures) (c .before .before .if2 .left) (c .before .if3 .taken) (c .if4 .taken)
+    let at-if2 = c .before .before in
+    let at-item-end = at-if2 .before in
+    let at-if1 = at-item-end .before .before in
+    let at-wide = at-if1 .before in
+    let at-loop-test = at-wide .before .before in
+    let at-loop = at-loop-test .before in
+    seek-here (g .rows .now) (itemEnd (g .rows .now) (g .run .now)) (g .run .now) (g .from) (g .row) (g .n) (at-loop .loop .left) (at-loop .loop .i)
+    (at-loop .loop .inv) (at-wide .wide .result) (at-loop-test .loop-test .taken) (at-wide .wide .ensures) (at-item-end .item-end .result)
+    (at-if1 .if1 .left) (at-item-end .item-end .ensures) (at-if2 .if2 .left) (c .before .if3 .taken) (c .if4 .taken)
 
 sub-left : tie.Need-sub-left Inv-loop μ-loop
 sub-left c =
@@ -62,25 +76,53 @@ sub-left c =
 
 loop-less : tie.Need-loop-less Inv-loop μ-loop
 loop-less c =
-    omega (arith, c .before .before .before .before .before .before .before .loop-test .taken, c .before .before .if2 .left, c .before .before .before .item-end .ensures, item-on (c .before .before .before .before .before .before .before .before .before .before .before .args .rows .now) (c .before .before .before .before .before .before .before .before .before .before .before .args .run .now) (c .before .before .before .before .before .wide .result) (c .before .before .before .before .before .before .before .before .loop .i + 1) (subst (λ z. 0 < z) (c .before .before .before .item-end .ensures) (search needs)))
+    let at-if2 = c .before .before in
+    let at-item-end = at-if2 .before in
+    let at-wide = at-item-end .before .before .before in
+    let at-loop-test = at-wide .before .before in
+    let at-loop = at-loop-test .before in
+    let start = at-loop .before .before in
+    omega
+    (arith, at-loop-test .loop-test .taken, at-if2 .if2 .left, at-item-end .item-end .ensures, item-on (start .args .rows .now) (start .args .run .now) (at-wide .wide .result) (at-loop .loop .i + 1) (subst (λ z. 0 < z) (at-item-end .item-end .ensures) (search needs)))
 
 loop-again : tie.Need-loop-again Inv-loop μ-loop
 loop-again c =
     let g = c .before .before .before .before .before .before .before .before .before .before .before .args in
-    seek-past (g .rows .now) (itemEnd (g .rows .now) (g .run .now)) (g .run .now) (g .from) (g .row) (g .n) (c .before .before .before .before .before .before .before .before .loop .left) (c .before .before .before .before .before .before .before .before .loop .i) (c .before .before .before .before .before .before .before .before .loop .inv) (c .before .before .before .before .before .wide .result) (c .before .before .before .before .before .before .before .loop-test .taken) (c .before .before .before .before .before .wide .ensures) (c .before .before .before .item-end .result) (c .before .before .before .before .if1 .left) (c .before .before .before .item-end .ensures) (c .before .before .if2 .left) (c .before .if3 .taken) (c .if4 .left)
+    let at-if2 = c .before .before in
+    let at-item-end = at-if2 .before in
+    let at-if1 = at-item-end .before .before in
+    let at-wide = at-if1 .before in
+    let at-loop-test = at-wide .before .before in
+    let at-loop = at-loop-test .before in
+    seek-past (g .rows .now) (itemEnd (g .rows .now) (g .run .now)) (g .run .now) (g .from) (g .row) (g .n) (at-loop .loop .left) (at-loop .loop .i)
+    (at-loop .loop .inv) (at-wide .wide .result) (at-loop-test .loop-test .taken) (at-wide .wide .ensures) (at-item-end .item-end .result)
+    (at-if1 .if1 .left) (at-item-end .item-end .ensures) (at-if2 .if2 .left) (c .before .if3 .taken) (c .if4 .left)
 
 loop-less-2 : tie.Need-loop-less-2 Inv-loop μ-loop
 loop-less-2 c =
-    omega (arith, c .before .before .before .before .before .before .loop-test .taken, c .before .if2 .left, c .before .before .item-end .ensures, item-on (c .before .before .before .before .before .before .before .before .before .before .args .rows .now) (c .before .before .before .before .before .before .before .before .before .before .args .run .now) (c .before .before .before .before .wide .result) (c .before .before .before .before .before .before .before .loop .i + 1) (subst (λ z. 0 < z) (c .before .before .item-end .ensures) (search needs)))
+    let at-item-end = c .before .before in
+    let at-wide = at-item-end .before .before .before in
+    let at-loop-test = at-wide .before .before in
+    let at-loop = at-loop-test .before in
+    let start = at-loop .before .before in
+    omega
+    (arith, at-loop-test .loop-test .taken, c .before .if2 .left, at-item-end .item-end .ensures, item-on (start .args .rows .now) (start .args .run .now) (at-wide .wide .result) (at-loop .loop .i + 1) (subst (λ z. 0 < z) (at-item-end .item-end .ensures) (search needs)))
 
 loop-again-2 : tie.Need-loop-again-2 Inv-loop μ-loop
 loop-again-2 c =
     let g = c .before .before .before .before .before .before .before .before .before .before .args in
-    seek-on (g .rows .now) (itemEnd (g .rows .now) (g .run .now)) (g .run .now) (g .from) (g .row) (g .n) (c .before .before .before .before .before .before .before .loop .left) (c .before .before .before .before .before .before .before .loop .i) (c .before .before .before .before .before .before .before .loop .inv) (c .before .before .before .before .wide .result) (c .before .before .before .before .before .before .loop-test .taken) (c .before .before .before .before .wide .ensures) (c .before .before .item-end .result) (c .before .before .before .if1 .left) (c .before .before .item-end .ensures) (c .before .if2 .left) (c .if3 .left)
+    let at-item-end = c .before .before in
+    let at-if1 = at-item-end .before .before in
+    let at-wide = at-if1 .before in
+    let at-loop-test = at-wide .before .before in
+    let at-loop = at-loop-test .before in
+    seek-on (g .rows .now) (itemEnd (g .rows .now) (g .run .now)) (g .run .now) (g .from) (g .row) (g .n) (at-loop .loop .left) (at-loop .loop .i)
+    (at-loop .loop .inv) (at-wide .wide .result) (at-loop-test .loop-test .taken) (at-wide .wide .ensures) (at-item-end .item-end .result)
+    (at-if1 .if1 .left) (at-item-end .item-end .ensures) (c .before .if2 .left) (c .if3 .left)
 
 returns-4 : tie.Need-returns-4 Inv-loop μ-loop
 returns-4 c =
-    let g = c .before .before .before .before .args in
+    let g = c .before .before .before .args in
     seek-over (g .rows .now) (itemEnd (g .rows .now) (g .run .now)) (g .run .now) (g .from) (g .row) (g .n) (c .before .loop .left) (c .before .loop .i) (c .before .loop .inv) (c .loop-test .left)
 
 pub find-leaf-spec : {M : Type 1} → statement M

@@ -19,7 +19,7 @@ no-such-leaf-requires c κs = search needs
 
 returns : tie.Need-returns
 returns c =
-    let g = c .before .before .before .before .before .args in
+    let g = c .before .before .before .before .args in
     record { part = []; chooses = missing (subst (λ z. Finds (g .rows .now) (itemEnd (g .rows .now) (g .run .now)) (g .run .now) (g .from) (g .row) (g .n) z) (c .before .if1 .taken) (c .before .before .find .ensures)) (c .no-such-leaf .ensures) refl }
 
 head-requires : tie.Need-head-requires
@@ -28,15 +28,20 @@ head-requires c κs = search needs
 add-picked : tie.Need-add-picked
 add-picked c =
     let g = c .before .before .before .before .before .args in
-    omega (arith, c .head .ensures, head-small (g .rows .now) (g .row), find-within (g .rows .now) (itemEnd (g .rows .now) (g .run .now)) (g .run .now) (g .row) (g .from) (g .n) (c .before .before .find .result) (c .before .before .find .ensures))
+    omega (arith, c .head .ensures, head-small (g .rows .now) (g .row), find-within (g .rows .now) (itemEnd (g .rows .now) (g .run .now)) (g .run .now) (g .row) (g .from) (g .n) (c .before .before .before .find .result) (c .before .before .before .find .ensures))
 
 picked-requires : tie.Need-picked-requires
 picked-requires c κs = search needs
 
 returns-2 : tie.Need-returns-2
 returns-2 c =
-    let g = c .before .before .before .before .before .before .args in
-    record { part = slice (c .before .before .before .find .result + headOf (g .rows .now) (g .row)) (itemEnd (g .rows .now) (g .run .now) (g .row) (c .before .before .before .find .result)) (g .run .now); chooses = found (c .before .before .before .find .result) (omega (arith, c .before .before .if1 .left)) (c .before .before .before .find .ensures) (rw (sym (c .before .head .ensures)) (c .picked .ensures)) refl }
+    let at-find = c .before .before .before .before in
+    let g = at-find .before .before .args in
+    let v = at-find .find .result in
+    record {
+      part = slice (v + headOf (g .rows .now) (g .row)) (itemEnd (g .rows .now) (g .run .now) (g .row) v) (g .run .now);
+      chooses = found v (omega (arith, c .before .before .before .if1 .left)) (at-find .find .ensures) (rw (sym (c .before .head .ensures)) (c .picked .ensures)) refl;
+    }
 
 pub pick-from-spec : {M : Type 1} → statement M
 pick-from-spec =

@@ -25,7 +25,7 @@ part-result-end c = search needs
 
 returns : tie.Need-returns
 returns c =
-    let g = c .before .before .before .before .before .args in
+    let g = c .before .before .before .before .args in
     record { answer = noSuchLeaf; chooses = missing (subst (λ z. Finds (g .rows .now) (itemEnd (g .rows .now) (g .run .now)) (g .run .now) (g .from) (g .row) (g .n) z) (c .before .if1 .taken) (c .before .before .find .ensures)) refl refl }
 
 head-requires : tie.Need-head-requires
@@ -34,7 +34,7 @@ head-requires c κs = search needs
 add-part-of : tie.Need-add-part-of
 add-part-of c =
     let g = c .before .before .before .before .before .args in
-    omega (arith, c .head .ensures, head-small (g .rows .now) (g .row), find-within (g .rows .now) (itemEnd (g .rows .now) (g .run .now)) (g .run .now) (g .row) (g .from) (g .n) (c .before .before .find .result) (c .before .before .find .ensures))
+    omega (arith, c .head .ensures, head-small (g .rows .now) (g .row), find-within (g .rows .now) (itemEnd (g .rows .now) (g .run .now)) (g .run .now) (g .row) (g .from) (g .n) (c .before .before .before .find .result) (c .before .before .before .find .ensures))
 
 item-end-requires : tie.Need-item-end-requires
 item-end-requires c κs = search needs
@@ -44,8 +44,15 @@ part-of-requires c κs = search needs
 
 returns-2 : tie.Need-returns-2
 returns-2 c =
-    let g = c .before .before .before .before .before .before .before .args in
-    record { answer = picked (g .row) (c .before .before .before .before .find .result + headOf (g .rows .now) (g .row)); chooses = found (c .before .before .before .before .find .result) (omega (arith, c .before .before .before .if1 .left)) (c .before .before .before .before .find .ensures) refl (c .part-of .ensures ∙ ap₂ (λ (a b : ℕ). slice (c .before .before .before .before .find .result + a) b (g .run .now)) (c .before .before .head .ensures) (c .before .item-end .ensures)) }
+    let at-find = c .before .before .before .before .before .before in
+    let g = at-find .before .before .args in
+    let v = at-find .find .result in
+    record {
+      answer = picked (g .row) (v + headOf (g .rows .now) (g .row));
+      chooses =
+          found v (omega (arith, c .before .before .before .before .before .if1 .left)) (at-find .find .ensures) refl
+          (c .part-of .ensures ∙ ap₂ (λ (a b : ℕ). slice (v + a) b (g .run .now)) (c .before .before .before .head .ensures) (c .before .item-end .ensures));
+    }
 
 pub picked-from-spec : {M : Type 1} → statement M
 picked-from-spec =

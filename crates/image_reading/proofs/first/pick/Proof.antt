@@ -2,30 +2,33 @@
 use borrow.Author.Needs.{needs}
 use Rattle.image_reading.proofs.first.pick.Statement.{statement}
 use Rattle.image_reading.proofs.first.pick.Tie as tie
-use mathlib.Core.Path.{sym}
 use mathlib.Core.List.{[]}
 use native.Mathlib.Omega.{arith}
-use Rattle.image_reading.proofs.House.{begun-answers, begun-none}
+use Rattle.image_reading.proofs.House.{begun-answers, begun-none, begun-group, laid-says}
 
 begun-requires : tie.Need-begun-requires
 begun-requires c κs = search needs
 
 returns : tie.Need-returns
 returns c =
-    record { part = []; picks = begun-none _ _ (c .before .before .before .begun .ensures) _ _ (c .before .if1 .taken) }
+    record { part = []; picks = begun-none _ _ (c .before .before .before .begun .ensures .0) _ _ (c .before .if1 .taken) }
 
-rows-requires : tie.Need-rows-requires
-rows-requires c κs = search needs
+kind-requires : tie.Need-kind-requires
+kind-requires c κs = search needs
 
-slice-aggregate-pick-from : tie.Need-slice-aggregate-pick-from
-slice-aggregate-pick-from c = search needs
+no-such-leaf-requires : tie.Need-no-such-leaf-requires
+no-such-leaf-requires c κs = search needs
+
+returns-2 : tie.Need-returns-2
+returns-2 c =
+    record { part = []; picks = rw (c .no-such-leaf .ensures) (begun-group _ _ (c .before .before .before .before .before .begun .ensures .0) _ _ (omega (arith, c .before .before .before .if1 .left)) (omega (arith, c .before .before .kind .ensures, c .before .if2 .taken))) }
 
 pick-from-requires : tie.Need-pick-from-requires
 pick-from-requires c κs = search needs
 
-returns-2 : tie.Need-returns-2
-returns-2 c =
-    begun-answers _ _ (c .before .before .before .before .before .begun .ensures) _ _ (omega (arith, c .before .before .before .if1 .left)) _ (rw (sym (c .before .before .rows .ensures)) (c .pick-from .ensures))
+returns-3 : tie.Need-returns-3
+returns-3 c =
+    begun-answers _ _ (laid-says _ (c .before .before .before .before .before .before .begun .ensures .1 (omega (arith, c .before .before .before .before .if1 .left)))) _ (c .before .before .before .before .before .before .begun .ensures .0) _ _ (omega (arith, c .before .before .before .before .if1 .left)) _ (c .pick-from .ensures)
 
 pub pick-spec : {M : Type 1} → statement M
 pick-spec =
@@ -33,7 +36,8 @@ pick-spec =
     (tie.spec
     begun-requires
     returns
-    rows-requires
-    slice-aggregate-pick-from
+    kind-requires
+    no-such-leaf-requires
+    returns-2
     pick-from-requires
-    returns-2)
+    returns-3)

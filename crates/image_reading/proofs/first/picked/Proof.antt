@@ -2,9 +2,9 @@
 use borrow.Author.Needs.{needs}
 use Rattle.image_reading.proofs.first.picked.Statement.{statement}
 use Rattle.image_reading.proofs.first.picked.Tie as tie
-use mathlib.Core.Path.{sym}
 use native.Mathlib.Omega.{arith}
-use Rattle.image_reading.proofs.House.{begun-hands, begun-none}
+use Rattle.answer.specs.Table.{noSuchLeaf}
+use Rattle.image_reading.proofs.House.{begun-hands, begun-none, begun-group, laid-says}
 
 begun-requires : tie.Need-begun-requires
 begun-requires c κs = search needs
@@ -20,20 +20,30 @@ part-result-end c = search needs
 
 returns : tie.Need-returns
 returns c =
-    record { answer = c .before .before .before .begun .result .answer; picks = begun-none _ _ (c .before .before .before .begun .ensures) _ _ (c .before .if1 .taken) }
+    record { answer = c .before .before .before .begun .result .answer; picks = begun-none _ _ (c .before .before .before .begun .ensures .0) _ _ (c .before .if1 .taken) }
 
-rows-requires : tie.Need-rows-requires
-rows-requires c κs = search needs
+kind-requires : tie.Need-kind-requires
+kind-requires c κs = search needs
 
-slice-aggregate-picked-from : tie.Need-slice-aggregate-picked-from
-slice-aggregate-picked-from c = search needs
+sub-result-2 : tie.Need-sub-result-2
+sub-result-2 c = search needs
+
+part-result-start-2 : tie.Need-part-result-start-2
+part-result-start-2 c = search needs
+
+part-result-end-2 : tie.Need-part-result-end-2
+part-result-end-2 c = search needs
+
+returns-2 : tie.Need-returns-2
+returns-2 c =
+    record { answer = noSuchLeaf; picks = begun-group _ _ (c .before .before .before .before .before .begun .ensures .0) _ _ (omega (arith, c .before .before .before .if1 .left)) (omega (arith, c .before .before .kind .ensures, c .before .if2 .taken)) }
 
 picked-from-requires : tie.Need-picked-from-requires
 picked-from-requires c κs = search needs
 
-returns-2 : tie.Need-returns-2
-returns-2 c =
-    begun-hands _ _ (c .before .before .before .before .before .begun .ensures) _ _ (omega (arith, c .before .before .before .if1 .left)) _ (rw (sym (c .before .before .rows .ensures)) (c .picked-from .ensures))
+returns-3 : tie.Need-returns-3
+returns-3 c =
+    begun-hands _ _ (laid-says _ (c .before .before .before .before .before .before .begun .ensures .1 (omega (arith, c .before .before .before .before .if1 .left)))) _ (c .before .before .before .before .before .before .begun .ensures .0) _ _ (omega (arith, c .before .before .before .before .if1 .left)) _ (c .picked-from .ensures)
 
 pub picked-spec : {M : Type 1} → statement M
 picked-spec =
@@ -44,7 +54,10 @@ picked-spec =
     part-result-start
     part-result-end
     returns
-    rows-requires
-    slice-aggregate-picked-from
+    kind-requires
+    sub-result-2
+    part-result-start-2
+    part-result-end-2
+    returns-2
     picked-from-requires
-    returns-2)
+    returns-3)

@@ -3,7 +3,6 @@ use borrow.Author.Needs.{needs}
 use Rattle.image_reading.proofs.front.named.Statement.{statement}
 use Rattle.image_reading.proofs.front.named.Tie as tie
 use native.Mathlib.Omega.{arith}
-use borrow.Author.Needs.{needs}
 use Rattle.image_reading.proofs.Heads.{short, not-k, not-t, last-letter}
 
 returns : tie.Need-returns

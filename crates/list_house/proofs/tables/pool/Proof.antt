@@ -1,4 +1,5 @@
--- `house::pool` meets its contract. Assumes nothing.
+-- `tables::pool` meets its contract. Assumes nothing.
+-- Written by tools/lists/make.
 use mathlib.Core.Path.{refl}
 use Rattle.list_house.specs.HouseTable.{housePool}
 use Rattle.list_house.proofs.tables.pool.Statement.{statement}

@@ -1,4 +1,5 @@
--- `house::rows` meets its contract. Assumes nothing.
+-- `tables::rows` meets its contract. Assumes nothing.
+-- Written by tools/lists/make.
 use mathlib.Core.Path.{refl}
 use Rattle.list_house.specs.HouseTable.{houseRows}
 use Rattle.list_house.proofs.tables.rows.Statement.{statement}

@@ -1,0 +1,123 @@
+//! The fixed set of runs for the writer.
+
+use independent::list::find;
+use independent::LIMIT;
+
+use super::{image_for_file_of, needed};
+use crate::feed::Case;
+use crate::message::chosen::{EVERY_ROW, WHOLE};
+use crate::runs::{image_of, items_of, put_together, reads};
+use crate::values;
+
+/// Write cases only. The longest are the images of files at the limit.
+pub fn fixed_set() -> Vec<Case> {
+    let mut cases = Vec::new();
+    for image in [WHOLE, EVERY_ROW].map(|file| image_of(file.as_bytes())) {
+        cases.extend(rooms(&image));
+        cases.extend(followed(&image).into_iter().map(|run| Case::write(LIMIT, run)));
+    }
+    cases.extend(every_value().into_iter().map(|run| Case::write(LIMIT, run)));
+    cases.extend(refused().into_iter().zip([0, LIMIT].into_iter().cycle()).map(|(run, room)| Case::write(room, run)));
+    cases.extend(at_the_limit());
+    cases
+}
+
+/// "14 where the buffer is too short": every room around the length of the file, and the smallest and largest.
+fn rooms(image: &[u8]) -> Vec<Case> {
+    let needed = needed(image);
+    let rooms = [0, 1, needed - 1, needed, needed + 1, LIMIT, LIMIT + 1, u32::MAX as usize];
+    rooms.map(|room| Case::write(room, image)).to_vec()
+}
+
+/// "an image at the start of a run": with something behind it.
+fn followed(image: &[u8]) -> Vec<Vec<u8>> {
+    let behind = [b"\x00", &b"garbage \xff\xff"[..], b"KTO\x00\x02", image, &image[..30]];
+    behind.map(|behind| [image, behind].concat()).to_vec()
+}
+
+/// "1 and 15 to 17 as in the reader": the chosen runs that the reader refuses. They are asked with no room and with all.
+fn refused() -> Vec<Vec<u8>> {
+    reads().into_iter().filter(|run| !independent::read(run).is_accepted()).collect()
+}
+
+/// "then 19 .., then 14": a file of the limit's length with one byte of room less, and one that is a byte longer, with the limit's
+/// room and with none. A file of the limit's length isn't written here: its line would be longer than all the others together.
+fn at_the_limit() -> Vec<Case> {
+    let (full, over) = (image_for_file_of(LIMIT), image_for_file_of(LIMIT + 1));
+    vec![Case::write(LIMIT - 1, full), Case::write(LIMIT, &over[..]), Case::write(0, over)]
+}
+
+/// The rows of a message up to its first transaction, without what can be left out.
+const BEFORE: [u8; 27] =
+    [1, 2, 3, 4, 5, 6, 7, 9, 10, 11, 15, 16, 17, 18, 19, 20, 21, 22, 23, 24, 25, 27, 28, 34, 40, 41, 42];
+
+/// A leaf of each kind, and the rows of a piece that holds it and can be repeated; a message, of the kind that it has once.
+const PIECES: [(u8, &[u8]); 15] = [
+    (5, &[1, 2, 3, 4, 5, 6, 7, 9, 10, 11, 15, 16, 17, 18, 19, 20, 21, 22]),
+    (8, &[6, 7, 8, 9, 10, 11, 15, 16, 17, 18, 19, 20, 21, 22]),
+    (13, &[6, 7, 9, 10, 12, 13, 15, 16, 17, 18, 19, 20, 21, 22]),
+    (14, &[6, 7, 9, 10, 11, 14, 15, 16, 17, 18, 19, 20, 21, 22]),
+    (18, &[6, 7, 9, 10, 11, 15, 16, 17, 18, 19, 20, 21, 22]),
+    (26, &[23, 24, 25, 26, 27, 28, 34, 40, 41]),
+    (28, &[23, 24, 25, 27, 28, 34, 40, 41]),
+    (30, &[23, 24, 25, 27, 28, 29, 30, 34, 40, 41]),
+    (36, &[23, 24, 25, 27, 28, 34, 35, 36, 37, 38, 39]),
+    (41, &[23, 24, 25, 27, 28, 34, 40, 41]),
+    (45, &[43, 44, 45]),
+    (47, &[43, 47, 48]),
+    (48, &[43, 47, 48]),
+    (55, &[43, 49, 53, 54, 55]),
+    (57, &[43, 56, 57]),
+];
+
+/// Runs with the value of every good text among the chosen ones of each kind: all of a kind in one message, but for those
+/// that a message has once.
+fn every_value() -> Vec<Vec<u8>> {
+    let mut runs = Vec::new();
+    for (leaf, rows) in PIECES {
+        let start = BEFORE.iter().position(|row| *row == rows[0]).unwrap_or(BEFORE.len());
+        let pieces = values_of(leaf).into_iter().map(|value| {
+            let mut items = items_of(rows);
+            let item = items.iter_mut().find(|item| item[0] == leaf).expect("the leaf is among the rows");
+            *item = [&[leaf], &value[..]].concat();
+            items
+        });
+        let run = |pieces: Vec<Vec<u8>>| put_together(&[items_of(&BEFORE[..start]), pieces].concat());
+        match start {
+            0 => runs.extend(pieces.map(run)),
+            _ => runs.push(run(pieces.flatten().collect())),
+        }
+    }
+    runs
+}
+
+/// The chosen values of a leaf's kind, as they stand in an image.
+fn values_of(leaf: u8) -> Vec<Vec<u8>> {
+    let kind = find(leaf).expect("a row").kind;
+    values::fixed_set().iter().filter(|case| case.list_kind() == kind).filter_map(|case| case.answer()).collect()
+}
+
+#[cfg(test)]
+mod tests {
+    use super::*;
+    use crate::feed::codes;
+    use independent::list::ROWS;
+    use std::collections::BTreeSet;
+
+    #[test]
+    fn every_kind_stands_in_it() {
+        let held: Vec<_> = PIECES.iter().map(|(leaf, _)| find(*leaf).unwrap().kind).collect();
+        for row in ROWS.iter().filter(|row| row.kind.is_leaf()) {
+            assert_eq!(held.iter().filter(|kind| **kind == row.kind).count(), 1, "{:?}", row.kind);
+        }
+        let values = every_value().iter().map(|run| independent::read(run)).filter(|read| read.is_accepted()).count();
+        assert_eq!(values, every_value().len());
+    }
+
+    /// All codes of a write but 1: a run over the limit would be as long as all the others together.
+    #[test]
+    fn every_code_is_reached() {
+        let reached: BTreeSet<u8> = fixed_set().iter().map(|case| case.answer().0.code.number()).collect();
+        assert_eq!(reached, codes(3).iter().copied().filter(|code| *code != 1).collect());
+    }
+}

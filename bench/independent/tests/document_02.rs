@@ -1,0 +1,284 @@
+//! Section 1 of document 02, "Write the statement file", sentence by sentence. What must be written stands here as a person
+//! reads it from the document; nothing of it is computed.
+
+mod support;
+
+use independent::program::write_program;
+use independent::{check, read, write, LIMIT};
+use support::*;
+
+/// The file that is written for an image, with room for any.
+fn file_of(image: &[u8]) -> String {
+    let mut room = vec![0; LIMIT];
+    let answer = write(image, &mut room);
+    assert_eq!(numbers(answer), (0, 0, answer.place));
+    room.truncate(answer.place);
+    String::from_utf8(room).unwrap()
+}
+
+/// The file that is written for the image of a file.
+fn rewritten(file: impl AsRef<[u8]>) -> String {
+    file_of(&image(file))
+}
+
+/// A message of `support`, whose two amounts are spelled with zeros, as it must be written.
+fn without_zeros(file: &str) -> String {
+    file.replace(">5.00<", ">5<").replace(">1.00<", ">1<")
+}
+
+/// Each spelling of a value in some message, and what must be written for it.
+fn holds(message: impl Fn(&str) -> String, spelled_and_written: &[(&str, &str)]) {
+    for (spelled, written) in spelled_and_written {
+        assert_eq!(rewritten(message(spelled)), without_zeros(&message(written)), "{spelled}");
+    }
+}
+
+/// "no declaration, no blanks that could be left out, double quotes": of the whole example, and of the same in another
+/// style.
+#[test]
+fn the_whole_one() {
+    let expected = "<Document xmlns=\"urn:iso:std:iso:20022:tech:xsd:camt.053.001.08\"><BkToCstmrStmt>\
+                    <GrpHdr><MsgId>M1</MsgId><CreDtTm>2024-03-01T06:00:00Z</CreDtTm></GrpHdr>\
+                    <Stmt><Id>S1</Id><Acct><Id><Othr><Id>9</Id></Othr></Id></Acct>\
+                    <Bal><Tp><CdOrPrtry><Cd>CLBD</Cd></CdOrPrtry></Tp><Amt Ccy=\"EUR\">5</Amt>\
+                    <CdtDbtInd>CRDT</CdtDbtInd><Dt><Dt>2024-02-29</Dt></Dt></Bal></Stmt></BkToCstmrStmt></Document>";
+    assert_eq!(file_of(&whole_image()), expected);
+    let other_style = whole_example()
+        .replace('"', "'")
+        .replace("><", " >\r\n\t<")
+        .replace("<Document ", "<?xml version=\"1.0\" encoding=\"UTF-8\"?>\n<Document  ")
+        .replace("Ccy=", "\nCcy = ")
+        .replace("5.00", " +0005.00 ");
+    assert_eq!(rewritten(other_style), expected);
+}
+
+/// "`&` and `<` and `>` as entities in text", and nothing else.
+#[test]
+fn texts() {
+    let euros = "€".repeat(140);
+    let ampersands = "&amp;".repeat(140);
+    holds(
+        debtor,
+        &[
+            ("&amp;", "&amp;"),
+            ("&lt;", "&lt;"),
+            (">", "&gt;"),
+            ("&gt;", "&gt;"),
+            ("&quot;", "\""),
+            ("\"", "\""),
+            ("&apos;", "'"),
+            ("'", "'"),
+            ("]]&gt;", "]]&gt;"),
+            ("&amp;amp;", "&amp;amp;"),
+            ("&amp;lt;&gt;", "&amp;lt;&gt;"),
+            (" Müller  &amp; Söhne ", " Müller  &amp; Söhne "),
+            ("ÄÖÜäöüß€§°", "ÄÖÜäöüß€§°"),
+            (
+                "- + / ? : ( ) . , ' | $ % ! = # ~ ; * { } [ ] @ \\ _ ^",
+                "- + / ? : ( ) . , ' | $ % ! = # ~ ; * { } [ ] @ \\ _ ^",
+            ),
+            (&euros, &euros),
+            (&ampersands, &ampersands),
+        ],
+    );
+    holds(message_id, &[("A/B", "A/B"), (" A ", " A "), ("-+?:().,&apos;", "-+?:().,'")]);
+}
+
+/// "amounts with their smallest scale and digits written most significant first (as `0.5` and `7`)"
+#[test]
+fn amounts() {
+    holds(
+        amount,
+        &[
+            ("0.5", "0.5"),
+            (".5", "0.5"),
+            ("7", "7"),
+            ("7.", "7"),
+            ("0", "0"),
+            ("-0.00", "0"),
+            ("+0", "0"),
+            ("1250.50", "1250.5"),
+            ("0.000010", "0.00001"),
+            ("0.05", "0.05"),
+            ("12.345", "12.345"),
+            ("12.3450", "12.345"),
+            ("1.2345", "1.2345"),
+            ("1.00001", "1.00001"),
+            ("10", "10"),
+            ("100.10", "100.1"),
+            ("00012.30", "12.3"),
+            (" 3 ", "3"),
+            ("999999999999999999", "999999999999999999"),
+            ("9999999999999.99999", "9999999999999.99999"),
+            ("0.99999", "0.99999"),
+            ("100000000000000000", "100000000000000000"),
+            ("1234567890", "1234567890"),
+        ],
+    );
+    let francs = |text: &str| amount(text).replace("EUR", "CHF");
+    holds(francs, &[("5.00", "5"), ("0.50", "0.5")]);
+}
+
+/// "BOOL as `true` or `false`"
+#[test]
+fn booleans() {
+    let reversal = |text: &str| {
+        document(&[header(), statement(&entry(""))].concat())
+            .replace("<Sts>", &format!("<RvslInd>{text}</RvslInd><Sts>"))
+    };
+    holds(reversal, &[("true", "true"), ("1", "true"), ("false", "false"), ("0", "false"), ("\n1 ", "true")]);
+}
+
+/// "NUM without leading zeros (zero is `0`)"
+#[test]
+fn numbers_without_leading_zeros() {
+    let sequence =
+        |text: &str| whole_example().replace("<Acct>", &format!("<ElctrncSeqNb>{text}</ElctrncSeqNb><Acct>"));
+    holds(
+        sequence,
+        &[
+            ("0", "0"),
+            ("000000000000000000", "0"),
+            ("7", "7"),
+            ("007", "7"),
+            ("10", "10"),
+            ("100200300", "100200300"),
+            ("999999999999999999", "999999999999999999"),
+            (" 42\t", "42"),
+        ],
+    );
+}
+
+/// "fractions of a second only where not zero and then six digits, offset zero as `Z`"
+#[test]
+fn times() {
+    let made = |text: &str| whole_example().replace("2024-03-01T06:00:00Z", text);
+    holds(
+        made,
+        &[
+            ("2024-03-01T06:00:00Z", "2024-03-01T06:00:00Z"),
+            ("2024-03-01T06:00:00+00:00", "2024-03-01T06:00:00Z"),
+            ("2024-03-01T06:00:00-00:00", "2024-03-01T06:00:00Z"),
+            ("2024-03-01T06:00:00.000Z", "2024-03-01T06:00:00Z"),
+            ("2024-03-01T06:00:00.000000Z", "2024-03-01T06:00:00Z"),
+            ("2024-03-01T06:00:00.120Z", "2024-03-01T06:00:00.120000Z"),
+            ("2024-03-01T06:00:00.001Z", "2024-03-01T06:00:00.001000Z"),
+            ("2024-03-01T06:00:00.000001Z", "2024-03-01T06:00:00.000001Z"),
+            ("2024-03-01T23:59:59.999999+14:00", "2024-03-01T23:59:59.999999+14:00"),
+            ("0001-01-01T00:00:00-14:00", "0001-01-01T00:00:00-14:00"),
+            ("9999-12-31T09:08:07+01:00", "9999-12-31T09:08:07+01:00"),
+            ("2024-03-01T06:00:00-00:30", "2024-03-01T06:00:00-00:30"),
+            ("2024-03-01T06:00:00+00:05", "2024-03-01T06:00:00+00:05"),
+            ("2024-03-01T06:00:00-13:59", "2024-03-01T06:00:00-13:59"),
+            (" 2024-03-01T06:00:00.500+10:00\n", "2024-03-01T06:00:00.500000+10:00"),
+        ],
+    );
+}
+
+/// DATE, ENUM, IBAN and CCY have one spelling but for blanks around a DATE.
+#[test]
+fn days_words_and_codes() {
+    let day = |text: &str| whole_example().replace("2024-02-29", text);
+    holds(day, &[("2024-02-29", "2024-02-29"), (" 0001-01-01 ", "0001-01-01"), ("9999-12-31", "9999-12-31")]);
+    let kind = |text: &str| whole_example().replace("CLBD", text);
+    holds(kind, &[("OPBD", "OPBD"), ("CLBD", "CLBD"), ("PRCD", "PRCD")]);
+    let side = |text: &str| whole_example().replace("CRDT", text);
+    holds(side, &[("CRDT", "CRDT"), ("DBIT", "DBIT")]);
+    let account = |text: &str| whole_example().replace("<Othr><Id>9</Id></Othr>", &format!("<IBAN>{text}</IBAN>"));
+    holds(account, &[("AT611904300234573201", "AT611904300234573201"), ("AT61a", "AT61a")]);
+    let currency = |text: &str| whole_example().replace("</Acct>", &format!("<Ccy>{text}</Ccy></Acct>"));
+    holds(currency, &[("EUR", "EUR"), ("ZZZ", "ZZZ")]);
+    assert_eq!(rewritten(transaction("<Refs><MndtId>M</MndtId></Refs>")), {
+        without_zeros(&transaction("<Refs><MndtId>M</MndtId></Refs>"))
+    });
+}
+
+/// "Success is code 0, row 0, the file's length; bytes beyond it stay." and "14 where the buffer is too short; place is the
+/// bytes needed, row 0".
+#[test]
+fn room() {
+    let file = without_zeros(&whole_example());
+    let length = file.len();
+    for more in [0, 1, 40] {
+        let mut room = vec![0xaa; length + more];
+        assert_eq!(numbers(write(&whole_image(), &mut room)), (0, 0, length));
+        assert_eq!(room[..length], *file.as_bytes());
+        assert_eq!(room[length..], vec![0xaa; more]);
+    }
+    for less in [1, 2, length] {
+        let mut room = vec![0xaa; length - less];
+        assert_eq!(numbers(write(&whole_image(), &mut room)), (14, 0, length));
+        assert_eq!(room, vec![0xaa; length - less], "a refusal changes no byte");
+    }
+}
+
+/// "Refusals: 1 and 15 to 17 as in the reader", before all that depends on the room; "From an image at the start of a run":
+/// what stands behind it doesn't matter.
+#[test]
+fn refused_as_in_the_reader() {
+    let whole = whole_image();
+    let mut runs: Vec<Vec<u8>> = (0..whole.len()).map(|length| whole[..length].to_vec()).collect();
+    runs.push([b"KTP", &whole[3..]].concat());
+    runs.push([b"KTO\x00\x02", &whole[5..]].concat());
+    runs.push([&whole[..66], b"\x06"].concat());
+    runs.push([&whole[..], &vec![0; LIMIT + 1 - whole.len()]].concat());
+    for run in runs {
+        for length in [0, 10, 1000] {
+            let mut room = vec![0xaa; length];
+            assert_eq!(write(&run, &mut room), read(&run));
+            assert_eq!(room, vec![0xaa; length], "a refusal changes no byte");
+        }
+    }
+    let file = file_of(&whole);
+    assert_eq!(file_of(&[&whole[..], b"KTO"].concat()), file);
+    assert_eq!(file_of(&[&whole[..], &whole[..]].concat()), file);
+    assert_eq!(file_of(&[&whole[..], &vec![0xff; LIMIT - whole.len()]].concat()), file);
+}
+
+/// The image of a message whose file has this length: many texts of one character, which take 4 bytes in an image and 16 in
+/// a file, and a last one that makes up the rest.
+fn image_for_file_of(length: usize) -> Vec<u8> {
+    let short = "<Ustrd>x</Ustrd>";
+    let with = |texts: &str| without_zeros(&transaction(&format!("<RmtInf>{texts}</RmtInf>")));
+    let left = length - with("").len();
+    let last = "y".repeat(left % short.len() + 1);
+    let times = (left - format!("<Ustrd>{last}</Ustrd>").len()) / short.len();
+    let short_ones = image(with(&format!("{short}<Ustrd>{last}</Ustrd>")));
+    let (item, end) = (b"\x39\x00\x01x", 3 + last.len() + 1);
+    let start = short_ones.len() - end - item.len();
+    assert_eq!(short_ones[start..start + 4], *item);
+    [&short_ones[..start], &item.repeat(times), &short_ones[start + 4..]].concat()
+}
+
+/// "then 19 where the file would be over 1,048,576 bytes, then 14 where the buffer is too short": exactly so many bytes are
+/// written, one more are not, whatever the room is.
+#[test]
+fn over_the_limit() {
+    let mut room = vec![0xaa; LIMIT + 2];
+    assert_eq!(numbers(write(&image_for_file_of(LIMIT), &mut room)), (0, 0, 1_048_576));
+    assert_eq!(room[LIMIT..], [0xaa, 0xaa]);
+    assert_eq!(numbers(check(&room[..LIMIT], &mut vec![0; LIMIT])), (0, 0, image_for_file_of(LIMIT).len()));
+    assert_eq!(numbers(write(&image_for_file_of(LIMIT), &mut room[..LIMIT - 1])), (14, 0, 1_048_576));
+    for length in [LIMIT + 1, LIMIT + 2, 2 * LIMIT] {
+        for space in [0, 1000, LIMIT, LIMIT + 2] {
+            let mut room = vec![0xaa; space];
+            assert_eq!(numbers(write(&image_for_file_of(length), &mut room)), (19, 0, length), "room {space}");
+            assert_eq!(room, vec![0xaa; space], "a refusal changes no byte");
+        }
+    }
+}
+
+/// The program `write`: the file, or the line of the refusal.
+#[test]
+fn the_program() {
+    let whole = whole_image();
+    assert_eq!(write_program(&whole), file_of(&whole).into_bytes());
+    assert_eq!(write_program(b""), b"refused 15 0 0\n");
+    assert_eq!(write_program(&whole[..66]), b"refused 17 0 66\n");
+    assert_eq!(write_program(&image_for_file_of(LIMIT)).len(), LIMIT);
+    assert_eq!(write_program(&image_for_file_of(LIMIT + 1)), b"refused 19 0 1048577\n");
+    for more in [1, 2, LIMIT] {
+        let long = [&whole[..], &vec![0; LIMIT + more - whole.len()]].concat();
+        assert_eq!(write_program(&long), b"refused 1 0 1048576\n");
+    }
+}

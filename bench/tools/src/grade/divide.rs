@@ -1,0 +1,40 @@
+//! The images of a run, one after the other, as the unit divides it.
+
+use std::io;
+
+use cases::feed::Case;
+use independent::LIMIT;
+
+use super::report::code_name;
+use crate::unit::{Line, Unit};
+
+/// An image in a run.
+pub struct Part<'a> {
+    /// From 1.
+    pub number: usize,
+    pub start: usize,
+    pub bytes: &'a [u8],
+}
+
+/// Hands on each image of a run. Gives what the unit says to what is left, where that is no image, in words.
+pub fn divide(unit: &Unit, run: &[u8], mut take: impl FnMut(Part) -> io::Result<()>) -> io::Result<Result<(), String>> {
+    let mut start = 0;
+    let mut number = 1;
+    loop {
+        // Bytes behind the first image don't matter, so a long run is shown to the unit in parts.
+        let rest = &run[start..(start + LIMIT).min(run.len())];
+        let Line { code, place, .. } = unit.ask(&Case::read(rest))?;
+        if code != 0 {
+            let (name, byte) = (code_name(code), start + place);
+            return Ok(Err(format!("image {number} at byte {start}: refused {code}, {name}, byte {byte}")));
+        }
+        let bytes = rest.get(..place).filter(|bytes| !bytes.is_empty());
+        let bytes = bytes.ok_or_else(|| io::Error::other(format!("an image of {place} bytes at byte {start}")))?;
+        take(Part { number, start, bytes })?;
+        start += place;
+        number += 1;
+        if start == run.len() {
+            return Ok(Ok(()));
+        }
+    }
+}

@@ -1,0 +1,71 @@
+//! The report on a file as one JSON object on one line.
+
+use super::report::{code_name, Outcome, Refusal, Report};
+use independent::list;
+
+/// `file` and `code`, `name`, `row`, `place`; of a refused file also `path` (the row's, where there is one), `line`, `column`, `text` and
+/// `mark` (how many characters of the text stand before the place). Of a file that can't be read, `file` and `error` alone.
+pub fn object(report: &Report) -> String {
+    let mut fields = vec![("file", string(&report.path.to_string_lossy()))];
+    match &report.outcome {
+        Outcome::Unreadable(error) => fields.push(("error", string(error))),
+        Outcome::Accepted(length) => fields.extend(answer(0, 0, *length)),
+        Outcome::Refused(Refusal { code, row, place, spot }) => {
+            fields.extend(answer(*code, *row, *place));
+            fields.extend(list::find(*row).map(|row| ("path", string(&list::path(row)))));
+            fields.push(("line", spot.line.to_string()));
+            fields.push(("column", spot.column.to_string()));
+            fields.push(("text", string(&spot.text)));
+            fields.push(("mark", spot.before.to_string()));
+        }
+    }
+    let fields: Vec<String> = fields.into_iter().map(|(name, value)| format!("\"{name}\":{value}")).collect();
+    format!("{{{}}}", fields.join(","))
+}
+
+fn answer(code: u8, row: u8, place: usize) -> [(&'static str, String); 4] {
+    [
+        ("code", code.to_string()),
+        ("name", string(code_name(code))),
+        ("row", row.to_string()),
+        ("place", place.to_string()),
+    ]
+}
+
+/// A JSON string: quotes, backslashes and control characters escaped (RFC 8259).
+fn string(text: &str) -> String {
+    let escaped = text.chars().map(|c| match c {
+        '"' => "\\\"".to_string(),
+        '\\' => "\\\\".to_string(),
+        c if c < ' ' => format!("\\u{:04x}", u32::from(c)),
+        c => c.to_string(),
+    });
+    format!("\"{}\"", escaped.collect::<String>())
+}
+
+#[cfg(test)]
+mod tests {
+    use super::*;
+    use crate::grade::Spot;
+
+    #[test]
+    fn one_object_on_one_line() {
+        let report = |outcome| Report { path: "a \"b\"\\c\n.xml".into(), outcome };
+        let spot = Spot { line: 2, column: 3, text: "  <Dt>ä\"</Dt>".to_string(), before: 2 };
+        let refused = Refusal { code: 12, row: 30, place: 20, spot };
+        assert_eq!(
+            object(&report(Outcome::Refused(refused))),
+            "{\"file\":\"a \\\"b\\\"\\\\c\\u000a.xml\",\"code\":12,\"name\":\"value breaks its type\",\"row\":30,\"place\":20,\
+             \"path\":\"Document/BkToCstmrStmt/Stmt/Ntry/BookgDt/Dt\",\"line\":2,\"column\":3,\
+             \"text\":\"  <Dt>ä\\\"</Dt>\",\"mark\":2}"
+        );
+        assert_eq!(
+            object(&Report { path: "a.xml".into(), outcome: Outcome::Accepted(67) }),
+            "{\"file\":\"a.xml\",\"code\":0,\"name\":\"accepted\",\"row\":0,\"place\":67}"
+        );
+        assert_eq!(
+            object(&Report { path: "a.xml".into(), outcome: Outcome::Unreadable("gone".to_string()) }),
+            "{\"file\":\"a.xml\",\"error\":\"gone\"}"
+        );
+    }
+}

@@ -1,0 +1,42 @@
+//! Images written as statement files.
+
+use std::io::{self, Write};
+use std::path::Path;
+
+use cases::feed::Case;
+use independent::LIMIT;
+
+use super::divide::{divide, Part};
+use super::kept::keep;
+use super::report::code_name;
+use crate::unit::{Line, Unit};
+
+/// Writes each image of a run as a file, `NAME.xml` in the folder, a second and third with a number, and says so. True if the run is
+/// images to its end and each was written.
+pub fn write_files(unit: &Unit, path: &Path, run: &[u8], folder: &Path, out: &mut dyn Write) -> io::Result<bool> {
+    let mut all_written = true;
+    let left = divide(unit, run, |Part { number, start, bytes }| {
+        let Line { code, place, bytes: file, .. } = unit.ask(&Case::write(LIMIT, bytes)).map_err(unknown_op)?;
+        let image = format!("{}: image {number} at byte {start}", path.display());
+        if code != 0 {
+            all_written = false;
+            return writeln!(out, "{image}: refused {code}, {}, {place} bytes needed", code_name(code));
+        }
+        let written = keep(folder, path, "xml", &file)?;
+        writeln!(out, "{image}: written as {}, {place} bytes", written.display())
+    })?;
+    match left {
+        Ok(()) => Ok(all_written),
+        Err(refused) => writeln!(out, "{}: {refused}", path.display()).map(|()| false),
+    }
+}
+
+/// A `replay` from before the writer breaks off at it.
+fn unknown_op(error: io::Error) -> io::Error {
+    match error.to_string().contains("feed broken") {
+        true => io::Error::other(
+            "this replay doesn't write files yet (op 3); --independent has the independent program do it",
+        ),
+        false => error,
+    }
+}

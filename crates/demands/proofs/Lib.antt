@@ -1,0 +1,5 @@
+-- The laws of `demands`.
+-- each demand holds
+pub mod Demands
+-- what codes 12 and 9 say
+pub mod Causes

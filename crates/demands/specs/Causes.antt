@@ -1,0 +1,66 @@
+-- What codes 12 and 9 say by the relation `Spelt` alone: which element it is, and that no value is spelt there. Assumes nothing.
+use mathlib.Core.Path.{_≡_}
+use mathlib.Core.Logic.{_↔_}
+use mathlib.Core.List.{List, []}
+use mathlib.Core.Option.{Option, some}
+use Prim.Native.Nat.{ℕ}
+use Rattle.list.specs.Listing.{Leaf, Kind, group, choice, leaf, Listing, rowAt, child}
+use Rattle.list.specs.WellFormed.{LeafOk}
+use Rattle.list_house.specs.House.{house}
+use Rattle.xml.specs.Message.{Attrs, Parts, none, char, element}
+use Rattle.value.specs.Value.{Value, IsValue, Spelt, bytes}
+use Rattle.file_walk.specs.Types.{Types}
+use Rattle.file_walk.specs.First.{currency, textOf}
+use Rattle.file_walk.specs.Denotes.{LeafAttrs}
+use Rattle.image.specs.Kinds.{lengthBytes}
+use Rattle.file.specs.Instance.{Kinds, houseTypes}
+
+-- a way to compute the value that is spelt
+abbrev pub Speller : Type 0
+Speller = Leaf → List ℕ → List ℕ → Option Value
+
+-- which answers as the relation says, of every type that a list may have
+pub record Decides (sp : Speller) : Type 0 where
+  pub right : (k : Leaf) → LeafOk k → (w cs : List ℕ) (v : Value) → (sp k w cs ≡ some v) ↔ Spelt k w cs v
+
+-- document 01's types, computed so
+abbrev pub typesBy : Speller → Types
+typesBy sp = record { A = Value; Is = IsValue; Spelt = Spelt; spell = sp }
+
+abbrev pub kindsBy : Speller → Kinds
+kindsBy sp = record { types = typesBy sp; bytes = λ k v. bytes v; head = lengthBytes }
+
+-- below the root, "attributes .. exactly the type's": of a group none
+abbrev pub AttrsOf : Kind → Attrs → Type 0
+AttrsOf group ats = ats ≡ []
+AttrsOf choice ats = ats ≡ []
+AttrsOf (leaf k) ats = LeafAttrs houseTypes k ats
+
+-- among the parts of an element of row p, at any depth, stands an element of row r, with its `<` at o, these attributes and these parts
+pub data Stands (l : Listing) (r o : ℕ) (ats : Attrs) (i : Parts) : ℕ → Parts → Type 0 where
+  here : (p : ℕ) (n : List ℕ) (k : Parts) → child l p n ≡ r → Stands l r o ats i p (element o n ats i k)
+  after : (p q x : ℕ) (k : Parts) → Stands l r o ats i p k → Stands l r o ats i p (char q x k)
+  behind : (p q : ℕ) (n : List ℕ) (as′ : Attrs) (j k : Parts) → Stands l r o ats i p k → Stands l r o ats i p (element q n as′ j k)
+  within : (p q : ℕ) (n : List ℕ) (as′ : Attrs) (j k : Parts) → Stands l r o ats i (child l p n) j → Stands l r o ats i p (element q n as′ j k)
+
+-- what stands in the root
+abbrev pub inner : Parts → Parts
+inner none = none
+inner (char o x k) = none
+inner (element o n ats i k) = i
+
+-- 12: "value breaks its type": the characters of a leaf, entities resolved, spell no value of its type
+pub record BadValue (p : ℕ) (m : Parts) (r o : ℕ) : Type 0 where
+  pub attrs : Attrs
+  pub parts : Parts
+  pub stands : Stands house r o attrs parts p m
+  pub type : Leaf
+  pub kind : rowAt house r .kind ≡ leaf type
+  pub none : (v : Value) → Spelt type (currency attrs) (textOf parts) v → ⊥
+
+-- 9: "attributes not exactly the type's, or bad Ccy"
+pub record BadAttributes (p : ℕ) (m : Parts) (r o : ℕ) : Type 0 where
+  pub attrs : Attrs
+  pub parts : Parts
+  pub stands : Stands house r o attrs parts p m
+  pub wrong : AttrsOf (rowAt house r .kind) attrs → ⊥

@@ -1,0 +1,1 @@
+// The three demands on the unit, each as one theorem.

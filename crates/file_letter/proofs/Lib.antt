@@ -1,0 +1,15 @@
+-- The laws of `file_letter`.
+-- of which characters a value's text is
+pub mod Chars
+-- what is told is the tree
+pub mod Telling
+-- document 01's example
+pub mod Example
+-- the written message's content
+pub mod Has
+-- the written tree is good
+pub mod Good
+-- the written file is a file of its content
+pub mod Files
+-- what writing answers
+pub mod Writing

@@ -1,0 +1,115 @@
+-- What writing answers: one answer and one buffer, for every run and every buffer; every refusal leaves every byte; and the written file gives the image back. Assumes nothing.
+use mathlib.Core.Path.{_≡_, refl, sym, _∙_, ap, ap₂, subst}
+use mathlib.Core.Logic.{_≢_}
+use mathlib.Core.List.{List, _++_}
+use Prim.Native.Nat.{ℕ, _≤_}
+use native.Mathlib.Omega.{arith}
+use native.Mathlib.Decide.{ℕ-discrete, decLt}
+use lib.ListN.{length, take, drop}
+use lib.Seq.{take-append-seam}
+use Rattle.answer.specs.declared.Answer.{Answer}
+use Rattle.answer.specs.Table.{limit, accepted, noRoom, tooLarge}
+use Rattle.list.specs.Listing.{Listing}
+use Rattle.list.specs.Content.{Content}
+use Rattle.text_characters.specs.Utf8.{Utf8}
+use Rattle.value.specs.Value.{Value}
+use Rattle.xml.specs.House.{HouseXml}
+use Rattle.image.specs.Kinds.{values}
+use Rattle.image.specs.Place.{whole as read}
+use Rattle.image.proofs.Answers.{accepting}
+use Rattle.image_reading.specs.Reads.{stored, HouseAccepts, HouseReads}
+use Rattle.image_reading.proofs.House.{only, house-accepts-one, house-reads-one, house-reads-some}
+use Rattle.file.specs.Checks.{Checks}
+use Rattle.file_letter.specs.Letter.{letterOf}
+use Rattle.file_letter.specs.Writes.{letterIn, Delivers, large, short, whole, Writes, unread, begun}
+use Rattle.file_letter.proofs.Files.{same-image}
+
+code-of : (a b : Answer) → a ≡ b → a .code ≡ b .code
+code-of a b e = ap (λ (x : Answer). x .code) e
+
+-- ---- one file into one buffer
+
+module _ (s d : List ℕ) where
+  delivers-one : (a b : Answer) (x z : List ℕ) → Delivers s d a x → Delivers s d b z → (a ≡ b) × (x ≡ z)
+  delivers-one a b x z (large h e f) (large i g k) = (e ∙ sym g, f ∙ sym k)
+  delivers-one a b x z (large h e f) (short i j g k) = absurd (omega arith)
+  delivers-one a b x z (large h e f) (whole i j g k) = absurd (omega arith)
+  delivers-one a b x z (short h j e f) (large i g k) = absurd (omega arith)
+  delivers-one a b x z (short h j e f) (short i m g k) = (e ∙ sym g, f ∙ sym k)
+  delivers-one a b x z (short h j e f) (whole i m g k) = absurd (omega arith)
+  delivers-one a b x z (whole h j e f) (large i g k) = absurd (omega arith)
+  delivers-one a b x z (whole h j e f) (short i m g k) = absurd (omega arith)
+  delivers-one a b x z (whole h j e f) (whole i m g k) = (e ∙ sym g, f ∙ sym k)
+
+  delivers-some : (a : Answer) × (d′ : List ℕ) × Delivers s d a d′
+  delivers-some = elim (decLt limit (length s)) [
+    | yes h ↦ (tooLarge (length s), d, large h refl refl)
+    | no h ↦ elim (decLt (length d) (length s)) [
+      | yes g ↦ (noRoom (length s), d, short (omega arith) g refl refl)
+      | no g ↦ (accepted (length s), s ++ drop (length s) d, whole (omega arith) (omega arith) refl refl)
+    ]
+  ]
+
+  delivers-leaves : (a : Answer) (d′ : List ℕ) → Delivers s d a d′ → a .code ≢ 0 → d′ ≡ d
+  delivers-leaves a d′ (large h e f) n = f
+  delivers-leaves a d′ (short h j e f) n = f
+  delivers-leaves a d′ (whole h j e f) n = absurd (n (code-of a (accepted (length s)) e))
+
+  -- what stands in the buffer where the code is 0
+  delivers-file : (a : Answer) (d′ : List ℕ) → Delivers s d a d′ → a .code ≡ 0 → (length s ≤ limit) × (a .place ≡ length s) × (take (a .place) d′ ≡ s)
+  delivers-file a d′ (large h e f) z = absurd (omega (arith, code-of a (tooLarge (length s)) e))
+  delivers-file a d′ (short h j e f) z = absurd (omega (arith, code-of a (noRoom (length s)) e))
+  delivers-file a d′ (whole h j e f) z =
+      let p : a .place ≡ length s = ap (λ (x : Answer). x .place) e in
+      (h, p, ap₂ take p f ∙ take-append-seam s (drop (length s) d))
+
+-- ---- the run
+
+module _ (run : List ℕ) where
+  -- the image that a run begins with has one file
+  same-letter : (m n : ℕ) (v : HouseAccepts run m) (w : HouseAccepts run n) → letterIn v ≡ letterIn w
+  same-letter m n v w =
+      ap₂ (λ (l : Listing) (c : Content Value). letterOf l c) (only (v .list) (v .among) ∙ sym (only (w .list) (w .among))) (house-accepts-one run m n v w .1)
+
+  not-unread : length run ≤ limit → (n : ℕ) → HouseAccepts run n → (a : Answer) → HouseReads run a → a .code ≢ 0 → ⊥
+  not-unread h n w a r k = k (code-of a (accepted n) (house-reads-one run a (accepted n) r (read h n w refl)))
+
+  module _ (d : List ℕ) where
+    -- only one answer fits, and one buffer
+    pub writes-one : (a b : Answer) (x z : List ℕ) → Writes run d a x → Writes run d b z → (a ≡ b) × (x ≡ z)
+    writes-one a b x z (unread r k e) (unread q m f) = (house-reads-one run a b r q, e ∙ sym f)
+    writes-one a b x z (unread r k e) (begun h n w p) = absurd (not-unread h n w a r k)
+    writes-one a b x z (begun h n w p) (unread r k e) = absurd (not-unread h n w b r k)
+    writes-one a b x z (begun h n w p) (begun i m v q) =
+        delivers-one (letterIn w) d a b x z p (subst (λ (s : List ℕ). Delivers s d b z) (same-letter m n v w) q)
+
+    -- and some does
+    pub writes-some : (a : Answer) × (d′ : List ℕ) × Writes run d a d′
+    writes-some =
+        let r = house-reads-some run in
+        elim (ℕ-discrete (r .0 .code) 0) [
+          | no k ↦ (r .0, d, unread (r .1) k refl)
+          | yes z ↦
+              let w = accepting values stored run (r .0) (r .1) z in
+              let p = delivers-some (letterIn (w .1)) d in
+              (p .0, p .1, begun (w .0) (r .0 .place) (w .1) (p .2))
+        ]
+
+    -- every refusal leaves every byte
+    pub write-leaves : (a : Answer) (d′ : List ℕ) → Writes run d a d′ → a .code ≢ 0 → d′ ≡ d
+    write-leaves a d′ (unread r k e) n = e
+    write-leaves a d′ (begun h m w p) n = delivers-leaves (letterIn w) d a d′ p n
+
+    -- code 0: the buffer begins with the file of the image that the run begins with, as many bytes as the answer's place says
+    pub written-file : (a : Answer) (d′ : List ℕ) → Writes run d a d′ → a .code ≡ 0 → (n : ℕ) (w : HouseAccepts run n)
+        → (length (letterIn w) ≤ limit) × (a .place ≡ length (letterIn w)) × (take (a .place) d′ ≡ letterIn w)
+    written-file a d′ (unread r k e) z n w = absurd (k z)
+    written-file a d′ (begun h m v p) z n w =
+        delivers-file (letterIn w) d a d′ (subst (λ (s : List ℕ). Delivers s d a d′) (same-letter m n v w) p) z
+
+  -- "The written file is accepted and gives the same image": by check with every buffer that has room for it
+  pub write-back : (utf8 : (s : List ℕ) → HouseXml s → Utf8 s) → (d : List ℕ) (a : Answer) (d′ : List ℕ) → Writes run d a d′ → a .code ≡ 0 → (n : ℕ) → HouseAccepts run n
+      → (e : List ℕ) (b : Answer) (e′ : List ℕ) → Checks (take (a .place) d′) e b e′ → n ≤ length e → (b ≡ accepted n) × (e′ ≡ take n run ++ drop n e)
+  write-back utf8 d a d′ p z n w e b e′ q r =
+      let f = written-file d a d′ p z n w in
+      same-image utf8 run n w (f .0) e b e′ (subst (λ (s : List ℕ). Checks s e b e′) (f .2) q) r

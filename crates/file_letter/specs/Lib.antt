@@ -1,0 +1,7 @@
+-- The definitions of `file_letter`.
+-- the tree that is written for a content
+pub mod Letter
+-- what writing answers, and what it leaves in the buffer
+pub mod Writes
+-- a mirror: how it is told, item by item
+pub mod Tell

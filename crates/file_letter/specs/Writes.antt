@@ -1,0 +1,30 @@
+-- What writing a statement file answers, and what it leaves in the buffer. Assumes nothing.
+use mathlib.Core.Path.{_≡_}
+use mathlib.Core.Logic.{_≢_}
+use mathlib.Core.List.{List, _++_}
+use Prim.Native.Nat.{ℕ, _≤_, _<_}
+use lib.ListN.{length, drop}
+use Rattle.answer.specs.declared.Answer.{Answer}
+use Rattle.answer.specs.Table.{limit, accepted, noRoom, tooLarge}
+use Rattle.image_reading.specs.Reads.{HouseAccepts, HouseReads}
+use Rattle.file_letter.specs.Letter.{letterOf}
+
+-- "From an image at the start of a run, write a message": the file of that image's content, by its list
+abbrev pub letterIn : {run : List ℕ} {n : ℕ} → HouseAccepts run n → List ℕ
+letterIn w = letterOf (w .list) (w .holds .content)
+
+-- a file s that is to be written: the buffer d before, the answer a and the buffer d′ after; "place is the bytes needed, row 0"
+pub data Delivers (s d : List ℕ) (a : Answer) (d′ : List ℕ) : Type 0 where
+  -- "19 where the file would be over 1,048,576 bytes"
+  large : limit < length s → a ≡ tooLarge (length s) → d′ ≡ d → Delivers s d a d′
+  -- "then 14 where the buffer is too short"
+  short : length s ≤ limit → length d < length s → a ≡ noRoom (length s) → d′ ≡ d → Delivers s d a d′
+  -- "Success is code 0, row 0, the file's length; bytes beyond it stay"
+  whole : length s ≤ limit → length s ≤ length d → a ≡ accepted (length s) → d′ ≡ s ++ drop (length s) d → Delivers s d a d′
+
+-- a run: the buffer d before, the answer a and the buffer d′ after
+pub data Writes (run d : List ℕ) (a : Answer) (d′ : List ℕ) : Type 0 where
+  -- "Refusals: 1 and 15 to 17 as in the reader"
+  unread : HouseReads run a → a .code ≢ 0 → d′ ≡ d → Writes run d a d′
+  -- "then 19 .., then 14 .."
+  begun : length run ≤ limit → (n : ℕ) (w : HouseAccepts run n) → Delivers (letterIn w) d a d′ → Writes run d a d′

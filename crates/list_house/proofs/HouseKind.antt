@@ -1,0 +1,48 @@
+-- The kind of a row of the house list, as a number: what the table's column says. Assumes nothing.
+use mathlib.Core.Path.{_≡_, refl, sym, _∙_, ap}
+use mathlib.Core.Bool.{true}
+use Prim.Native.Nat.{ℕ, suc, _≤_, _<_}
+use native.Mathlib.Omega.{arith}
+use native.Mathlib.Decide.{decLt}
+use lib.Dec.{eqb}
+use borrow.Author.Tests.{eqb-true}
+use Rattle.text.proofs.Classes.{every, passes}
+use Rattle.list.specs.Listing.{ref, iban, ccy, bool, num, amt, date, dtm, txt, enum, Kind, group, choice, leaf, Row, size, rowAt, isGroup}
+use Rattle.list.specs.Table.{cell}
+use Rattle.list.proofs.Next.{row-past}
+use Rattle.list.proofs.Cells.{no-row}
+use Rattle.list_house.specs.House.{house}
+use Rattle.list_house.specs.HouseTable.{houseRows}
+use Rattle.list_house.proofs.HouseSound.{house-well}
+use Rattle.list_house.specs.Kind.{numberOf, houseKind}
+
+-- behind the last row there is none
+pub kind-past : (m : ℕ) → suc (size house) ≡ m → (r : ℕ) → m ≤ r → 0 ≡ houseKind r
+kind-past m e r h = sym (ap (λ (x : Row). numberOf (x .kind)) (row-past house r (omega arith)))
+
+-- no list has a row above 255
+column-test : every (λ r. eqb (houseKind r) (cell houseRows r 2)) 1 255 ≡ true
+unfolding rowAt house cell houseRows
+column-test = refl
+
+-- of every number but 0, whose cells are the list's own, it is what the column says
+pub kind-column : (r : ℕ) → 0 < r → houseKind r ≡ cell houseRows r 2
+kind-column r h = elim (decLt 255 r) [
+  | no l ↦ eqb-true (houseKind r) (cell houseRows r 2) (passes (λ y. eqb (houseKind y) (cell houseRows y 2)) 1 255 column-test r h (omega arith))
+  | yes l ↦ sym (kind-past (suc (size house)) refl r (omega (arith, house-well .bytes))) ∙ no-row houseRows r 2 (omega arith) l
+]
+
+-- a number below a leaf's is a group's
+pub low-group : (k : Kind) → numberOf k < 2 → isGroup k ≡ true
+low-group group h = refl
+low-group choice h = refl
+low-group (leaf ref) h = absurd (omega arith)
+low-group (leaf (txt n)) h = absurd (omega arith)
+low-group (leaf iban) h = absurd (omega arith)
+low-group (leaf ccy) h = absurd (omega arith)
+low-group (leaf (enum ws)) h = absurd (omega arith)
+low-group (leaf bool) h = absurd (omega arith)
+low-group (leaf num) h = absurd (omega arith)
+low-group (leaf amt) h = absurd (omega arith)
+low-group (leaf date) h = absurd (omega arith)
+low-group (leaf dtm) h = absurd (omega arith)

@@ -1,0 +1,75 @@
+"""The lists for people: the names of rows in include/kto.h, and docs/LIST.md."""
+import textwrap
+
+BEGIN = '/* The rows of the house list (docs/LIST.md). Written by tools/lists/make, from here .. */'
+END = '/* .. to here. */'
+
+# How many bytes a value has in an image (document 01, "Content and its image").
+BYTES = {'REF': '2 + 1 to 35', 'IBAN': '2 + 5 to 34', 'CCY': '2 + 3', 'BOOL': '1', 'NUM': '8', 'AMT': '12', 'DATE': '4', 'DTM': '13'}
+
+WHAT = (
+    'A row is an element at its place in a message. Its number stands in answers, in images and in the calls of the unit. '
+    'C has it by name in `include/kto.h`: `KTO_ROW_` and the path below the second element, in capitals. '
+    'This page is written by `tools/lists/make`.'
+)
+COLUMNS = (
+    'Count: how often the element stands in its parent, n without a limit; a child of a choice has none. '
+    'Kind: G is a group in sequence, C a group that is a choice of exactly one child, the others are types. '
+    "Bytes: those of a value in an image, behind its row byte. A text has two bytes of length before it, and each of a TXT's characters "
+    'has one to three; an ENUM has the place of its word.'
+)
+
+
+def kind(row):
+    return f'{row.kind}{row.most or ""}'
+
+
+def value(row):
+    """How many bytes a row's value has in an image; which they are, where they say a word's place."""
+    if row.kind == 'TXT':
+        return f'2 + 1 to {3 * row.most}'
+    if row.kind == 'ENUM':
+        return '1: ' + ', '.join(f'{place} {word}' for place, word in enumerate(row.words, 1))
+    return BYTES.get(row.kind, '')
+
+
+def constants(found, prefix):
+    """The rows with their names for C: the path below the message's element, so that a new row renames no other. A row without a name has none."""
+    for row in found.rows:
+        path = found.path(row.number)
+        if all(path):
+            yield row, prefix + '_'.join(path[2:] or path[-1:]).upper()
+
+
+def header(lists, text):
+    """include/kto.h with the names of the rows between its two marks."""
+    blocks, names = [], []
+    for found in lists:
+        rows = list(constants(found, 'KTO_ROW_' if found is lists[0] else f'KTO_{found.name.upper()}_ROW_'))
+        names += [name for _, name in rows]
+        lines = [f'    {name} = {row.number}' + (',' if row is not rows[-1][0] else '') + (f' /* {kind(row)} */' if value(row) else '') for row, name in rows]
+        blocks.append('\n'.join(['enum {', *lines, '};']))
+    if len(set(names)) < len(names):
+        raise SystemExit('lists: two rows have one name for C')
+    before, _, rest = text.partition(BEGIN)
+    _, _, behind = rest.partition(END)
+    if not behind:
+        raise SystemExit('lists: include/kto.h has lost the marks between which its rows stand')
+    return before + '\n'.join([BEGIN, '\n\n'.join(blocks), END]) + behind
+
+
+def paragraph(text):
+    return textwrap.fill(text, 100, break_long_words=False, break_on_hyphens=False)
+
+
+def page(lists):
+    """docs/LIST.md"""
+    parts = ['# The lists', paragraph(WHAT), paragraph(COLUMNS)]
+    for found in lists:
+        lines = ['| Row | Path | Count | Kind | Bytes |', '|---|---|---|---|---|']
+        for row in found.rows:
+            path = '/'.join(name or '-' for name in found.path(row.number))
+            lines.append(f'| {row.number} | {path} | {row.count or "-"} | {kind(row)} | {value(row)} |'.replace('|  |', '| |'))
+        parts += [f'## {found.message()}', f'Namespace: `{found.space}`.', '\n'.join(lines)]
+        parts += [paragraph(f'Row {group}: rows {one} and {two} are both present or both absent.') for group, one, two in found.rules]
+    return '\n\n'.join(parts) + '\n'
