@@ -2,13 +2,13 @@
 use mathlib.Core.Path.{_≡_, refl, sym, _∙_, ap, ap₂}
 use mathlib.Core.Bool.{Bool, true, false, cond, not, true≢false}
 use mathlib.Core.Logic.{_≢_, inl, inr}
-use mathlib.Core.List.{List, [], _∷_, _++_, append-assoc, append-nil}
+use mathlib.Core.List.{List, [], _∷_, _++_, append-nil}
 use Prim.Native.Nat.{ℕ, zero, suc, _+_, _-_, _*_, _≤_, _<_, zero-le}
 use native.Mathlib.Numerals.{add-one}
 use native.Mathlib.Omega.{arith}
 use lib.ListN.{length, getD, take, drop, length-append, length-drop, length-take, drop-of-length-le}
 use lib.Seq.{slice, drop-cons, drop-drop, getD-drop}
-use borrow.Author.Tests.{eq-eqb, ne-eqb}
+use borrow.Author.Tests.{ne-eqb}
 use Rattle.text.specs.Lists.{span}
 use Rattle.text.specs.Pasting.{pasted}
 use Rattle.text.proofs.Classes.{Named, only, _or_, is-in}
@@ -111,19 +111,21 @@ all-plain t end e h =
 -- ---- a loop that has counted n bytes up to i
 
 pub record Counting (t : List ℕ) (n i : ℕ) : Type 0 where
+  pub upto : i ≤ length t
   pub most : n ≤ 5 * i
   pub here : n + length (escaped (drop i t)) ≡ length (escaped t)
 
 pub counting-again : (t : List ℕ) (n i w : ℕ) → Counting t n i → i < length t → (w ≡ length (escape (getD t i 0))) × (w ≤ 5) → Counting t (n + w) (i + 1)
 counting-again t n i w c h e = record {
+  upto = omega arith;
   most = omega (arith, c .most, e .1);
   here =
       omega
       (arith, c .here, e .0, ap length (escaped-at t i h), length-append (escape (getD t i 0)) (escaped (drop (i + 1) t)));
 }
 
-pub counting-end : (t : List ℕ) (n i : ℕ) → Counting t n i → length t ≤ i → n ≡ length (escaped t)
-counting-end t n i c h = omega (arith, c .here, ap length (escaped-end t i h))
+pub counting-end : (t : List ℕ) (n i : ℕ) → Counting t n i → length t ≤ i → length t ≤ 65535 → (n ≡ length (escaped t)) × (n ≤ 327675)
+counting-end t n i c h k = (omega (arith, c .here, ap length (escaped-end t i h)), omega (arith, c .most, c .upto))
 
 -- ---- a loop that has put all up to i, and is to go on at `to`
 

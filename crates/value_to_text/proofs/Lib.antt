@@ -7,3 +7,5 @@ pub mod Escaping
 pub mod Moments
 -- what is written, kind by kind
 pub mod Writing
+-- what is written for the bytes of a value is its text
+pub mod Meaning

@@ -1,9 +1,9 @@
 -- What is written, kind by kind. Assumes nothing.
 use mathlib.Core.Path.{_≡_, refl, sym, _∙_, ap, ap₂}
-use mathlib.Core.Bool.{Bool, cond, not}
+use mathlib.Core.Bool.{Bool, true, false, cond, not}
 use mathlib.Core.Logic.{_≢_}
 use mathlib.Core.List.{List, [], _∷_}
-use Prim.Native.Nat.{ℕ, zero, suc, _+_, _-_, _≤_, _<_}
+use Prim.Native.Nat.{ℕ, zero, suc, _+_, _-_, _≤_, zero-le}
 use native.Mathlib.Nat.{lt-of-not-le}
 use native.Mathlib.Omega.{arith}
 use native.Mathlib.Decide.{decLt}
@@ -13,19 +13,21 @@ use lib.Seq.{slice, take-length}
 use borrow.Author.Tests.{eq-eqb, ne-eqb}
 use Rattle.text.specs.Numbers.{number}
 use Rattle.text.specs.Pasting.{pasted}
-use Rattle.text.proofs.Parts.{part-take}
+use Rattle.text.proofs.Parts.{part-take, part-length}
 use Rattle.text.proofs.Pasting.{pasted-none}
+use Rattle.list.specs.Table.{cell, words, longer, wordsIn}
 use Rattle.value_to_text.specs.Script.{truthText}
 use Rattle.value_to_text.specs.Raw.{escaped}
 use Rattle.value_to_text.specs.Stored.{textRaw, wordRaw, raws, rawText}
 
--- what was written, under another name
-pub wrote-as : (d d′ : List ℕ) (at r : ℕ) (u v : List ℕ) → v ≡ u → (r ≡ length u) × (d′ ≡ pasted d at u) → (r ≡ length v) × (d′ ≡ pasted d at v)
-wrote-as d d′ at r u v e w = (w .0 ∙ ap length (sym e), w .1 ∙ ap (pasted d at) (sym e))
+-- what was written, under another name: r bytes, at most so many
+module _ (d d′ : List ℕ) (at r m n : ℕ) (u v : List ℕ) (e : v ≡ u) (l : m ≤ n) where
+  pub wrote-as : (r ≡ length u) × ((r ≤ m) × (d′ ≡ pasted d at u)) → (r ≡ length v) × ((r ≤ n) × (d′ ≡ pasted d at v))
+  wrote-as w = (w .0 ∙ ap length (sym e), (omega (arith, w .1 .0), w .1 .1 ∙ ap (pasted d at) (sym e)))
 
 -- nothing
-pub wrote-none : (d : List ℕ) (at : ℕ) (v : List ℕ) → v ≡ [] → (0 ≡ length v) × (d ≡ pasted d at v)
-wrote-none d at v e = wrote-as d d at 0 [] v e (refl, sym (pasted-none d at))
+pub wrote-none : (d : List ℕ) (at n : ℕ) (v : List ℕ) → v ≡ [] → (0 ≡ length v) × ((0 ≤ n) × (d ≡ pasted d at v))
+wrote-none d at n v e = wrote-as d d at 0 0 n [] v e zero-le (refl, (zero-le, sym (pasted-none d at)))
 
 -- ---- a text, as long as its first two bytes say
 
@@ -45,6 +47,29 @@ word-none ws b n e z = rw (eq-eqb (getD b 0 0) 0 (sym e ∙ z)) refl
 pub word-some : (ws : List (List ℕ)) (b : List ℕ) (n : ℕ) (w : List ℕ) → n ≡ getD b 0 0 → n ≢ 0 → w ≡ getD ws (n - 1) [] → wordRaw ws b ≡ w
 unfolding wordRaw
 word-some ws b n w e z f = rw (ne-eqb (getD b 0 0) 0 (λ q. z (e ∙ q))) (ap (λ (k : ℕ). getD ws (k - 1) []) (sym e) ∙ sym f)
+
+-- a word of a text is no longer than the text
+longer-most : (x : ℕ) (ws : List (List ℕ)) (n m : ℕ) → ((k : ℕ) → length (getD ws k []) ≤ m) → length (getD (longer x ws) n []) ≤ suc m
+longer-most x [] n m h = omega (arith, h n)
+longer-most x (w ∷ ws) zero m h = omega (arith, h 0)
+longer-most x (w ∷ ws) (suc n) m h = omega (arith, h (suc n))
+
+words-most : (s : List ℕ) (n : ℕ) → length (getD (words s) n []) ≤ length s
+unfolding words
+words-most [] zero = zero-le
+words-most [] (suc n) = zero-le
+words-most (x ∷ s) n = go (eqb x 32) n (words-most s)
+  where
+    go : (b : Bool) (n : ℕ) → ((k : ℕ) → length (getD (words s) k []) ≤ length s) → length (getD (cond b ([] ∷ words s) (longer x (words s))) n []) ≤ suc (length s)
+    go true zero h = zero-le
+    go true (suc n) h = omega (arith, h n)
+    go false n h = longer-most x (words s) n (length s) h
+
+pub word-most : (t pool : List ℕ) (r n : ℕ) (w : List ℕ) → w ≡ getD (wordsIn t pool r) n [] → length w ≤ length pool
+word-most t pool r n w e =
+    let a = cell t r 6 in
+    let b = cell t r 7 in
+    omega (arith, ap length e, words-most (slice a b pool) n, part-length a b pool)
 
 -- ---- yes or no
 

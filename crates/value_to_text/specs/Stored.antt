@@ -8,6 +8,7 @@ use lib.ListN.{getD, take, drop}
 use Rattle.text.specs.Bytes.{ascii}
 use Rattle.text.specs.Numbers.{number}
 use Rattle.text.specs.Digits.{inDigits, padded, pointed}
+use Rattle.list.specs.Table.{cell, wordsIn}
 use Rattle.value_to_text.specs.Script.{truthText}
 use Rattle.value_to_text.specs.Raw.{escaped}
 
@@ -52,3 +53,7 @@ raws ws b =
 -- nothing where the number is none of a leaf's kind
 unfoldable pub rawText : ℕ → List (List ℕ) → List ℕ → List ℕ
 rawText c ws b = getD (raws ws b) c []
+
+-- what is written for the value of a leaf of row r that stands at place i of a run, in the tables of a list
+abbrev pub rawAt : List ℕ → List ℕ → ℕ → List ℕ → ℕ → List ℕ
+rawAt t pool r run i = rawText (cell t r 2) (wordsIn t pool r) (drop i run)

@@ -46,7 +46,7 @@ fn width(x: u8) -> usize
 // How many bytes are written for t.
 fn raw_len(t: &[u8]) -> usize
     requires { ⌜ length (now t) ≤ 65535 ⌝ }
-    ensures { λ r. ⌜ r ≡ length (escaped (now (t .entry))) ⌝ }
+    ensures { λ r. ⌜ (r ≡ length (escaped (now (t .entry)))) × (r ≤ 327675) ⌝ }
 {
     let mut n = 0;
     let mut i = 0;
@@ -95,7 +95,7 @@ fn spread(t: &[u8], out: &mut [u8], at: usize)
 // Writes t at a place of the buffer, and answers how many bytes that is. Most texts have none of the three and are one copy.
 pub(crate) fn write_chars(t: &[u8], out: &mut [u8], at: usize) -> usize
     requires { ⌜ length (now t) ≤ 65535 ⌝ }
-    ensures { λ r. ⌜ (r ≡ length (escaped (now (t .entry)))) × (now (out .exit) ≡ pasted (now (out .entry)) at (escaped (now (t .entry)))) ⌝ }
+    ensures { λ r. ⌜ (r ≡ length (escaped (now (t .entry)))) × ((r ≤ 327675) × (now (out .exit) ≡ pasted (now (out .entry)) at (escaped (now (t .entry))))) ⌝ }
 {
     if t.len() <= plain_end(t, 0) {
         copy(t, 0, t.len(), out, at);

@@ -5,7 +5,7 @@ use text::number::copy;
 use text::number::get16;
 use text::number::get32;
 ghost use mathlib.Core.Path.{_≡_};
-ghost use mathlib.Core.List.{_++_, _∷_};
+ghost use mathlib.Core.List.{_∷_};
 ghost use Prim.Native.Nat.{_+_, _≤_};
 ghost use lib.ListN.{length, getD};
 ghost use Rattle.text.specs.Pasting.{pasted};
@@ -90,7 +90,7 @@ fn put_clock(buf: &mut [u8], b: &[u8])
 }
 
 pub(crate) fn write_day(b: &[u8], out: &mut [u8], at: usize) -> usize
-    ensures { λ r. ⌜ (r ≡ length (dayIn (now (b .entry)))) × (now (out .exit) ≡ pasted (now (out .entry)) at (dayIn (now (b .entry)))) ⌝ }
+    ensures { λ r. ⌜ (r ≡ length (dayIn (now (b .entry)))) × ((r ≤ 10) × (now (out .exit) ≡ pasted (now (out .entry)) at (dayIn (now (b .entry))))) ⌝ }
 {
     let mut space = [0u8; 10];
     put_day(&mut space, b);
@@ -99,7 +99,7 @@ pub(crate) fn write_day(b: &[u8], out: &mut [u8], at: usize) -> usize
 }
 
 pub(crate) fn write_moment(b: &[u8], out: &mut [u8], at: usize) -> usize
-    ensures { λ r. ⌜ (r ≡ length (momentIn (now (b .entry)))) × (now (out .exit) ≡ pasted (now (out .entry)) at (momentIn (now (b .entry)))) ⌝ }
+    ensures { λ r. ⌜ (r ≡ length (momentIn (now (b .entry)))) × ((r ≤ 32) × (now (out .exit) ≡ pasted (now (out .entry)) at (momentIn (now (b .entry))))) ⌝ }
 {
     let mut space = [0u8; 32];
     put_day(&mut space, b);

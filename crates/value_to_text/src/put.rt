@@ -14,23 +14,24 @@ use text::number::get64;
 use value::blanks::part_of;
 ghost use mathlib.Core.Path.{_≡_};
 ghost use mathlib.Core.Bool.{not};
+ghost use Prim.Native.Nat.{_+_, _≤_};
 ghost use lib.Dec.{eqb};
-ghost use lib.ListN.{length, getD, drop};
+ghost use lib.ListN.{length, getD};
 ghost use Rattle.text.specs.Pasting.{pasted};
-ghost use Rattle.list.specs.Table.{cell, wordsIn};
+ghost use Rattle.list.specs.Table.{wordsIn};
 ghost use Rattle.value_to_text.specs.Script.{truthText};
-ghost use Rattle.value_to_text.specs.Stored.{textRaw, wordRaw, rawText};
+ghost use Rattle.value_to_text.specs.Stored.{textRaw, wordRaw, rawAt};
 
 // REF, TXT, IBAN, CCY: as long as the first two bytes say.
 fn write_text(b: &[u8], out: &mut [u8], at: usize) -> usize
-    ensures { λ r. ⌜ (r ≡ length (textRaw (now (b .entry)))) × (now (out .exit) ≡ pasted (now (out .entry)) at (textRaw (now (b .entry)))) ⌝ }
+    ensures { λ r. ⌜ (r ≡ length (textRaw (now (b .entry)))) × ((r ≤ 327675) × (now (out .exit) ≡ pasted (now (out .entry)) at (textRaw (now (b .entry))))) ⌝ }
 {
     write_chars(part_of(b, 2, 2 + (get16(b, 0) as usize)), out, at)
 }
 
 // ENUM: a word of capitals, which are copied as they stand.
 fn write_word(rows: &[u16], pool: &[u8], row: usize, b: &[u8], out: &mut [u8], at: usize) -> usize
-    ensures { λ r. ⌜ (r ≡ length (wordRaw (wordsIn (now (rows .entry)) (now (pool .entry)) row) (now (b .entry)))) × (now (out .exit) ≡ pasted (now (out .entry)) at (wordRaw (wordsIn (now (rows .entry)) (now (pool .entry)) row) (now (b .entry)))) ⌝ }
+    ensures { λ r. ⌜ (r ≡ length (wordRaw (wordsIn (now (rows .entry)) (now (pool .entry)) row) (now (b .entry)))) × ((r ≤ length (now (pool .entry))) × (now (out .exit) ≡ pasted (now (out .entry)) at (wordRaw (wordsIn (now (rows .entry)) (now (pool .entry)) row) (now (b .entry))))) ⌝ }
 {
     let n = byte(b, 0);
     if n == 0 {
@@ -43,7 +44,7 @@ fn write_word(rows: &[u16], pool: &[u8], row: usize, b: &[u8], out: &mut [u8], a
 
 // "BOOL as `true` or `false`"
 fn write_truth(b: &[u8], out: &mut [u8], at: usize) -> usize
-    ensures { λ r. ⌜ (r ≡ length (truthText (not (eqb (getD (now (b .entry)) 0 0) 0)))) × (now (out .exit) ≡ pasted (now (out .entry)) at (truthText (not (eqb (getD (now (b .entry)) 0 0) 0)))) ⌝ }
+    ensures { λ r. ⌜ (r ≡ length (truthText (not (eqb (getD (now (b .entry)) 0 0) 0)))) × ((r ≤ 5) × (now (out .exit) ≡ pasted (now (out .entry)) at (truthText (not (eqb (getD (now (b .entry)) 0 0) 0))))) ⌝ }
 {
     if byte(b, 0) == 0 {
         copy(b"false", 0, 5, out, at);
@@ -64,7 +65,7 @@ pub fn put(
     out: &mut [u8],
     at: usize,
 ) -> usize
-    ensures { λ r. ⌜ (r ≡ length (rawText (cell (now (rows .entry)) row 2) (wordsIn (now (rows .entry)) (now (pool .entry)) row) (drop i (now (run .entry))))) × (now (out .exit) ≡ pasted (now (out .entry)) at (rawText (cell (now (rows .entry)) row 2) (wordsIn (now (rows .entry)) (now (pool .entry)) row) (drop i (now (run .entry))))) ⌝ }
+    ensures { λ r. ⌜ (r ≡ length (rawAt (now (rows .entry)) (now (pool .entry)) row (now (run .entry)) i)) × ((r ≤ 327675 + length (now (pool .entry))) × (now (out .exit) ≡ pasted (now (out .entry)) at (rawAt (now (rows .entry)) (now (pool .entry)) row (now (run .entry)) i))) ⌝ }
 {
     let b = part_of(run, i, run.len());
     match cell(rows, row, KIND) {

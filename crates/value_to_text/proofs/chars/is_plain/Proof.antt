@@ -1,22 +1,16 @@
-use Rattle.value_to_text.proofs.chars.is_plain.Statement.{statement}
-use Rattle.value_to_text.proofs.chars.is_plain.Tie as tie
-use Rattle.value_to_text.proofs.chars.is_plain.Reads as reads
-use Rattle.value_to_text.proofs.chars.is_plain.Lts as lts
+-- `chars::is_plain` meets its contract. Assumes nothing.
 use mathlib.Core.Path.{refl, ap}
 use mathlib.Core.Bool.{not}
 use mathlib.Core.List.{[], _∷_}
 use mathlib.Core.Logic.{inl, inr}
 use Rattle.text.proofs.Classes.{yes-key, no}
 use Rattle.value_to_text.proofs.Escaping.{marked}
+use Rattle.value_to_text.proofs.chars.is_plain.Statement.{statement}
+use Rattle.value_to_text.proofs.chars.is_plain.Tie as tie
 
--- answers
-
--- src/chars.rt:13:1
 returns : tie.Need-returns
-returns c =
-    ap not (yes-key marked (38 ∷ 60 ∷ 62 ∷ []) refl (c .match .keys1))
+returns c = ap not (yes-key marked (38 ∷ 60 ∷ 62 ∷ []) refl (c .match .keys1))
 
--- src/chars.rt:13:1
 returns-2 : tie.Need-returns-2
 returns-2 c =
     let r = c .match .rest in

@@ -1,81 +1,60 @@
-use borrow.Author.Needs.{needs}
-use Rattle.value_to_text.proofs.chars.put_mark.Statement.{statement}
-use Rattle.value_to_text.proofs.chars.put_mark.Tie as tie
-use Rattle.value_to_text.proofs.chars.put_mark.Reads as reads
-use Rattle.value_to_text.proofs.chars.put_mark.Lts as lts
-use Rattle.text.proofs.number.copy.Reads as copy-reads
-use mathlib.Core.Path.{sym, _∙_, ap}
+-- `chars::put_mark` meets its contract: what is marked and neither `&` nor `<` is `>`. Assumes nothing.
+use mathlib.Core.Path.{ap}
 use native.Mathlib.Omega.{arith}
 use lib.ListN.{length}
-use Rattle.text.specs.Pasting.{pasted}
-use Rattle.value_to_text.proofs.Escaping.{escape-amp, escape-lt, escape-gt, last-mark}
-use Rattle.value_to_text.proofs.Escaping.{pasted-as}
+use borrow.Author.Needs.{needs}
+use Rattle.value_to_text.proofs.Escaping.{escape-amp, escape-lt, escape-gt, last-mark, pasted-as}
+use Rattle.value_to_text.proofs.chars.put_mark.Statement.{statement}
+use Rattle.value_to_text.proofs.chars.put_mark.Tie as tie
 
--- answers
-
--- src/chars.rt:66:14
 slice-aggregate-copy : tie.Need-slice-aggregate-copy
 slice-aggregate-copy c = search needs
 
--- src/chars.rt:66:9
 copy-requires : tie.Need-copy-requires
 copy-requires c κs = search needs
 
--- src/chars.rt:67:16
 add-result : tie.Need-add-result
 add-result c = search needs
 
--- src/chars.rt:67:9
 same-length : tie.Need-same-length
 same-length c = search needs
 
--- src/chars.rt:67:9
 returns : tie.Need-returns
 returns c =
     let o = c .before .before .before .before .before .before .before in
     let e = escape-amp (o .args .x) (c .before .before .before .before .before .if1 .taken) in
     (omega (arith, ap length e), pasted-as _ _ _ _ _ e (c .before .before .copy .ensures))
 
--- src/chars.rt:70:14
 slice-aggregate-copy-2 : tie.Need-slice-aggregate-copy-2
 slice-aggregate-copy-2 c = search needs
 
--- src/chars.rt:70:9
 copy-requires-2 : tie.Need-copy-requires-2
 copy-requires-2 c κs = search needs
 
--- src/chars.rt:71:16
 add-result-2 : tie.Need-add-result-2
 add-result-2 c = search needs
 
--- src/chars.rt:71:9
 same-length-2 : tie.Need-same-length-2
 same-length-2 c = search needs
 
--- src/chars.rt:71:9
 returns-2 : tie.Need-returns-2
 returns-2 c =
     let o = c .before .before .before .before .before .before .before .before in
     let e = escape-lt (o .args .x) (c .before .before .before .before .before .if2 .taken) in
     (omega (arith, ap length e), pasted-as _ _ _ _ _ e (c .before .before .copy2 .ensures))
 
--- src/chars.rt:73:10
 slice-aggregate-copy-3 : tie.Need-slice-aggregate-copy-3
 slice-aggregate-copy-3 c = search needs
 
--- src/chars.rt:73:5
 copy-requires-3 : tie.Need-copy-requires-3
 copy-requires-3 c κs = search needs
 
--- src/chars.rt:74:5
 add-result-3 : tie.Need-add-result-3
 add-result-3 c = search needs
 
--- src/chars.rt:61:1
 same-length-3 : tie.Need-same-length-3
 same-length-3 c = search needs
 
--- src/chars.rt:61:1
 returns-3 : tie.Need-returns-3
 returns-3 c =
     let o = c .before .before .before .before .before .before .before .before in

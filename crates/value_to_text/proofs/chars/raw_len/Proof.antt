@@ -1,16 +1,11 @@
-use Rattle.value_to_text.proofs.chars.raw_len.Statement.{statement}
-use Rattle.value_to_text.proofs.chars.raw_len.Tie as tie
-use Rattle.value_to_text.proofs.chars.raw_len.Reads as reads
-use Rattle.value_to_text.proofs.chars.raw_len.Lts as lts
-use Rattle.value_to_text.proofs.chars.width.Reads as width-reads
-use mathlib.Core.Path.{refl}
+-- `chars::raw_len` meets its contract: what was counted and what is left make up the whole. Assumes nothing.
 use Prim.Native.Nat.{_-_}
 use native.Mathlib.Omega.{arith}
 use lib.ListN.{length}
 use borrow.Author.Needs.{needs}
 use Rattle.value_to_text.proofs.Escaping.{Counting, counting-again, counting-end}
-
--- answers
+use Rattle.value_to_text.proofs.chars.raw_len.Statement.{statement}
+use Rattle.value_to_text.proofs.chars.raw_len.Tie as tie
 
 abbrev Inv-loop : tie.InvT-loop
 Inv-loop t n₀ i₀ n i = Counting t n i
@@ -18,45 +13,29 @@ Inv-loop t n₀ i₀ n i = Counting t n i
 abbrev μ-loop : tie.MeasureT-loop
 μ-loop t n₀ i₀ n i = length t - i
 
--- src/chars.rt:53:5
 loop-holds : tie.Need-loop-holds Inv-loop μ-loop
-loop-holds c =
-    record { most = omega arith; here = omega arith }
+loop-holds c = record { upto = omega arith; most = omega arith; here = omega arith }
 
--- src/chars.rt:54:20
 shared-slice-read-width : tie.Need-shared-slice-read-width Inv-loop μ-loop
-shared-slice-read-width c =
-    search needs
+shared-slice-read-width c = search needs
 
--- src/chars.rt:54:14
 width-requires : tie.Need-width-requires Inv-loop μ-loop
-width-requires c κs =
-    search needs
+width-requires c κs = search needs
 
--- src/chars.rt:54:9
 add-n : tie.Need-add-n Inv-loop μ-loop
-add-n c =
-    omega (arith, c .before .before .before .loop .inv .most, c .width .ensures .1, c .before .before .before .before .before .pre)
+add-n c = omega (arith, c .before .before .before .loop .inv .most, c .width .ensures .1, c .before .before .before .before .before .pre)
 
--- src/chars.rt:55:9
 add-i : tie.Need-add-i Inv-loop μ-loop
-add-i c =
-    search needs
+add-i c = search needs
 
--- src/chars.rt:53:5
 loop-less : tie.Need-loop-less Inv-loop μ-loop
-loop-less c =
-    search needs
+loop-less c = search needs
 
--- src/chars.rt:53:5
 loop-again : tie.Need-loop-again Inv-loop μ-loop
-loop-again c =
-    counting-again _ _ _ _ (c .before .before .before .loop .inv) (c .before .before .loop-test .taken) (c .width .ensures)
+loop-again c = counting-again _ _ _ _ (c .before .before .before .loop .inv) (c .before .before .loop-test .taken) (c .width .ensures)
 
--- src/chars.rt:47:1
 returns : tie.Need-returns Inv-loop μ-loop
-returns c =
-    counting-end _ _ _ (c .before .loop .inv) (c .loop-test .left)
+returns c = counting-end _ _ _ (c .before .loop .inv) (c .loop-test .left) (c .before .before .before .pre)
 
 pub raw-len-spec : {M : Type 1} → statement M
 raw-len-spec =

@@ -1,26 +1,18 @@
-use Rattle.value_to_text.proofs.chars.width.Statement.{statement}
-use Rattle.value_to_text.proofs.chars.width.Tie as tie
-use Rattle.value_to_text.proofs.chars.width.Reads as reads
-use Rattle.value_to_text.proofs.chars.width.Lts as lts
+-- `chars::width` meets its contract. Assumes nothing.
 use mathlib.Core.Path.{sym, ap}
 use mathlib.Core.Logic.{inl, inr}
 use native.Mathlib.Omega.{arith}
 use lib.ListN.{length}
 use Rattle.value_to_text.proofs.Escaping.{escape-amp, escape-lt, escape-gt, escape-other}
+use Rattle.value_to_text.proofs.chars.width.Statement.{statement}
+use Rattle.value_to_text.proofs.chars.width.Tie as tie
 
--- answers
-
--- src/chars.rt:36:1
 returns : tie.Need-returns
-returns c =
-    (sym (ap length (escape-amp _ (c .match .keys1))), omega arith)
+returns c = (sym (ap length (escape-amp _ (c .match .keys1))), omega arith)
 
--- src/chars.rt:36:1
 returns-2 : tie.Need-returns-2
-returns-2 c =
-    (elim (c .match .keys2) [ inl e ↦ sym (ap length (escape-lt _ e)) | inr e ↦ sym (ap length (escape-gt _ e)) ], omega arith)
+returns-2 c = (elim (c .match .keys2) [ inl e ↦ sym (ap length (escape-lt _ e)) | inr e ↦ sym (ap length (escape-gt _ e)) ], omega arith)
 
--- src/chars.rt:36:1
 returns-3 : tie.Need-returns-3
 returns-3 c =
     let r = c .match .rest in

@@ -1,46 +1,33 @@
+-- `put::write_text` meets its contract. Assumes nothing.
+use native.Mathlib.Omega.{arith}
 use borrow.Author.Needs.{needs}
+use Rattle.value_to_text.proofs.Writing.{wrote-as, text-part, part-most}
 use Rattle.value_to_text.proofs.put.write_text.Statement.{statement}
 use Rattle.value_to_text.proofs.put.write_text.Tie as tie
-use Rattle.value_to_text.proofs.put.write_text.Reads as reads
-use Rattle.value_to_text.proofs.put.write_text.Lts as lts
-use Rattle.text.proofs.number.get16.Reads as get16-reads
-use Rattle.value.proofs.blanks.part_of.Reads as part-of-reads
-use Rattle.value_to_text.proofs.chars.write_chars.Reads as write-chars-reads
-use native.Mathlib.Omega.{arith}
-use Rattle.value_to_text.proofs.Writing.{wrote-as, text-part, part-most}
 
--- answers
-
--- src/put.rt:28:36
 get16-requires : tie.Need-get16-requires
 get16-requires c κs = search needs
 
--- src/put.rt:28:36
 cast-part-of : tie.Need-cast-part-of
 cast-part-of c = search needs
 
--- src/put.rt:28:31
 add-part-of : tie.Need-add-part-of
 add-part-of c = search needs
 
--- src/put.rt:28:17
 part-of-requires : tie.Need-part-of-requires
 part-of-requires c κs = search needs
 
--- src/put.rt:28:5
 write-chars-requires : tie.Need-write-chars-requires
 write-chars-requires c κs =
     let o = c .before .before .before .before .before in
     omega (arith, part-most (o .args .b .now) (c .before .part-of .result .now) (c .before .before .get16 .result) (c .before .part-of .ensures), c .before .before .get16 .ok)
 
--- src/put.rt:25:1
 same-length : tie.Need-same-length
 same-length c = search needs
 
--- src/put.rt:25:1
 returns : tie.Need-returns
 returns c =
-    wrote-as _ _ _ _ _ _ (text-part (c .before .before .before .before .before .before .before .before .args .b .now) _ _ (c .before .before .before .before .before .get16 .ensures) (c .before .before .before .before .part-of .ensures)) (c .before .before .write-chars .ensures)
+    wrote-as _ _ _ _ _ _ _ _ (text-part (c .before .before .before .before .before .before .before .before .args .b .now) _ _ (c .before .before .before .before .before .get16 .ensures) (c .before .before .before .before .part-of .ensures)) (omega arith) (c .before .before .write-chars .ensures)
 
 pub write-text-spec : {M : Type 1} → statement M
 write-text-spec =
