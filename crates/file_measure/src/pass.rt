@@ -11,8 +11,6 @@ use list::table::ENUM;
 use list::table::KIND;
 use list::table::MOST;
 use list::word::word_byte;
-use list_house::tables::Pool;
-use list_house::tables::Rows;
 use value_to_bytes::write::size;
 ghost use mathlib.Core.Path.{_≡_};
 ghost use mathlib.Core.List.{[]};
@@ -84,9 +82,9 @@ fn leaf_end(rows: &[u16], pool: &[u8], s: &[u8], here: Here, less: usize, at: us
 const HEAD: usize = 6;
 
 // From the root's tag to its end, one step after the other. No sum overflows: each step goes on in a text of at most 1,048,576 bytes, and
-// an item has at most 65,538. The tables are arrays here and not slices: where their lengths are known, each lookup has one bound less.
+// an item has at most 65,538. The tables are of any length; the one caller lends arrays, so that the compiler knows their lengths here.
 // In house XML the walk is never lost, and the root's tag closes nothing: the answers of these arms are never given.
-pub(crate) fn found(rows: &Rows, pool: &Pool, s: &[u8]) -> Answer
+pub(crate) fn found(rows: &[u16], pool: &[u8], s: &[u8]) -> Answer
     requires { ⌜ Ready (now rows) (now pool) (now s) ⌝ }
     ensures { λ a. ⌜ Measured houseKinds (listOf (now (rows .entry)) (now (pool .entry))) (now (s .entry)) a ⌝ }
 {

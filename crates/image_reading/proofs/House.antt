@@ -1,5 +1,5 @@
 -- What the reader and the picker answer over the house list: the defined answers, and no other. Assumes nothing.
-use mathlib.Core.Path.{_≡_, refl, sym, _∙_, ap, ap₂, subst}
+use mathlib.Core.Path.{_≡_, refl, sym, _∙_, ap, subst}
 use mathlib.Core.Logic.{_≢_, _⊎_, _↔_, inl, inr}
 use mathlib.Core.Bool.{Bool, true, false}
 use mathlib.Core.List.{List, [], _++_, append-assoc}
@@ -16,7 +16,7 @@ use Rattle.list.specs.WellFormed.{WellFormed}
 use Rattle.list.specs.Content.{Content, Meets}
 use Rattle.list.specs.Table.{listOf}
 use Rattle.list.specs.Sound.{Sound}
-use Rattle.list.specs.Laid.{onto, zeros, laid}
+use Rattle.list.specs.Laid.{laid}
 use Rattle.list_house.specs.HouseTable.{housePool}
 use Rattle.list_house.specs.Kind.{houseKind}
 use Rattle.list_house.specs.Lists.{kept, keptRows}
@@ -102,10 +102,6 @@ pub record Says (t : List ℕ) : Type 0 where
   pub is : listOf t housePool ≡ kept
 
 -- laid over zeros it does
-pub laid-kept : (rows from to : List ℕ) → rows ≡ keptRows → from ≡ zeros 4096 → to ≡ onto rows from → to ≡ laid keptRows
-unfolding laid
-laid-kept rows from to e f g = g ∙ ap₂ onto e f
-
 pub laid-says : (t : List ℕ) → t ≡ laid keptRows → Says t
 laid-says t e = subst Says (sym e) (record { sound = kept-sound; is = kept-is })
 

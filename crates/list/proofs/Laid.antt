@@ -137,6 +137,11 @@ module _ (t : List ℕ) where
       go true false f g = refl
       go true true f g = laid-at t (16 * r + j) (omega (arith, leb-true j 15 f, leb-true r 255 g))
 
+  -- as it is laid over zeros
+  pub laid-over : (rows from to : List ℕ) → rows ≡ t → from ≡ zeros 4096 → to ≡ onto rows from → to ≡ laid t
+  unfolding laid
+  laid-over rows from to e f g = g ∙ ap₂ onto e f
+
   pub laid-list : (pool : List ℕ) → listOf (laid t) pool ≡ listOf t pool
   laid-list pool = list-same (laid t) t laid-cell pool
 

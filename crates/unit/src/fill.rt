@@ -11,8 +11,6 @@ use list::table::MOST;
 use list::table::PARENT;
 use list::table::SIBLING;
 use list::word::word_byte;
-use list_house::tables::Pool;
-use list_house::tables::Rows;
 use text::number::copy;
 use text::span::blanks_end;
 use value_to_bytes::place::place;
@@ -153,7 +151,7 @@ fn put_leaf(
 }
 
 // Into a buffer that has room for it. A leaf is one turn, from its tag to its closing tag, so that a group is always the innermost.
-pub(crate) fn fill(rows: &Rows, pool: &Pool, s: &[u8], out: &mut [u8])
+pub(crate) fn fill(rows: &[u16], pool: &[u8], s: &[u8], out: &mut [u8])
     requires { ⌜ Ready (now rows) (now pool) (now s) × Faultless houseKinds (listOf (now rows) (now pool)) (now s) ⌝ }
     ensures { λ _. ⌜ FilledIn houseKinds (listOf (now (rows .entry)) (now (pool .entry))) (now (s .entry)) (now (out .entry)) (now (out .exit)) ⌝ }
 {

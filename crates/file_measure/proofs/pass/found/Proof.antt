@@ -72,7 +72,7 @@ enum-known-met c =
 returns-4 : tie.Need-returns-4 Inv-loop μ-loop
 returns-4 c =
     let stepped = c .before .before .before .before in
-    let begun = stepped .before .before .before .before in
+    let begun = stepped .before .before in
     measures _ _ _ _ _ _ (loop-refused _ _ _ (begun .before .before .before .before .before .before .before .before .pre) _ _ _ _ _ _ (begun .loop .inv) _ (stepped .step .ensures .0) _ (stepped .step .ensures .1) [] _ (c .before .met .given .1))
 
 enum-told-4 : tie.Need-enum-told-4 Inv-loop μ-loop
@@ -86,7 +86,7 @@ not-house-xml-requires-3 c κs =
 returns-5 : tie.Need-returns-5 Inv-loop μ-loop
 returns-5 c =
     let stepped = c .before .before .before .before in
-    let begun = stepped .before .before .before .before in
+    let begun = stepped .before .before in
     measures _ _ _ _ _ _ (loop-lost _ _ _ (begun .before .before .before .before .before .before .before .before .pre) _ _ _ _ _ _ (begun .loop .inv) _ (stepped .step .ensures .0) _ (stepped .step .ensures .1) [] _ (c .before .enum-told4 .given .1))
 
 enum-told-5 : tie.Need-enum-told-5 Inv-loop μ-loop
@@ -95,19 +95,19 @@ enum-told-5 c =
 
 group-end-requires : tie.Need-group-end-requires Inv-loop μ-loop
 group-end-requires c κs =
-    at-low _ _ _ (c .before .before .before .before .before .before .before .before .before .before .before .before .before .before .before .before .before .pre) _ _ _ _ _ _ (c .before .before .before .before .before .before .before .before .before .loop .inv)
+    at-low _ _ _ (c .before .before .before .before .before .before .before .before .before .before .before .before .before .before .pre) _ _ _ _ _ _ (c .before .before .before .before .before .before .loop .inv)
 
 loop-less : tie.Need-loop-less Inv-loop μ-loop
 loop-less c =
-    let stepped = c .before .before .before .before .before .before in
-    let begun = stepped .before .before .before .before in
-    group-less _ _ _ (begun .before .before .before .before .before .before .before .before .pre) _ _ _ _ _ _ (begun .loop .inv) _ (stepped .step .ensures .0) _ (stepped .step .ensures .1) (c .before .before .before .enum-told5 .given .1)
+    let stepped = c .before .before .before .before .before in
+    let begun = stepped .before .before in
+    group-less _ _ _ (begun .before .before .before .before .before .before .before .before .pre) _ _ _ _ _ _ (begun .loop .inv) _ (stepped .step .ensures .0) _ (stepped .step .ensures .1) (c .before .before .enum-told5 .given .1)
 
 loop-again : tie.Need-loop-again Inv-loop μ-loop
 loop-again c =
-    let stepped = c .before .before .before .before .before .before in
-    let begun = stepped .before .before .before .before in
-    group-on _ _ _ (begun .before .before .before .before .before .before .before .before .pre) _ _ _ _ _ _ (begun .loop .inv) _ (stepped .step .ensures .0) _ (stepped .step .ensures .1) (c .before .before .before .enum-told5 .given .1) _ _ (c .group-end .ensures)
+    let stepped = c .before .before .before .before .before in
+    let begun = stepped .before .before in
+    group-on _ _ _ (begun .before .before .before .before .before .before .before .before .pre) _ _ _ _ _ _ (begun .loop .inv) _ (stepped .step .ensures .0) _ (stepped .step .ensures .1) (c .before .before .enum-told5 .given .1) _ _ (c .group-end .ensures)
 
 enum-told-6 : tie.Need-enum-told-6 Inv-loop μ-loop
 enum-told-6 c =
@@ -115,7 +115,7 @@ enum-told-6 c =
 
 add-accepted : tie.Need-add-accepted Inv-loop μ-loop
 add-accepted c =
-    omega (arith, at-low _ _ _ (c .before .before .before .before .before .before .before .before .before .before .before .before .before .before .before .before .before .pre) _ _ _ _ _ _ (c .before .before .before .before .before .before .before .before .before .loop .inv))
+    omega (arith, at-low _ _ _ (c .before .before .before .before .before .before .before .before .before .before .before .before .before .before .before .pre) _ _ _ _ _ _ (c .before .before .before .before .before .before .before .loop .inv))
 
 accepted-requires : tie.Need-accepted-requires Inv-loop μ-loop
 accepted-requires c κs =
@@ -124,12 +124,12 @@ accepted-requires c κs =
 returns-6 : tie.Need-returns-6 Inv-loop μ-loop
 returns-6 c =
     let stepped = c .before .before .before .before .before .before in
-    let begun = stepped .before .before .before .before in
+    let begun = stepped .before .before in
     measures _ _ _ _ _ _ (root-end _ _ _ (begun .before .before .before .before .before .before .before .before .pre) _ _ _ _ _ _ (begun .loop .inv) _ (stepped .step .ensures .0) _ (stepped .step .ensures .1) (c .before .before .before .enum-told6 .given .1) (c .before .if1 .taken) _ (head-nowhere _) _ (pasted-nowhere _ _) _ (c .accepted .ensures))
 
 leaf-end-requires : tie.Need-leaf-end-requires Inv-loop μ-loop
 leaf-end-requires c κs =
-    at-low _ _ _ (c .before .before .before .before .before .before .before .before .before .before .before .before .before .before .before .before .before .before .before .pre) _ _ _ _ _ _ (c .before .before .before .before .before .before .before .before .before .before .before .loop .inv)
+    at-low _ _ _ (c .before .before .before .before .before .before .before .before .before .before .before .before .before .before .before .pre) _ _ _ _ _ _ (c .before .before .before .before .before .before .before .loop .inv)
 
 bad-value-requires : tie.Need-bad-value-requires Inv-loop μ-loop
 bad-value-requires c κs =
@@ -137,23 +137,23 @@ bad-value-requires c κs =
 
 returns-7 : tie.Need-returns-7 Inv-loop μ-loop
 returns-7 c =
-    let shut = c .before .before .before .before .before in
+    let shut = c .before .before .before in
     let stepped = shut .before .before .before .before .before in
-    let begun = stepped .before .before .before .before in
+    let begun = stepped .before .before in
     measures _ _ _ _ _ _ (leaf-bad _ _ _ (begun .before .before .before .before .before .before .before .before .pre) _ _ _ _ _ _ (begun .loop .inv) _ (stepped .step .ensures .0) _ (stepped .step .ensures .1) (shut .before .before .enum-told6 .given .1) (shut .if1 .left) _ _ (c .before .before .leaf-end .ensures) [] (c .before .if2 .taken) _ (c .bad-value .ensures))
 
 loop-less-2 : tie.Need-loop-less-2 Inv-loop μ-loop
 loop-less-2 c =
-    let shut = c .before .before .before .before .before in
+    let shut = c .before .before .before in
     let stepped = shut .before .before .before .before .before in
-    let begun = stepped .before .before .before .before in
+    let begun = stepped .before .before in
     leaf-less _ _ _ (begun .before .before .before .before .before .before .before .before .pre) _ _ _ _ _ _ (begun .loop .inv) _ (stepped .step .ensures .0) _ (stepped .step .ensures .1) (shut .before .before .enum-told6 .given .1) (shut .if1 .left)
 
 loop-again-2 : tie.Need-loop-again-2 Inv-loop μ-loop
 loop-again-2 c =
-    let shut = c .before .before .before .before .before in
+    let shut = c .before .before .before in
     let stepped = shut .before .before .before .before .before in
-    let begun = stepped .before .before .before .before in
+    let begun = stepped .before .before in
     leaf-on _ _ _ (begun .before .before .before .before .before .before .before .before .pre) _ _ _ _ _ _ (begun .loop .inv) _ (stepped .step .ensures .0) _ (stepped .step .ensures .1) (shut .before .before .enum-told6 .given .1) (shut .if1 .left) _ _ (c .before .before .leaf-end .ensures) (c .before .if2 .left)
 
 pub found-spec : {M : Type 1} → statement M

@@ -3,7 +3,8 @@ use borrow.Author.Needs.{needs}
 use Rattle.image_reading.proofs.first.begun.Statement.{statement}
 use Rattle.image_reading.proofs.first.begun.Tie as tie
 use native.Mathlib.Omega.{arith}
-use Rattle.image_reading.proofs.House.{laid-kept, begins-none, begins, begins-not, laid-says}
+use Rattle.list.proofs.Laid.{laid-over}
+use Rattle.image_reading.proofs.House.{begins-none, begins, begins-not, laid-says}
 
 front-requires : tie.Need-front-requires
 front-requires c κs = search needs
@@ -30,13 +31,13 @@ refused-requires c κs = search needs
 
 returns-2 : tie.Need-returns-2
 returns-2 c =
-    let e = laid-kept _ _ _ (c .before .before .before .before .before .before .before .before .rows .ensures) (c .before .before .before .before .before .before .before .before .before .before .before .before .before .pre) (c .before .before .before .before .before .lay .ensures) in
+    let e = laid-over _ _ _ _ (c .before .before .before .before .before .before .before .before .rows .ensures) (c .before .before .before .before .before .before .before .before .before .before .before .before .before .pre) (c .before .before .before .before .before .lay .ensures) in
     let o = begins-not _ _ (c .before .before .before .before .before .before .before .before .before .before .before .front .ensures) (c .before .before .before .before .before .before .before .before .before .if1 .left) _ (laid-says _ e) _ (c .before .before .before .body .ensures) (c .before .if2 .taken) _ (c .refused .ensures) in
     (o .0, (λ z. absurd (o .1 z)))
 
 returns-3 : tie.Need-returns-3
 returns-3 c =
-    let e = laid-kept _ _ _ (c .before .before .before .before .before .before .before .rows .ensures) (c .before .before .before .before .before .before .before .before .before .before .before .before .pre) (c .before .before .before .before .lay .ensures) in
+    let e = laid-over _ _ _ _ (c .before .before .before .before .before .before .before .rows .ensures) (c .before .before .before .before .before .before .before .before .before .before .before .before .pre) (c .before .before .before .before .lay .ensures) in
     let o = begins _ _ (c .before .before .before .before .before .before .before .before .before .before .front .ensures) (c .before .before .before .before .before .before .before .before .if1 .left) _ (laid-says _ e) _ (c .before .before .body .ensures) (omega (arith, c .if2 .left)) in
     (o, (λ z. e))
 

@@ -25,6 +25,12 @@ rows-requires c κs = search needs
 pool-requires : tie.Need-pool-requires
 pool-requires c κs = search needs
 
+slice-aggregate-fill : tie.Need-slice-aggregate-fill
+slice-aggregate-fill c = search needs
+
+slice-aggregate-fill-2 : tie.Need-slice-aggregate-fill-2
+slice-aggregate-fill-2 c = search needs
+
 fill-requires : tie.Need-fill-requires
 fill-requires c κs =
     may-fill _ _ (c .before .before .before .before .before .before .before .before .before .measure .ensures) (omega (arith, c .before .before .before .before .before .before .before .if1 .left)) _ _ (c .before .before .before .before .rows .ensures) (c .before .before .before .pool .ensures)
@@ -37,7 +43,14 @@ same-length c = search needs
 
 returns-3 : tie.Need-returns-3
 returns-3 c =
-    filled _ _ (c .before .before .before .before .before .before .before .before .before .before .before .before .before .measure .ensures) (omega (arith, c .before .before .before .before .before .before .before .before .before .before .before .if1 .left)) _ _ (c .before .before .before .before .before .before .before .before .rows .ensures) (c .before .before .before .before .before .before .before .pool .ensures) _ _ _ (omega (arith, c .before .before .before .before .before .before .before .before .before .if2 .left)) (c .before .before .before .fill .ensures) (c .accepted .ensures)
+    let at-fill = c .before .before .before in
+    let at-pool = at-fill .before .before .before .before in
+    let at-rows = at-pool .before in
+    let at-if2 = at-rows .before in
+    let at-if1 = at-if2 .before .before in
+    let at-measure = at-if1 .before .before in
+    filled _ _ (at-measure .measure .ensures) (omega (arith, at-if1 .if1 .left)) _ _ (at-rows .rows .ensures) (at-pool .pool .ensures) _ _ _
+    (omega (arith, at-if2 .if2 .left)) (at-fill .fill .ensures) (c .accepted .ensures)
 
 pub check-spec : {M : Type 1} → statement M
 check-spec =
@@ -49,6 +62,8 @@ check-spec =
     returns-2
     rows-requires
     pool-requires
+    slice-aggregate-fill
+    slice-aggregate-fill-2
     fill-requires
     accepted-requires
     same-length

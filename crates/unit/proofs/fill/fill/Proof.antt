@@ -50,11 +50,26 @@ place-requires c κs =
 
 same-length : tie.Need-same-length Inv-loop μ-loop
 same-length c =
-    kept _ _ _ _ (c .before .before .place .ensures) ∙ fill-room _ _ _ (c .before .before .before .before .before .before .before .before .before .before .before .before .before .before .before .before .before .before .before .pre) _ _ _ _ _ (c .before .before .before .before .before .before .before .before .loop .inv) _ (c .before .before .before .before .before .before .before .blanks-end .ensures) ∙ c .before .before .before .before .before .before .before .before .before .before .before .put-head .ensures house .long
+    let at-place = c .before .before in
+    let at-blanks-end = at-place .before .before .before .before .before in
+    let at-loop = at-blanks-end .before in
+    let at-put-head = at-loop .before .before .before in
+    let start = at-put-head .before .before .before .before .before .before .before .before in
+    kept _ _ _ _ (at-place .place .ensures) ∙ fill-room _ _ _ (start .pre) _ _ _ _ _ (at-loop .loop .inv) _ (at-blanks-end .blanks-end .ensures) ∙
+    at-put-head .put-head .ensures house .long
 
 returns : tie.Need-returns Inv-loop μ-loop
 returns c =
-    fill-ends _ _ _ (c .before .before .before .before .before .before .before .before .before .before .before .before .before .before .before .before .before .before .before .pre) _ _ _ _ _ (c .before .before .before .before .before .before .before .before .loop .inv) _ (c .before .before .before .before .before .before .before .blanks-end .ensures) _ (c .before .before .before .before .before .before .is-close .ensures) (c .before .before .before .before .before .if1 .taken) (c .before .before .before .before .if2 .taken) _ (c .before .before .before .before .before .before .before .before .before .before .before .put-head .ensures _) _ (c .before .before .place .ensures)
+    let at-place = c .before .before in
+    let at-if2 = at-place .before .before in
+    let at-if1 = at-if2 .before in
+    let at-is-close = at-if1 .before in
+    let at-blanks-end = at-is-close .before in
+    let at-loop = at-blanks-end .before in
+    let at-put-head = at-loop .before .before .before in
+    let start = at-put-head .before .before .before .before .before .before .before .before in
+    fill-ends _ _ _ (start .pre) _ _ _ _ _ (at-loop .loop .inv) _ (at-blanks-end .blanks-end .ensures) _ (at-is-close .is-close .ensures)
+    (at-if1 .if1 .taken) (at-if2 .if2 .taken) _ (at-put-head .put-head .ensures _) _ (at-place .place .ensures)
 
 cell-requires : tie.Need-cell-requires Inv-loop μ-loop
 cell-requires c κs =
@@ -70,11 +85,27 @@ stand-requires-2 c κs =
 
 loop-less : tie.Need-loop-less Inv-loop μ-loop
 loop-less c =
-    fill-out-less _ _ _ (c .before .before .before .before .before .before .before .before .before .before .before .before .before .before .before .before .before .before .before .pre) _ _ _ _ _ (c .before .before .before .before .before .before .before .before .loop .inv) _ (c .before .before .before .before .before .before .before .blanks-end .ensures) _ (c .before .before .before .before .before .before .is-close .ensures) (c .before .before .before .before .before .if1 .taken) (c .before .before .before .before .if2 .left) _ (c .before .before .cell .ensures) _ (c .before .close-end .ensures) _ (c .stand2 .ensures)
+    let at-cell = c .before .before in
+    let at-if2 = at-cell .before in
+    let at-if1 = at-if2 .before in
+    let at-is-close = at-if1 .before in
+    let at-blanks-end = at-is-close .before in
+    let at-loop = at-blanks-end .before in
+    let start = at-loop .before .before .before .before .before .before .before .before .before .before .before in
+    fill-out-less _ _ _ (start .pre) _ _ _ _ _ (at-loop .loop .inv) _ (at-blanks-end .blanks-end .ensures) _ (at-is-close .is-close .ensures)
+    (at-if1 .if1 .taken) (at-if2 .if2 .left) _ (at-cell .cell .ensures) _ (c .before .close-end .ensures) _ (c .stand2 .ensures)
 
 loop-again : tie.Need-loop-again Inv-loop μ-loop
 loop-again c =
-    fill-out _ _ _ (c .before .before .before .before .before .before .before .before .before .before .before .before .before .before .before .before .before .before .before .pre) _ _ _ _ _ (c .before .before .before .before .before .before .before .before .loop .inv) _ (c .before .before .before .before .before .before .before .blanks-end .ensures) _ (c .before .before .before .before .before .before .is-close .ensures) (c .before .before .before .before .before .if1 .taken) (c .before .before .before .before .if2 .left) _ (c .before .before .cell .ensures) _ (c .before .close-end .ensures) _ (c .stand2 .ensures)
+    let at-cell = c .before .before in
+    let at-if2 = at-cell .before in
+    let at-if1 = at-if2 .before in
+    let at-is-close = at-if1 .before in
+    let at-blanks-end = at-is-close .before in
+    let at-loop = at-blanks-end .before in
+    let start = at-loop .before .before .before .before .before .before .before .before .before .before .before in
+    fill-out _ _ _ (start .pre) _ _ _ _ _ (at-loop .loop .inv) _ (at-blanks-end .blanks-end .ensures) _ (at-is-close .is-close .ensures)
+    (at-if1 .if1 .taken) (at-if2 .if2 .left) _ (at-cell .cell .ensures) _ (c .before .close-end .ensures) _ (c .stand2 .ensures)
 
 tag-at-requires : tie.Need-tag-at-requires Inv-loop μ-loop
 tag-at-requires c κs =
@@ -82,7 +113,7 @@ tag-at-requires c κs =
 
 row-of-requires : tie.Need-row-of-requires Inv-loop μ-loop
 row-of-requires c κs =
-    fill-comes _ _ _ (c .before .before .before .before .before .before .before .before .before .before .before .before .before .before .before .before .before .pre) _ _ _ _ _ (c .before .before .before .before .before .before .loop .inv) _ (c .before .before .before .before .before .blanks-end .ensures) _ (c .before .before .before .before .is-close .ensures) (c .before .before .before .if1 .left) _ (c .before .before .tag-at .ensures)
+    fill-comes _ _ _ (c .before .before .before .before .before .before .before .before .before .before .before .before .before .before .before .pre) _ _ _ _ _ (c .before .before .before .before .loop .inv) _ (c .before .before .before .blanks-end .ensures) _ (c .before .before .is-close .ensures) (c .before .if1 .left) _ (c .tag-at .ensures)
 
 cell-requires-2 : tie.Need-cell-requires-2 Inv-loop μ-loop
 cell-requires-2 c κs =
@@ -94,7 +125,15 @@ is-group-requires c κs =
 
 cast-place : tie.Need-cast-place Inv-loop μ-loop
 cast-place c =
-    omega (arith, fill-row _ _ _ (c .before .before .before .before .before .before .before .before .before .before .before .before .before .before .before .before .before .before .before .before .before .before .before .pre) _ _ _ _ _ (c .before .before .before .before .before .before .before .before .before .before .before .before .loop .inv) _ (c .before .before .before .before .before .before .before .before .before .before .before .blanks-end .ensures) _ (c .before .before .before .before .before .before .before .before .before .before .is-close .ensures) (c .before .before .before .before .before .before .before .before .before .if1 .left) _ (c .before .before .before .before .before .before .before .before .tag-at .ensures) _ (c .before .before .before .before .before .row-of .ensures))
+    let at-row-of = c .before .before .before .before in
+    let at-tag-at = at-row-of .before in
+    let at-if1 = at-tag-at .before in
+    let at-is-close = at-if1 .before in
+    let at-blanks-end = at-is-close .before in
+    let at-loop = at-blanks-end .before in
+    let start = at-loop .before .before .before .before .before .before .before .before .before .before .before in
+    omega
+    (arith, fill-row _ _ _ (start .pre) _ _ _ _ _ (at-loop .loop .inv) _ (at-blanks-end .blanks-end .ensures) _ (at-is-close .is-close .ensures) (at-if1 .if1 .left) _ (at-tag-at .tag-at .ensures) _ (at-row-of .row-of .ensures))
 
 place-requires-2 : tie.Need-place-requires-2 Inv-loop μ-loop
 place-requires-2 c κs =
@@ -102,7 +141,10 @@ place-requires-2 c κs =
 
 add-at : tie.Need-add-at Inv-loop μ-loop
 add-at c =
-    omega (arith, fill-low _ _ _ (c .before .before .before .before .before .before .before .before .before .before .before .before .before .before .before .before .before .before .before .before .before .before .before .before .before .before .pre) _ _ _ _ _ (c .before .before .before .before .before .before .before .before .before .before .before .before .before .before .before .loop .inv) _ (c .before .before .before .before .before .before .before .before .before .before .before .before .before .before .blanks-end .ensures))
+    let at-blanks-end = c .before .before .before .before .before .before .before .before .before .before .before in
+    let at-loop = at-blanks-end .before in
+    let start = at-loop .before .before .before .before .before .before .before .before .before .before .before in
+    omega (arith, fill-low _ _ _ (start .pre) _ _ _ _ _ (at-loop .loop .inv) _ (at-blanks-end .blanks-end .ensures))
 
 stand-requires-3 : tie.Need-stand-requires-3 Inv-loop μ-loop
 stand-requires-3 c κs =
@@ -110,11 +152,36 @@ stand-requires-3 c κs =
 
 loop-less-2 : tie.Need-loop-less-2 Inv-loop μ-loop
 loop-less-2 c =
-    fill-in-less _ _ _ (c .before .before .before .before .before .before .before .before .before .before .before .before .before .before .before .before .before .before .before .before .before .before .before .before .before .before .before .pre) _ _ _ _ _ (c .before .before .before .before .before .before .before .before .before .before .before .before .before .before .before .before .loop .inv) _ (c .before .before .before .before .before .before .before .before .before .before .before .before .before .before .before .blanks-end .ensures) _ (c .before .before .before .before .before .before .before .before .before .before .before .before .before .before .is-close .ensures) (c .before .before .before .before .before .before .before .before .before .before .before .before .before .if1 .left) _ (c .before .before .before .before .before .before .before .before .before .before .before .before .tag-at .ensures) _ (c .before .before .before .before .before .before .before .before .before .row-of .ensures) _ (c .before .before .before .before .before .before .before .cell2 .ensures) _ (c .before .before .before .before .before .before .is-group .ensures) (c .before .before .before .before .before .if3 .taken) _ (c .stand3 .ensures)
+    let at-if3 = c .before .before .before .before .before in
+    let at-is-group = at-if3 .before in
+    let at-cell2 = at-is-group .before in
+    let at-row-of = at-cell2 .before in
+    let at-tag-at = at-row-of .before in
+    let at-if1 = at-tag-at .before in
+    let at-is-close = at-if1 .before in
+    let at-blanks-end = at-is-close .before in
+    let at-loop = at-blanks-end .before in
+    let start = at-loop .before .before .before .before .before .before .before .before .before .before .before in
+    fill-in-less _ _ _ (start .pre) _ _ _ _ _ (at-loop .loop .inv) _ (at-blanks-end .blanks-end .ensures) _ (at-is-close .is-close .ensures)
+    (at-if1 .if1 .left) _ (at-tag-at .tag-at .ensures) _ (at-row-of .row-of .ensures) _ (at-cell2 .cell2 .ensures) _ (at-is-group .is-group .ensures)
+    (at-if3 .if3 .taken) _ (c .stand3 .ensures)
 
 loop-again-2 : tie.Need-loop-again-2 Inv-loop μ-loop
 loop-again-2 c =
-    fill-in _ _ _ (c .before .before .before .before .before .before .before .before .before .before .before .before .before .before .before .before .before .before .before .before .before .before .before .before .before .before .before .pre) _ _ _ _ _ (c .before .before .before .before .before .before .before .before .before .before .before .before .before .before .before .before .loop .inv) _ (c .before .before .before .before .before .before .before .before .before .before .before .before .before .before .before .blanks-end .ensures) _ (c .before .before .before .before .before .before .before .before .before .before .before .before .before .before .is-close .ensures) (c .before .before .before .before .before .before .before .before .before .before .before .before .before .if1 .left) _ (c .before .before .before .before .before .before .before .before .before .before .before .before .tag-at .ensures) _ (c .before .before .before .before .before .before .before .before .before .row-of .ensures) _ (c .before .before .before .before .before .before .before .cell2 .ensures) _ (c .before .before .before .before .before .before .is-group .ensures) (c .before .before .before .before .before .if3 .taken) _ (c .stand3 .ensures) _ refl _ (c .before .before .before .place2 .ensures)
+    let at-place2 = c .before .before .before in
+    let at-if3 = at-place2 .before .before in
+    let at-is-group = at-if3 .before in
+    let at-cell2 = at-is-group .before in
+    let at-row-of = at-cell2 .before in
+    let at-tag-at = at-row-of .before in
+    let at-if1 = at-tag-at .before in
+    let at-is-close = at-if1 .before in
+    let at-blanks-end = at-is-close .before in
+    let at-loop = at-blanks-end .before in
+    let start = at-loop .before .before .before .before .before .before .before .before .before .before .before in
+    fill-in _ _ _ (start .pre) _ _ _ _ _ (at-loop .loop .inv) _ (at-blanks-end .blanks-end .ensures) _ (at-is-close .is-close .ensures)
+    (at-if1 .if1 .left) _ (at-tag-at .tag-at .ensures) _ (at-row-of .row-of .ensures) _ (at-cell2 .cell2 .ensures) _ (at-is-group .is-group .ensures)
+    (at-if3 .if3 .taken) _ (c .stand3 .ensures) _ refl _ (at-place2 .place2 .ensures)
 
 text-end-requires : tie.Need-text-end-requires Inv-loop μ-loop
 text-end-requires c κs =
@@ -122,11 +189,35 @@ text-end-requires c κs =
 
 put-leaf-requires : tie.Need-put-leaf-requires Inv-loop μ-loop
 put-leaf-requires c κs =
-    fill-ready _ _ _ (c .before .before .before .before .before .before .before .before .before .before .before .before .before .before .before .before .before .before .before .before .before .before .before .before .before .before .pre) _ _ _ _ _ (c .before .before .before .before .before .before .before .before .before .before .before .before .before .before .before .loop .inv) _ (c .before .before .before .before .before .before .before .before .before .before .before .before .before .before .blanks-end .ensures) _ (c .before .before .before .before .before .before .before .before .before .before .before .before .before .is-close .ensures) (c .before .before .before .before .before .before .before .before .before .before .before .before .if1 .left) _ (c .before .before .before .before .before .before .before .before .before .before .before .tag-at .ensures) _ (c .before .before .before .before .before .before .before .before .row-of .ensures) _ (c .before .before .before .before .before .before .cell2 .ensures) _ (c .before .before .before .before .before .is-group .ensures) (c .before .before .before .before .if3 .left)
+    let at-if3 = c .before .before in
+    let at-is-group = at-if3 .before in
+    let at-cell2 = at-is-group .before in
+    let at-row-of = at-cell2 .before in
+    let at-tag-at = at-row-of .before in
+    let at-if1 = at-tag-at .before in
+    let at-is-close = at-if1 .before in
+    let at-blanks-end = at-is-close .before in
+    let at-loop = at-blanks-end .before in
+    let start = at-loop .before .before .before .before .before .before .before .before .before .before .before in
+    fill-ready _ _ _ (start .pre) _ _ _ _ _ (at-loop .loop .inv) _ (at-blanks-end .blanks-end .ensures) _ (at-is-close .is-close .ensures)
+    (at-if1 .if1 .left) _ (at-tag-at .tag-at .ensures) _ (at-row-of .row-of .ensures) _ (at-cell2 .cell2 .ensures) _ (at-is-group .is-group .ensures)
+    (at-if3 .if3 .left)
 
 add-close-end : tie.Need-add-close-end Inv-loop μ-loop
 add-close-end c =
-    omega (arith, fill-close _ _ _ (c .before .before .before .before .before .before .before .before .before .before .before .before .before .before .before .before .before .before .before .before .before .before .before .before .before .before .before .before .before .pre) _ _ _ _ _ (c .before .before .before .before .before .before .before .before .before .before .before .before .before .before .before .before .before .before .loop .inv) _ (c .before .before .before .before .before .before .before .before .before .before .before .before .before .before .before .before .before .blanks-end .ensures) _ (c .before .before .before .before .before .before .before .before .before .before .before .before .before .before .before .before .is-close .ensures) (c .before .before .before .before .before .before .before .before .before .before .before .before .before .before .before .if1 .left) _ (c .before .before .before .before .before .before .before .before .before .before .before .before .before .before .tag-at .ensures) _ (c .before .before .before .before .before .before .before .before .before .before .before .row-of .ensures) _ (c .before .before .before .before .before .before .before .before .before .cell2 .ensures) _ (c .before .before .before .before .before .before .before .before .is-group .ensures) (c .before .before .before .before .before .before .before .if3 .left) _ (c .before .before .before .before .before .before .text-end .ensures), c .before .before .before .before .before .before .before .before .before .before .before .before .before .before .before .before .before .before .before .before .before .before .before .before .before .before .before .before .before .pre .0 .small)
+    let at-text-end = c .before .before .before .before in
+    let at-if3 = at-text-end .before in
+    let at-is-group = at-if3 .before in
+    let at-cell2 = at-is-group .before in
+    let at-row-of = at-cell2 .before in
+    let at-tag-at = at-row-of .before in
+    let at-if1 = at-tag-at .before in
+    let at-is-close = at-if1 .before in
+    let at-blanks-end = at-is-close .before in
+    let at-loop = at-blanks-end .before in
+    let start = at-loop .before .before .before .before .before .before .before .before .before .before .before in
+    omega
+    (arith, fill-close _ _ _ (start .pre) _ _ _ _ _ (at-loop .loop .inv) _ (at-blanks-end .blanks-end .ensures) _ (at-is-close .is-close .ensures) (at-if1 .if1 .left) _ (at-tag-at .tag-at .ensures) _ (at-row-of .row-of .ensures) _ (at-cell2 .cell2 .ensures) _ (at-is-group .is-group .ensures) (at-if3 .if3 .left) _ (at-text-end .text-end .ensures), start .pre .0 .small)
 
 close-end-requires-2 : tie.Need-close-end-requires-2 Inv-loop μ-loop
 close-end-requires-2 c κs =
@@ -138,11 +229,39 @@ stand-requires-4 c κs =
 
 loop-less-3 : tie.Need-loop-less-3 Inv-loop μ-loop
 loop-less-3 c =
-    fill-past-less _ _ _ (c .before .before .before .before .before .before .before .before .before .before .before .before .before .before .before .before .before .before .before .before .before .before .before .before .before .before .before .before .before .before .before .pre) _ _ _ _ _ (c .before .before .before .before .before .before .before .before .before .before .before .before .before .before .before .before .before .before .before .before .loop .inv) _ (c .before .before .before .before .before .before .before .before .before .before .before .before .before .before .before .before .before .before .before .blanks-end .ensures) _ (c .before .before .before .before .before .before .before .before .before .before .before .before .before .before .before .before .before .before .is-close .ensures) (c .before .before .before .before .before .before .before .before .before .before .before .before .before .before .before .before .before .if1 .left) _ (c .before .before .before .before .before .before .before .before .before .before .before .before .before .before .before .before .tag-at .ensures) _ (c .before .before .before .before .before .before .before .before .before .before .before .before .before .row-of .ensures) _ (c .before .before .before .before .before .before .before .before .before .before .before .cell2 .ensures) _ (c .before .before .before .before .before .before .before .before .before .before .is-group .ensures) (c .before .before .before .before .before .before .before .before .before .if3 .left) _ (c .before .before .before .before .before .before .before .before .text-end .ensures) _ (c .before .close-end2 .ensures) _ (c .stand4 .ensures)
+    let at-text-end = c .before .before .before .before .before .before in
+    let at-if3 = at-text-end .before in
+    let at-is-group = at-if3 .before in
+    let at-cell2 = at-is-group .before in
+    let at-row-of = at-cell2 .before in
+    let at-tag-at = at-row-of .before in
+    let at-if1 = at-tag-at .before in
+    let at-is-close = at-if1 .before in
+    let at-blanks-end = at-is-close .before in
+    let at-loop = at-blanks-end .before in
+    let start = at-loop .before .before .before .before .before .before .before .before .before .before .before in
+    fill-past-less _ _ _ (start .pre) _ _ _ _ _ (at-loop .loop .inv) _ (at-blanks-end .blanks-end .ensures) _ (at-is-close .is-close .ensures)
+    (at-if1 .if1 .left) _ (at-tag-at .tag-at .ensures) _ (at-row-of .row-of .ensures) _ (at-cell2 .cell2 .ensures) _ (at-is-group .is-group .ensures)
+    (at-if3 .if3 .left) _ (at-text-end .text-end .ensures) _ (c .before .close-end2 .ensures) _ (c .stand4 .ensures)
 
 loop-again-3 : tie.Need-loop-again-3 Inv-loop μ-loop
 loop-again-3 c =
-    fill-past _ _ _ (c .before .before .before .before .before .before .before .before .before .before .before .before .before .before .before .before .before .before .before .before .before .before .before .before .before .before .before .before .before .before .before .pre) _ _ _ _ _ (c .before .before .before .before .before .before .before .before .before .before .before .before .before .before .before .before .before .before .before .before .loop .inv) _ (c .before .before .before .before .before .before .before .before .before .before .before .before .before .before .before .before .before .before .before .blanks-end .ensures) _ (c .before .before .before .before .before .before .before .before .before .before .before .before .before .before .before .before .before .before .is-close .ensures) (c .before .before .before .before .before .before .before .before .before .before .before .before .before .before .before .before .before .if1 .left) _ (c .before .before .before .before .before .before .before .before .before .before .before .before .before .before .before .before .tag-at .ensures) _ (c .before .before .before .before .before .before .before .before .before .before .before .before .before .row-of .ensures) _ (c .before .before .before .before .before .before .before .before .before .before .before .cell2 .ensures) _ (c .before .before .before .before .before .before .before .before .before .before .is-group .ensures) (c .before .before .before .before .before .before .before .before .before .if3 .left) _ (c .before .before .before .before .before .before .before .before .text-end .ensures) _ (c .before .close-end2 .ensures) _ (c .stand4 .ensures) _ _ (c .before .before .before .before .put-leaf .ensures)
+    let at-put-leaf = c .before .before .before .before in
+    let at-text-end = at-put-leaf .before .before in
+    let at-if3 = at-text-end .before in
+    let at-is-group = at-if3 .before in
+    let at-cell2 = at-is-group .before in
+    let at-row-of = at-cell2 .before in
+    let at-tag-at = at-row-of .before in
+    let at-if1 = at-tag-at .before in
+    let at-is-close = at-if1 .before in
+    let at-blanks-end = at-is-close .before in
+    let at-loop = at-blanks-end .before in
+    let start = at-loop .before .before .before .before .before .before .before .before .before .before .before in
+    fill-past _ _ _ (start .pre) _ _ _ _ _ (at-loop .loop .inv) _ (at-blanks-end .blanks-end .ensures) _ (at-is-close .is-close .ensures)
+    (at-if1 .if1 .left) _ (at-tag-at .tag-at .ensures) _ (at-row-of .row-of .ensures) _ (at-cell2 .cell2 .ensures) _ (at-is-group .is-group .ensures)
+    (at-if3 .if3 .left) _ (at-text-end .text-end .ensures) _ (c .before .close-end2 .ensures) _ (c .stand4 .ensures) _ _
+    (at-put-leaf .put-leaf .ensures)
 
 pub fill-spec : {M : Type 1} → statement M
 fill-spec =
