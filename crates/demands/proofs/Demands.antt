@@ -20,12 +20,12 @@ use Rattle.xml.specs.House.{HouseXml, Longest}
 use Rattle.xml.specs.Message.{messageOf, rootAt}
 use Rattle.xml.proofs.Coded.{house-utf8}
 use Rattle.value.specs.Value.{Value, IsValue}
-use Rattle.value.specs.Spell.{spell}
 use Rattle.value_to_text.specs.Spelled.{Spelled}
 use Rattle.value_to_text.proofs.Scripts.{every-spelt}
 use Rattle.file_walk.specs.declared.found.Found.the-variants.{Violation}
-use Rattle.file_walk.specs.First.{firstViolation}
+use Rattle.file_walk.specs.First.{First, firstViolation}
 use Rattle.file_walk.proofs.Accept as walk
+use Rattle.file_walk.proofs.Judges.{first-one}
 use Rattle.file_walk.proofs.Beginning.{one-element}
 use Rattle.image.specs.Kinds.{values}
 use Rattle.image.specs.Place.{over, foreign, version, broken, whole}
@@ -42,13 +42,13 @@ use Rattle.file.specs.Checks.{Checks, Finds, long, bytes, markup, violation, ro
 use Rattle.file.proofs.Codes.{violation-code}
 use Rattle.file.proofs.One.{of-long, of-bytes, of-markup, of-violation, of-room}
 use Rattle.file.proofs.Accepted as general
-use Rattle.file.proofs.House.{spelling, image-no-longer, one-content, checks-one, finds-one, accepted-image}
+use Rattle.file.proofs.House.{spelling, houseJudge, deciding, image-no-longer, one-content, checks-one, finds-one, accepted-image}
 use Rattle.file.proofs.Some.{checks-some}
 use Rattle.file_letter.specs.Letter.{treeOf, letterOf}
 use Rattle.file_letter.proofs.Has.{letter-has}
 use Rattle.file_letter.proofs.Good.{letter-good}
 use Rattle.demands.specs.Demands.{HouseFile, houseImage, Within, FileRefused, RunRefused, PickRefused, Demand1, Told, Begins, Message, Demand2, Written, Imaged, Laid, Tells, Demand3}
-use Rattle.demands.proofs.Causes.{causes, spell-decides, answers-on}
+use Rattle.demands.proofs.Causes.{causes}
 
 code : {a x : Answer} → a ≡ x → a .code ≡ x .code
 code e = ap (λ (y : Answer). y .code) e
@@ -124,7 +124,7 @@ Choice false A B = B
 module _ (s d : List ℕ) where
   -- what stands behind an answer, by its code
   abbrev Walked : Answer → Type 0
-  Walked a = (w : Whole s) × (firstViolation houseTypes house (messageIn w) ≡ Violation a)
+  Walked a = (w : Whole s) × First houseTypes house (messageIn w) (Violation a)
 
   abbrev Why : Answer → Type 0
   Why a =
@@ -217,7 +217,14 @@ unfolding letterOf
 message c m =
     let h = letter-has house house-well c m in
     let g = letter-good house house-well c m in
-    record { utf8 = house-utf8 (record { tree = treeOf house c; good = g; is = refl }); xml = record { tree = treeOf house c; good = g; is = refl }; good = walk.accepted houseTypes spelling house house-well (messageOf (treeOf house c)) c m h; has = h }
+    let n = messageOf (treeOf house c) in
+    let f : First houseTypes house n (firstViolation houseJudge house n) = record { judge = houseJudge; decides = deciding; is = refl } in
+    record {
+      utf8 = house-utf8 (record { tree = treeOf house c; good = g; is = refl });
+      xml = record { tree = treeOf house c; good = g; is = refl };
+      good = subst (First houseTypes house n) (walk.accepted houseTypes spelling house house-well n c m h (firstViolation houseJudge house n) f) f;
+      has = h;
+    }
 
 rules : (c : Content Value) (s : List ℕ) → Message s c → Meets IsValue house c
 rules c s w =
@@ -228,8 +235,11 @@ rules c s w =
 pub demand2 : Demand2
 demand2 = record {
   told = all-told;
-  spellers = λ sp h s d a d′. (answers-on spell sp spell-decides h s d a d′, answers-on sp spell h spell-decides s d a d′);
-  speller = (spell, spell-decides);
+  judges = λ j d m f. (
+    (λ x. first-one houseTypes house m (firstViolation j house m) f (record { judge = j; decides = d; is = refl }) x),
+    (λ e. record { judge = j; decides = d; is = e }),
+  );
+  judge = (houseJudge, deciding);
   reads = reads-image;
   values = every-spelt;
   messages = λ c. ((λ m. (letterOf house c, message c m)), (λ w. rules c (w .0) (w .1)));

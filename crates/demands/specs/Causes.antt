@@ -1,34 +1,14 @@
 -- What codes 12 and 9 say by the relation `Spelt` alone: which element it is, and that no value is spelt there. Assumes nothing.
 use mathlib.Core.Path.{_≡_}
-use mathlib.Core.Logic.{_↔_}
 use mathlib.Core.List.{List, []}
-use mathlib.Core.Option.{Option, some}
 use Prim.Native.Nat.{ℕ}
 use Rattle.list.specs.Listing.{Leaf, Kind, group, choice, leaf, Listing, rowAt, child}
-use Rattle.list.specs.WellFormed.{LeafOk}
 use Rattle.list_house.specs.House.{house}
 use Rattle.xml.specs.Message.{Attrs, Parts, none, char, element}
-use Rattle.value.specs.Value.{Value, IsValue, Spelt, bytes}
-use Rattle.file_walk.specs.Types.{Types}
+use Rattle.value.specs.Value.{Value, Spelt}
 use Rattle.file_walk.specs.First.{currency, textOf}
 use Rattle.file_walk.specs.Denotes.{LeafAttrs}
-use Rattle.image.specs.Kinds.{lengthBytes}
-use Rattle.file.specs.Instance.{Kinds, houseTypes}
-
--- a way to compute the value that is spelt
-abbrev pub Speller : Type 0
-Speller = Leaf → List ℕ → List ℕ → Option Value
-
--- which answers as the relation says, of every type that a list may have
-pub record Decides (sp : Speller) : Type 0 where
-  pub right : (k : Leaf) → LeafOk k → (w cs : List ℕ) (v : Value) → (sp k w cs ≡ some v) ↔ Spelt k w cs v
-
--- document 01's types, computed so
-abbrev pub typesBy : Speller → Types
-typesBy sp = record { A = Value; Is = IsValue; Spelt = Spelt; spell = sp }
-
-abbrev pub kindsBy : Speller → Kinds
-kindsBy sp = record { types = typesBy sp; bytes = λ k v. bytes v; head = lengthBytes }
+use Rattle.file.specs.Instance.{houseTypes}
 
 -- below the root, "attributes .. exactly the type's": of a group none
 abbrev pub AttrsOf : Kind → Attrs → Type 0

@@ -6,7 +6,7 @@
 --   Finds s a                      what it answers to every buffer that is as long as the file           file/specs/Checks
 --   Whole s, messageIn w           a file within the limit, of UTF-8, of house XML; its message          file/specs/File
 --   File .. s c, imageOf .. c      a good file with its content; the image of a content                  file/specs/File, image/specs/Image
---   firstViolation                 the first violation of a message in document order, 4 to 13           file_walk/specs/First
+--   First .. m f                   what is found first in a message in document order, 4 to 13           file_walk/specs/First
 --   Meets IsValue house c          a content that meets the list, its types and its rules                list/specs/Content
 --   HouseReads, HousePicks         what `read` answers; what `pick` answers and `picked` hands back      image_reading/specs/Reads
 --   Next h a h′                    what `next` of the reader that holds its run answers, and its place   image_hold/specs/Held
@@ -24,19 +24,21 @@ use Rattle.list.specs.Listing.{Leaf}
 use Rattle.list.specs.Content.{Content, Meets}
 use Rattle.list_house.specs.House.{house}
 use Rattle.xml.specs.House.{HouseXml, Longest}
-use Rattle.xml.specs.Message.{messageOf}
+use Rattle.xml.specs.Message.{Parts, messageOf}
 use Rattle.value.specs.Value.{Value, IsValue}
 use Rattle.value_to_text.specs.Spelled.{Spelled}
+use Rattle.file_walk.specs.declared.found.Found.{Found}
 use Rattle.file_walk.specs.declared.found.Found.the-variants.{Fine, Violation}
-use Rattle.file_walk.specs.First.{firstViolation}
+use Rattle.file_walk.specs.Types.{Judge, Decides}
+use Rattle.file_walk.specs.First.{First, firstViolation}
 use Rattle.file_walk.specs.Denotes.{Has}
 use Rattle.image_reading.specs.Reads.{HouseReads, HousePicks}
 use Rattle.image_hold.specs.Held.{Next}
 use Rattle.image_hold.specs.declared.held.Held.{Held}
 use Rattle.file.specs.Instance.{houseTypes, houseKinds}
 use Rattle.file.specs.File.{Whole, messageIn, File, imageOf}
-use Rattle.file.specs.Checks.{Answers, Checks, Finds}
-use Rattle.demands.specs.Causes.{Speller, Decides, kindsBy, inner, BadValue, BadAttributes}
+use Rattle.file.specs.Checks.{Checks, Finds}
+use Rattle.demands.specs.Causes.{inner, BadValue, BadAttributes}
 
 -- s is a good file, and c its content
 abbrev pub HouseFile : List ℕ → Content Value → Type 0
@@ -96,7 +98,7 @@ pub record Told (s d : List ℕ) (a : Answer) (d′ : List ℕ) : Type 0 where
   pub long : (a ≡ tooLong) ↔ (limit < length s)
   pub bytes : (n : ℕ) → (a ≡ notUtf8 n) ↔ ((length s ≤ limit) × (Utf8 s → ⊥) × LongestUtf8 s n)
   pub markup : (n : ℕ) → (a ≡ notHouseXml n) ↔ ((length s ≤ limit) × Utf8 s × (HouseXml s → ⊥) × Longest s n)
-  pub walked : (b : Answer) → Within 4 13 b → (a ≡ b) ↔ ((w : Whole s) × (firstViolation houseTypes house (messageIn w) ≡ Violation b))
+  pub walked : (b : Answer) → Within 4 13 b → (a ≡ b) ↔ ((w : Whole s) × First houseTypes house (messageIn w) (Violation b))
   -- "14 last"
   pub room : (n : ℕ) → (a ≡ noRoom n) ↔ ((c : Content Value) × HouseFile s c × (n ≡ length (houseImage c)) × (length d < n))
   -- where it says 12, or 9: an element of that row and place, whose characters spell no value, whose attributes are not the type's
@@ -113,14 +115,14 @@ pub record Begins (run : List ℕ) (n : ℕ) (c : Content Value) : Type 0 where
 pub record Message (s : List ℕ) (c : Content Value) : Type 0 where
   pub utf8 : Utf8 s
   pub xml : HouseXml s
-  pub good : firstViolation houseTypes house (messageOf (xml .tree)) ≡ Fine
+  pub good : First houseTypes house (messageOf (xml .tree)) Fine
   pub has : Has houseTypes house (messageOf (xml .tree)) c
 
 pub record Demand2 : Type 0 where
   pub told : (s d : List ℕ) (a : Answer) (d′ : List ℕ) → Checks s d a d′ → Told s d a d′
-  -- however the value that a leaf spells is computed, as long as it is the relation's, the same is asked of check; and it can be computed
-  pub spellers : (sp : Speller) → Decides sp → (s d : List ℕ) (a : Answer) (d′ : List ℕ) → Checks s d a d′ ↔ Answers (kindsBy sp) house s d a d′
-  pub speller : (sp : Speller) × Decides sp
+  -- whoever judges whether a text spells a value, as long as it is the relation's answer, finds the same first; and someone can
+  pub judges : (j : Judge) → Decides houseTypes j → (m : Parts) (f : Found) → First houseTypes house m f ↔ (firstViolation j house m ≡ f)
+  pub judge : (j : Judge) × Decides houseTypes j
   -- "within the size limit the image reader accepts exactly the runs that begin with the image of a content that meets the same rules": with its length
   pub reads : (run : List ℕ) (a : Answer) → HouseReads run a → (n : ℕ) → (a ≡ accepted n) ↔ ((length run ≤ limit) × ((c : Content Value) × Meets IsValue house c × Begins run n c))
   -- "the same": each of the ten kinds has exactly the values that some text spells, and so a content meets the list with the one as with the other

@@ -12,8 +12,8 @@ use Rattle.list.specs.Listing.{Kind, group, choice, leaf, Listing, child, isGro
 use Rattle.xml.specs.Message.{Attrs, Parts, none, char, element}
 use Rattle.file_walk.specs.declared.found.Found.{Found}
 use Rattle.file_walk.specs.declared.found.Found.the-variants.{Fine, Violation}
-use Rattle.file_walk.specs.Types.{Types}
-use Rattle.file_walk.specs.First.{refuse, orElse, isNone, empty, passed, breaks, textOf, currency, attrsOk, kindOf, isRoot, over, absent, childRows, opening, groupEnd, closing, inside, firstViolation}
+use Rattle.file_walk.specs.Types.{Types, Judge}
+use Rattle.file_walk.specs.First.{First, refuse, orElse, empty, passed, breaks, textOf, currency, attrsOk, kindOf, isRoot, over, absent, childRows, opening, groupEnd, closing, inside, firstViolation}
 
 -- a code from 4 to 13, with row 1 of 4
 abbrev pub Line : Answer → Type 0
@@ -36,49 +36,49 @@ test-coded false a g h i = i
 later : (b : Bool) (a : Answer) (g : Found) → 5 ≤ a .code → a .code ≤ 13 → Coded g → Coded (orElse (refuse b a) g)
 later b a g h i = test-coded b a g (omega arith, i, λ e. absurd (omega arith))
 
-module _ (t : Types) (l : Listing) where
-  opening-coded : (p : ℕ) (seen : List ℕ) (r : ℕ) (ats : Attrs) (o : ℕ) → Coded (opening t l p seen r ats o)
+module _ (j : Judge) (l : Listing) where
+  opening-coded : (p : ℕ) (seen : List ℕ) (r : ℕ) (ats : Attrs) (o : ℕ) → Coded (opening j l p seen r ats o)
   opening-coded p seen r ats o =
       later (eqb r 0) (table.noChild p o) _ (omega arith) (omega arith)
       (later (not (isChoice (kindOf l p)) && passed r seen) (table.outOfOrder r o) _ (omega arith) (omega arith)
       (later (over l (kindOf l p) seen r) (table.tooMany r o) _ (omega arith) (omega arith)
-      (later (not (attrsOk t (kindOf l r) ats)) (table.wrongAttributes r o) Fine (omega arith) (omega arith) tt)))
+      (later (not (attrsOk j (kindOf l r) ats)) (table.wrongAttributes r o) Fine (omega arith) (omega arith) tt)))
 
-  group-coded : (r o : ℕ) (rs : List ℕ) → Coded (groupEnd t l r o rs)
+  group-coded : (r o : ℕ) (rs : List ℕ) → Coded (groupEnd j l r o rs)
   group-coded r o rs =
       later (empty rs) (table.empty r o) _ (omega arith) (omega arith)
       (later (ltb 0 (absent l r rs)) (table.absent (absent l r rs) o) _ (omega arith) (omega arith)
       (later (breaks r rs (l .rules)) (table.ruleBroken r o) Fine (omega arith) (omega arith) tt))
 
-  closing-coded : (k : Kind) (r o : ℕ) (ats : Attrs) (rs cs : List ℕ) → Coded (closing t l k r o ats rs cs)
+  closing-coded : (k : Kind) (r o : ℕ) (ats : Attrs) (rs cs : List ℕ) → Coded (closing j l k r o ats rs cs)
   closing-coded group r o ats rs cs = group-coded r o rs
   closing-coded choice r o ats rs cs = group-coded r o rs
   closing-coded (leaf k) r o ats rs cs =
       later (empty cs) (table.empty r o) _ (omega arith) (omega arith)
-      (later (isNone (t .spell k (currency ats) cs)) (table.badValue r o) Fine (omega arith) (omega arith) tt)
+      (later (not (j k (currency ats) cs)) (table.badValue r o) Fine (omega arith) (omega arith) tt)
 
-  inside-coded : (m : Parts) (p : ℕ) (seen : List ℕ) → Coded (inside t l p seen m)
+  inside-coded : (m : Parts) (p : ℕ) (seen : List ℕ) → Coded (inside j l p seen m)
   unfolding inside
   inside-coded none p seen = tt
   inside-coded (char o x m) p seen =
       later (isGroup (kindOf l p) && not (isBlank x)) (table.textInGroup p o) _ (omega arith) (omega arith)
-      (or-coded (inside t l p seen m) Fine (inside-coded m p seen) tt)
+      (or-coded (inside j l p seen m) Fine (inside-coded m p seen) tt)
   inside-coded (element o n ats i m) p seen =
       let r = child l p n in
-      or-coded (opening t l p seen r ats o) _ (opening-coded p seen r ats o)
-      (or-coded (inside t l r [] i) _ (inside-coded i r [])
-      (or-coded (closing t l (kindOf l r) r o ats (childRows l r i) (textOf i)) _ (closing-coded (kindOf l r) r o ats (childRows l r i) (textOf i))
-      (or-coded (inside t l p (r ∷ seen) m) Fine (inside-coded m p (r ∷ seen)) tt)))
+      or-coded (opening j l p seen r ats o) _ (opening-coded p seen r ats o)
+      (or-coded (inside j l r [] i) _ (inside-coded i r [])
+      (or-coded (closing j l (kindOf l r) r o ats (childRows l r i) (textOf i)) _ (closing-coded (kindOf l r) r o ats (childRows l r i) (textOf i))
+      (or-coded (inside j l p (r ∷ seen) m) Fine (inside-coded m p (r ∷ seen)) tt)))
 
-  coded : (m : Parts) → Coded (firstViolation t l m)
+  coded : (m : Parts) → Coded (firstViolation j l m)
   unfolding firstViolation
   coded none = tt
   coded (char o x m) = tt
   coded (element o n ats i m) =
       test-coded (not (isRoot l n ats)) (table.wrongRoot o) _ (omega arith, omega arith, λ e. refl)
-      (or-coded (inside t l 1 [] i) _ (inside-coded i 1 [])
-      (or-coded (closing t l (kindOf l 1) 1 o ats (childRows l 1 i) (textOf i)) Fine (closing-coded (kindOf l 1) 1 o ats (childRows l 1 i) (textOf i)) tt))
+      (or-coded (inside j l 1 [] i) _ (inside-coded i 1 [])
+      (or-coded (closing j l (kindOf l 1) 1 o ats (childRows l 1 i) (textOf i)) Fine (closing-coded (kindOf l 1) 1 o ats (childRows l 1 i) (textOf i)) tt))
 
-  -- the first violation of a message has a code from 4 to 13, and row 1 where it is 4
-  pub violation-code : (m : Parts) (a : Answer) → firstViolation t l m ≡ Violation a → (4 ≤ a .code) × (a .code ≤ 13) × (a .code ≡ 4 → a .row ≡ 1)
-  violation-code m a e = subst Coded e (coded m)
+-- what is found first in a message has a code from 4 to 13, and row 1 where it is 4
+pub violation-code : (t : Types) (l : Listing) (m : Parts) (a : Answer) → First t l m (Violation a) → (4 ≤ a .code) × (a .code ≤ 13) × (a .code ≡ 4 → a .row ≡ 1)
+violation-code t l m a f = subst Coded (f .is) (coded (f .judge) l m)

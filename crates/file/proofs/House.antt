@@ -23,22 +23,37 @@ use Rattle.list_house.proofs.HouseSound.{house-well}
 use Rattle.list_house.proofs.Lists.{asked-kept, house-asked}
 use Rattle.value.specs.Value.{Value}
 use Rattle.value.proofs.Values.{value-laws}
-use Rattle.value.proofs.Spell.{spell-sound, spell-complete}
-use Rattle.file_walk.specs.Types.{Spelling}
+use Rattle.value.specs.Spell.{spell}
+use Rattle.value.proofs.Spell.{spell-sound, spell-some, spell-complete}
+use Rattle.file_walk.specs.declared.found.Found.the-variants.{Fine}
+use Rattle.file_walk.specs.Types.{Judge, Decides, Spelling}
+use Rattle.file_walk.specs.First.{First}
+use Rattle.file_walk.specs.Machine.{judgeOf, spellerOf, Computes}
+use Rattle.file_walk.proofs.Judges.{computes-decides}
 use Rattle.image.proofs.Lawful.{lawful}
 use Rattle.image_reading.specs.Reads.{HouseAccepts, HouseReads}
 use Rattle.image_reading.proofs.House.{house-accepts-one}
 use Rattle.file.specs.Instance.{houseTypes, houseKinds}
-use Rattle.file.specs.File.{File, imageOf}
+use Rattle.file.specs.File.{Whole, messageIn, File, imageOf}
 use Rattle.file.specs.Checks.{Checks, Finds}
-use Rattle.file.proofs.One.{content-one, answers-one}
+use Rattle.file.proofs.One.{content-one, file-first, answers-one}
 use Rattle.file.proofs.Accepted as general
 use Rattle.file.proofs.Images as images
 use Rattle.file.proofs.Short.{NumNames, image-short}
 
 -- what the walk asks of document 01's types
 pub spelling : Spelling houseTypes
-spelling = record { sound = spell-sound; complete = spell-complete; is = value-laws .is; none = value-laws .none }
+spelling = record { is = value-laws .is; one = value-laws .one; none = value-laws .none }
+
+-- the value that is spelt can be computed, so whether one is can be judged
+pub computing : Computes houseTypes spell
+computing = record { sound = spell-sound; some = spell-some; complete = spell-complete }
+
+abbrev pub houseJudge : Judge
+houseJudge = judgeOf (spellerOf houseTypes spell)
+
+pub deciding : Decides houseTypes houseJudge
+deciding = computes-decides houseTypes spell computing
 
 -- ---- a NUM row's name has two bytes or more: one computed test over the table
 
@@ -85,6 +100,10 @@ house-kept = asked-kept house house-asked
 -- a file has one content
 pub one-content : (s : List ℕ) (c e : Content Value) → File houseKinds house s c → File houseKinds house s e → c ≡ e
 one-content = content-one houseKinds spelling house house-well
+
+-- in the message of a good file nothing is found
+pub good-fine : (s : List ℕ) (c : Content Value) → File houseKinds house s c → (w : Whole s) → First houseTypes house (messageIn w) Fine
+good-fine s = file-first houseKinds spelling house house-well s houseJudge deciding
 
 -- only one answer fits, and one buffer
 pub checks-one : (s d : List ℕ) (a b : Answer) (x z : List ℕ) → Checks s d a x → Checks s d b z → (a ≡ b) × (x ≡ z)

@@ -1,5 +1,5 @@
 -- Only one answer fits a file and a buffer: what a file is says the answer and every byte of the buffer. Assumes nothing.
-use mathlib.Core.Path.{_≡_, sym, _∙_, ap, subst}
+use mathlib.Core.Path.{_≡_, refl, sym, _∙_, ap, subst}
 use mathlib.Core.Bool.{Bool, true, false, true≢false}
 use mathlib.Core.List.{List, _++_}
 use Prim.Native.Nat.{ℕ, _≤_, _<_}
@@ -18,10 +18,11 @@ use Rattle.xml.proofs.Unique.{tree-one}
 use Rattle.xml.proofs.Theorem.{longest-one}
 use Rattle.file_walk.specs.declared.found.Found.{Found}
 use Rattle.file_walk.specs.declared.found.Found.the-variants.{Fine, Violation}
-use Rattle.file_walk.specs.Types.{Spelling}
-use Rattle.file_walk.specs.First.{firstViolation}
+use Rattle.file_walk.specs.Types.{Judge, Decides, Spelling}
+use Rattle.file_walk.specs.First.{First, firstViolation}
 use Rattle.file_walk.specs.Denotes.{Has}
 use Rattle.file_walk.proofs.Accept as walk
+use Rattle.file_walk.proofs.Judges.{first-one}
 use Rattle.file.specs.Instance.{Kinds}
 use Rattle.file.specs.File.{Whole, messageIn, File, imageOf}
 use Rattle.file.specs.Checks.{Answers, long, bytes, markup, violation, room, image}
@@ -52,10 +53,16 @@ module _ (k : Kinds) (y : Spelling (k .types)) (l : Listing) (wf : WellFormed l)
   content-one c e a b =
       walk.unique (k .types) y l wf (messageIn (a .whole)) c e (a .has) (subst (λ (m : Parts). Has (k .types) l m e) (message-one s (b .whole) (a .whole)) (b .has))
 
-  -- the message of a good file has no violation
-  pub file-fine : (c : Content (k .types .A)) → File k l s c → (w : Whole s) → firstViolation (k .types) l (messageIn w) ≡ Fine
-  file-fine c f w =
-      walk.accepted (k .types) y l wf (messageIn w) c (f .meets) (subst (λ (m : Parts). Has (k .types) l m c) (message-one s (f .whole) w) (f .has))
+  -- in the message of a good file nothing is found
+  pub file-fine : (c : Content (k .types .A)) → File k l s c → (w : Whole s) (f : Found) → First (k .types) l (messageIn w) f → f ≡ Fine
+  file-fine c x w =
+      walk.accepted (k .types) y l wf (messageIn w) c (x .meets) (subst (λ (m : Parts). Has (k .types) l m c) (message-one s (x .whole) w) (x .has))
+
+  pub file-first : (j : Judge) → Decides (k .types) j → (c : Content (k .types .A)) → File k l s c → (w : Whole s) → First (k .types) l (messageIn w) Fine
+  file-first j d c x w = record { judge = j; decides = d; is = file-fine c x w (firstViolation j l (messageIn w)) (record { judge = j; decides = d; is = refl }) }
+
+  no-violation : {P : Type 0} (c : Content (k .types .A)) → File k l s c → (w : Whole s) (a : Answer) → First (k .types) l (messageIn w) (Violation a) → P
+  no-violation c x w a v = fine-found (Violation a) a (file-fine c x w (Violation a) v) refl
 
   module _ (d : List ℕ) (a : Answer) (d′ : List ℕ) where
     -- code 1 exactly of a file that is too long
@@ -86,13 +93,15 @@ module _ (k : Kinds) (y : Spelling (k .types)) (l : Listing) (wf : WellFormed l)
     of-markup h u x n p (image c w i e f) = absurd (x (w .whole .xml))
 
     -- 4 to 13
-    pub of-violation : (w : Whole s) (b : Answer) → firstViolation (k .types) l (messageIn w) ≡ Violation b → Answers k l s d a d′ → Is b d a d′
+    pub of-violation : (w : Whole s) (b : Answer) → First (k .types) l (messageIn w) (Violation b) → Answers k l s d a d′ → Is b d a d′
     of-violation w b v (long i e f) = absurd (omega (arith, w .size))
     of-violation w b v (bytes i u m q e f) = absurd (u (w .utf8))
     of-violation w b v (markup i u x m q e f) = absurd (x (w .xml))
-    of-violation w b v (violation z q f) = record { answer = violation-one a b (sym q ∙ ap (firstViolation (k .types) l) (message-one s z w) ∙ v); buffer = f }
-    of-violation w b v (room e z i g f) = fine-found (firstViolation (k .types) l (messageIn w)) b (file-fine e z w) v
-    of-violation w b v (image e z i g f) = fine-found (firstViolation (k .types) l (messageIn w)) b (file-fine e z w) v
+    of-violation w b v (violation z q f) =
+        let u = subst (λ (m : Parts). First (k .types) l m (Violation a)) (message-one s z w) q in
+        record { answer = violation-one a b (first-one (k .types) l (messageIn w) (Violation a) (Violation b) u v); buffer = f }
+    of-violation w b v (room e z i g f) = no-violation e z w b v
+    of-violation w b v (image e z i g f) = no-violation e z w b v
 
     module _ (c : Content (k .types .A)) (w : File k l s c) where
       size-is : (e : Content (k .types .A)) → File k l s e → length (imageOf k l e) ≡ length (imageOf k l c)
@@ -103,7 +112,7 @@ module _ (k : Kinds) (y : Spelling (k .types)) (l : Listing) (wf : WellFormed l)
       of-room h (long i e f) = absurd (omega (arith, w .whole .size))
       of-room h (bytes i u m q e f) = absurd (u (w .whole .utf8))
       of-room h (markup i u x m q e f) = absurd (x (w .whole .xml))
-      of-room h (violation z q f) = fine-found (firstViolation (k .types) l (messageIn z)) a (file-fine c w z) q
+      of-room h (violation z q f) = no-violation c w z a q
       of-room h (room e z i g f) = record { answer = g ∙ ap noRoom (size-is e z); buffer = f }
       of-room h (image e z i g f) = absurd (omega (arith, size-is e z))
 
@@ -112,7 +121,7 @@ module _ (k : Kinds) (y : Spelling (k .types)) (l : Listing) (wf : WellFormed l)
       of-image h (long i e f) = absurd (omega (arith, w .whole .size))
       of-image h (bytes i u m q e f) = absurd (u (w .whole .utf8))
       of-image h (markup i u x m q e f) = absurd (x (w .whole .xml))
-      of-image h (violation z q f) = fine-found (firstViolation (k .types) l (messageIn z)) a (file-fine c w z) q
+      of-image h (violation z q f) = no-violation c w z a q
       of-image h (room e z i g f) = absurd (omega (arith, size-is e z))
       of-image h (image e z i g f) =
           record {

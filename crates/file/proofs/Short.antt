@@ -1,27 +1,23 @@
 -- An image is no longer than its file, over any types whose values have few bytes and any list whose NUM rows have names of two bytes. Assumes nothing.
 use mathlib.Core.Path.{_≡_, refl, ap}
-use mathlib.Core.Bool.{true, false, not, false≢true}
+use mathlib.Core.Bool.{true, false≢true}
 use mathlib.Core.List.{List, [], _∷_, _++_, head-eq-of-cons-eq, nil≢cons}
 use mathlib.Core.Option.{Option}
 use Prim.Native.Nat.{ℕ, zero, suc, _+_, _≤_}
 use native.Mathlib.Omega.{arith}
 use lib.ListN.{length, length-append}
 use Rattle.text.specs.Bytes.{ascii}
-use Rattle.text.specs.Lists.{same}
-use Rattle.text_characters.specs.Pieces.{less, greater, solidus, equal, spell, resolved, resolvedAll, spells, Spells}
-use Rattle.text.proofs.Classes.{and-is}
+use Rattle.text_characters.specs.Pieces.{less, greater, solidus, equal, spell, resolved, spells, Spells}
 use Rattle.text_characters.proofs.Spelling.{spells-none}
 use Rattle.list.specs.Listing.{Leaf, ref, iban, ccy, bool, num, amt, date, dtm, txt, enum, Kind, group, choice, leaf, Listing, rowAt}
 use Rattle.list.specs.WellFormed.{LeafOk, KindOk, WellFormed}
 use Rattle.list.specs.Content.{Content, end, value, node, items}
-use Rattle.list.proofs.Words.{same-eq}
 use Rattle.xml.specs.House.{IsName, mark, Attr, attr, attrs, Tag, tag, GoodTag, Content as Tags, end as over, piece, empty, full, render, Good, OneElement, declaration, whole}
 use Rattle.xml.specs.Message.{Attrs, Parts, attrsOf, partsOf, rootAt}
 use Rattle.value.specs.Laws.{extra}
 use Rattle.file_walk.specs.Types.{Spelling}
-use Rattle.file_walk.specs.First.{textOf, currency, leafAttrs, isNone}
-use Rattle.file_walk.proofs.Attrs.{leaf-mean}
-use Rattle.file_walk.specs.Denotes.{plain, Spells as Holds, Denotes, Has}
+use Rattle.file_walk.specs.First.{textOf, currency}
+use Rattle.file_walk.specs.Denotes.{plain, LeafAttrs, Spells as Holds, Denotes, Has}
 use Rattle.image.specs.Image.{Item, header, valueBytes, itemBytes, bytes, image}
 use Rattle.image.proofs.Heads.{header-length}
 use Rattle.file.specs.Instance.{Kinds, valuesOf}
@@ -114,15 +110,14 @@ module _ (k : Kinds) (y : Spelling (k .types)) (l : Listing) (wf : WellFormed l)
   value-many r v e = omega (arith, length-append (valueBytes (valuesOf k) l (rowAt l r .kind) (Option.some v)) (bytes (valuesOf k) l (items e)))
 
   -- an amount has its attribute
-  currency-long : (as′ : List Attr) → leafAttrs (k .types) amt (attrsOf as′) ≡ true → 6 ≤ length (attrs as′)
-  currency-long [] e = absurd (false≢true e)
-  currency-long (a ∷ []) e =
-      let h : ascii "Ccy" ≡ a .name = same-eq (ascii "Ccy") (a .name) (and-is (same (ascii "Ccy") (a .name)) (not (isNone (k .types .spell ccy [] (resolvedAll (a .value))))) e .0) in
-      omega (arith, attr-long a, ap length h, length-append (attr a) [])
-  currency-long (a ∷ b ∷ as′) e = absurd (false≢true e)
+  currency-long : (as′ : List Attr) → LeafAttrs (k .types) amt (attrsOf as′) → 6 ≤ length (attrs as′)
+  currency-long [] g = absurd (nil≢cons (g .2))
+  currency-long (a ∷ as′) g =
+      let h : a .name ≡ ascii "Ccy" = ap (λ (p : List ℕ × List ℕ). p .0) (head-eq-of-cons-eq (g .2)) in
+      omega (arith, attr-long a, ap length h, length-append (attr a) (attrs as′))
 
   -- what the tags of a leaf have more than its text covers what its value has more
-  covered : (f : Leaf) (t : Tag) → (f ≡ num → 2 ≤ length (t .name)) → GoodTag t → leafAttrs (k .types) f (attrsOf (t .attributes)) ≡ true
+  covered : (f : Leaf) (t : Tag) → (f ≡ num → 2 ≤ length (t .name)) → GoodTag t → LeafAttrs (k .types) f (attrsOf (t .attributes))
       → 1 + extra f ≤ length (tag t) + length (t .name) + 5
   covered ref t n g e = omega arith
   covered iban t n g e = omega arith
@@ -142,7 +137,7 @@ module _ (k : Kinds) (y : Spelling (k .types)) (l : Listing) (wf : WellFormed l)
   leaf-short (leaf f) t i m o v ok n g h s =
       omega (
         arith,
-        covered f t (λ e. n (ap leaf e)) g (leaf-mean (k .types) y f (attrsOf (t .attributes)) .1 (s .1)),
+        covered f t (λ e. n (ap leaf e)) g (s .1),
         short f (currency (attrsOf (t .attributes))) (render i) (textOf (partsOf o i)) v ok (leaf-text i m o h (s .0)) (s .2),
       )
 

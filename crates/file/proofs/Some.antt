@@ -23,13 +23,13 @@ use Rattle.xml.specs.Auto.{done, start, first, before, root, declare, name, tai
 use Rattle.xml.proofs.Theorem as xml
 use Rattle.file_walk.specs.declared.found.Found.{Found}
 use Rattle.file_walk.specs.declared.found.Found.the-variants.{Fine, Violation}
-use Rattle.file_walk.specs.Types.{Spelling}
-use Rattle.file_walk.specs.First.{firstViolation}
+use Rattle.file_walk.specs.Types.{Judge, Decides, Spelling}
+use Rattle.file_walk.specs.First.{First, firstViolation}
 use Rattle.file_walk.proofs.Accept.{accept}
 use Rattle.file.specs.Instance.{Kinds, houseKinds}
 use Rattle.file.specs.File.{Whole, messageIn, File, imageOf}
 use Rattle.file.specs.Checks.{Answers, Checks, long, bytes, markup, violation, room, image}
-use Rattle.file.proofs.House.{spelling}
+use Rattle.file.proofs.House.{spelling, houseJudge, deciding}
 use Rattle.file.proofs.One.{answers-one}
 use Rattle.file_walk.proofs.Beginning.{one-element}
 use Rattle.file.proofs.Saying.{says-bytes, all-utf8}
@@ -100,7 +100,7 @@ house-or-not s = go (isDone (run (at start) s)) refl
     go true e = inl (xml.accepted s (done-is (run (at start) s) e))
     go false e = inr (xml.refused s (λ r. true≢false (ap isDone (sym r) ∙ e)))
 
-module _ (k : Kinds) (y : Spelling (k .types)) (l : Listing) (wf : WellFormed l) (s d : List ℕ) where
+module _ (k : Kinds) (y : Spelling (k .types)) (j : Judge) (x : Decides (k .types) j) (l : Listing) (wf : WellFormed l) (s d : List ℕ) where
   -- an answer, and what it leaves in the buffer
   pub record Answered : Type 0 where
     pub answer : Answer
@@ -120,7 +120,7 @@ module _ (k : Kinds) (y : Spelling (k .types)) (l : Listing) (wf : WellFormed l)
     }
   ]
 
-  of-message : (w : Whole s) (f : Found) → firstViolation (k .types) l (messageIn w) ≡ f → Answered
+  of-message : (w : Whole s) (f : Found) → First (k .types) l (messageIn w) f → Answered
   of-message w (Violation a) e = leaves a (violation w e refl)
   of-message w Fine e =
       let g = accept (k .types) y l wf (messageIn w) (one-element (w .xml .tree .root) (rootAt (w .xml .tree)) (w .xml .good .one)) e in
@@ -130,8 +130,8 @@ module _ (k : Kinds) (y : Spelling (k .types)) (l : Listing) (wf : WellFormed l)
   of-text h n u = elim (decLt n (length s)) [
     | yes i ↦ leaves (notUtf8 n) (says-bytes k l s d (notUtf8 n) h n u i refl)
     | no i ↦ elim (house-or-not s) [
-      | inl x ↦ let w : Whole s = record { size = h; utf8 = all-utf8 s n u (omega arith); xml = x } in of-message w (firstViolation (k .types) l (messageIn w)) refl
-      | inr x ↦ leaves (notHouseXml (liveLen (at start) s)) (markup h (all-utf8 s n u (omega arith)) x (liveLen (at start) s) (xml.longest s) refl refl)
+      | inl z ↦ let w : Whole s = record { size = h; utf8 = all-utf8 s n u (omega arith); xml = z } in of-message w (firstViolation j l (messageIn w)) (record { judge = j; decides = x; is = refl })
+      | inr z ↦ leaves (notHouseXml (liveLen (at start) s)) (markup h (all-utf8 s n u (omega arith)) z (liveLen (at start) s) (xml.longest s) refl refl)
     ]
   ]
 
@@ -148,4 +148,4 @@ module _ (k : Kinds) (y : Spelling (k .types)) (l : Listing) (wf : WellFormed l)
 
 -- with document 01's types and its house list
 pub checks-some : (s d : List ℕ) → (a : Answer) × (d′ : List ℕ) × Checks s d a d′
-checks-some s d = let o = some-answer houseKinds spelling house house-well s d in (o .answer, o .buffer, o .fits)
+checks-some s d = let o = some-answer houseKinds spelling houseJudge deciding house house-well s d in (o .answer, o .buffer, o .fits)

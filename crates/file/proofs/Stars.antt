@@ -39,7 +39,7 @@ use Rattle.value.specs.Value.{Value}
 use Rattle.file_walk.specs.declared.found.Found.{Found}
 use Rattle.file_walk.specs.declared.found.Found.the-variants.{Fine, Violation}
 use Rattle.file_walk.specs.First.{absent, childRows, inside, firstViolation}
-use Rattle.file_walk.specs.Machine.{before, fresh, advance, emits}
+use Rattle.file_walk.specs.Machine.{spellerOf, before, fresh, advance, emits}
 use Rattle.file_walk.proofs.Accept.{accept}
 use Rattle.file_walk.proofs.Items.{items-are}
 use Rattle.image.specs.Image.{header, bytes, image}
@@ -49,7 +49,7 @@ use Rattle.file.specs.File.{Whole, File, imageOf}
 use Rattle.file.specs.Checks.{Checks}
 use Rattle.file.specs.Checks as checks
 use Rattle.file.specs.Stars.{Buffers, every, from, under, Lent, Star, Shows, stars}
-use Rattle.file.proofs.House.{spelling}
+use Rattle.file.proofs.House.{spelling, computing, houseJudge, deciding}
 use Rattle.file.proofs.Trees.{contentTest, rootTree, tree-good, asciiTest, ascii-utf8, not-is}
 use Rattle.file_walk.proofs.Beginning.{one-element}
 use Rattle.file.proofs.Some.{isDone}
@@ -82,10 +82,10 @@ oneTest (full t i g k) = isEnd k
 
 -- the first violation of a tree's message, and the image of the items that the walk hands out
 abbrev foundIn : Content → Found
-foundIn i = firstViolation houseTypes house (messageOf (rootTree i))
+foundIn i = firstViolation houseJudge house (messageOf (rootTree i))
 
 abbrev imageIn : Content → List ℕ
-imageIn i = header house ++ (bytes values house (emits houseTypes house before (events (messageOf (rootTree i)) [])) ++ (0 ∷ []))
+imageIn i = header house ++ (bytes values house (emits (spellerOf houseTypes spell) house before (events (messageOf (rootTree i)) [])) ++ (0 ∷ []))
 
 abbrev fits : Star → List ℕ → Buffers → Bool
 fits e x every = false
@@ -155,11 +155,11 @@ module _ (e : Star) (chars : asciiTest (e .file) ≡ true) (size : leb (length (
     right : foundIn i ≡ Fine → Right
     unfolding file image
     right z =
-        let c = accept houseTypes spelling house house-well (messageOf (rootTree i)) (one-element i 0 one) z in
+        let c = accept houseTypes spelling house house-well (messageOf (rootTree i)) (one-element i 0 one) (record { judge = houseJudge; decides = deciding; is = z }) in
         record {
           content = c .0;
           its = record { whole = file; has = c .2; meets = c .1 };
-          pictured = ap (λ is′. header house ++ (bytes values house is′ ++ (0 ∷ []))) (sym (items-are houseTypes spelling house house-well (messageOf (rootTree i)) (c .0) (c .2)));
+          pictured = ap (λ is′. header house ++ (bytes values house is′ ++ (0 ∷ []))) (sym (items-are houseTypes spell computing house house-well (messageOf (rootTree i)) (c .0) (c .2)));
         }
 
     fits-shown : foundIn i ≡ Fine → (b : Buffers) → Lent b d → fits e (imageIn i) b ≡ true → Checks (e .file) d (e .answer) (left (e .image))
@@ -184,7 +184,7 @@ module _ (e : Star) (chars : asciiTest (e .file) ≡ true) (size : leb (length (
     walked-shown l Fine z t = fits-shown z (e .lent) l t
     walked-shown l (Violation v) z t =
         let a = and-is (sameAnswer (e .answer) v) (isNil (e .image)) t in
-        checks.violation file (z ∙ ap Violation (sym (same-answer (e .answer) v (a .0)))) (kept (a .1))
+        checks.violation file (record { judge = houseJudge; decides = deciding; is = z ∙ ap Violation (sym (same-answer (e .answer) v (a .0))) }) (kept (a .1))
 
   way-shown : Lent (e .lent) d → (w : Way) → wayTest e w ≡ true → Checks (e .file) d (e .answer) (left (e .image))
   way-shown l (tree i) t =

@@ -11,7 +11,7 @@ use Rattle.list_house.specs.House.{house}
 use Rattle.list.specs.Content.{Content}
 use Rattle.xml.specs.House.{HouseXml, Longest}
 use Rattle.file_walk.specs.declared.found.Found.the-variants.{Violation}
-use Rattle.file_walk.specs.First.{firstViolation}
+use Rattle.file_walk.specs.First.{First}
 use Rattle.file.specs.Instance.{Kinds, houseKinds}
 use Rattle.file.specs.File.{Whole, messageIn, File, imageOf}
 
@@ -25,7 +25,7 @@ module _ (k : Kinds) (l : Listing) where
     -- 3: "not house XML", "most leading bytes that still begin some house XML text"
     markup : length s ≤ limit → Utf8 s → (HouseXml s → ⊥) → (n : ℕ) → Longest s n → a ≡ notHouseXml n → d′ ≡ d → Answers s d a d′
     -- 4 to 13: "then the message is walked in document order and the first violation is the answer"
-    violation : (w : Whole s) → firstViolation (k .types) l (messageIn w) ≡ Violation a → d′ ≡ d → Answers s d a d′
+    violation : (w : Whole s) → First (k .types) l (messageIn w) (Violation a) → d′ ≡ d → Answers s d a d′
     -- 14: "valid, but image longer than the buffer", row 0, "bytes needed"; "14 comes last"
     room : (c : Content (k .types .A)) → File k l s c → length d < length (imageOf k l c) → a ≡ noRoom (length (imageOf k l c)) → d′ ≡ d → Answers s d a d′
     -- "Acceptance is 0, row 0, image length; bytes of the result buffer beyond the image stay"

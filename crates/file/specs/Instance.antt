@@ -3,7 +3,6 @@ use mathlib.Core.List.{List}
 use Prim.Native.Nat.{ℕ}
 use Rattle.list.specs.Listing.{Leaf}
 use Rattle.value.specs.Value.{Value, IsValue, Spelt, bytes}
-use Rattle.value.specs.Spell.{spell}
 use Rattle.file_walk.specs.Types.{Types}
 use Rattle.image.specs.Image.{Values}
 use Rattle.image.specs.Kinds.{lengthBytes}
@@ -20,7 +19,7 @@ valuesOf k = record { Value = k .types .A; Is = k .types .Is; bytes = k .bytes; 
 
 -- document 01's types: REF, TXTk, IBAN, CCY, ENUM, BOOL, NUM, AMT, DATE and DTM
 abbrev pub houseTypes : Types
-houseTypes = record { A = Value; Is = IsValue; Spelt = Spelt; spell = spell }
+houseTypes = record { A = Value; Is = IsValue; Spelt = Spelt }
 
 abbrev pub houseKinds : Kinds
 houseKinds = record { types = houseTypes; bytes = λ k v. bytes v; head = lengthBytes }

@@ -1,5 +1,5 @@
 -- What a whole pass says, without a buffer and with one that the image fits in. Over any types. Assumes nothing.
-use mathlib.Core.Path.{_≡_, subst}
+use mathlib.Core.Path.{_≡_, refl, subst}
 use mathlib.Core.List.{List}
 use Prim.Native.Nat.{ℕ, _≤_}
 use lib.ListN.{length}
@@ -9,10 +9,12 @@ use Rattle.list.specs.Listing.{Listing}
 use Rattle.list.specs.WellFormed.{WellFormed}
 use Rattle.list.specs.Content.{Content}
 use Rattle.xml.specs.Message.{Parts, messageOf}
+use Rattle.file_walk.specs.declared.found.Found.the-variants.{Fine, Violation}
 use Rattle.file_walk.specs.Types.{Spelling}
 use Rattle.file_walk.proofs.Accept.{unique}
 use Rattle.file.specs.Instance.{Kinds}
 use Rattle.file.specs.File.{imageOf}
+use Rattle.file_walk.proofs.Judges.{first-one}
 use Rattle.file.proofs.One.{fine-found}
 use Rattle.file_measure.specs.Measured as measured
 use Rattle.file_measure.specs.Measured.{Says, Message}
@@ -25,7 +27,7 @@ module _ (k : Kinds) (l : Listing) where
 
   pub filled-of : Spelling (k .types) → WellFormed l → (s : List ℕ) (c : Content (k .types .A)) (m : Message k l s c) (d : List ℕ) (v : Answer) (d′ : List ℕ)
       → Passes k l (messageOf (m .xml .tree)) d v d′ → length (imageOf k l c) ≤ length d → d′ ≡ pasted d 0 (imageOf k l c)
-  filled-of y w s c m d v d′ (violates e) h = fine-found _ v (m .none) e
+  filled-of y w s c m d v d′ (violates e) h = fine-found Fine v refl (first-one (k .types) l (messageOf (m .xml .tree)) Fine (Violation v) (m .none) e)
   filled-of y w s c m d v d′ (holds e b i f g) h =
       let same : b ≡ c = unique (k .types) y l w (messageOf (m .xml .tree)) b c i (m .has) in
       subst (λ (z : Content (k .types .A)). length (imageOf k l z) ≤ length d → d′ ≡ pasted d 0 (imageOf k l z)) same g h

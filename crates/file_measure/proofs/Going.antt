@@ -1,7 +1,7 @@
 -- A pass over a message: where it stands, what it has found and put so far, and what each step adds. Over any types. Assumes nothing.
 use mathlib.Core.Path.{_≡_, refl, sym, _∙_, ap, subst}
 use mathlib.Core.Logic.{_≢_}
-use mathlib.Core.Bool.{Bool, true, false, true≢false, false≢true}
+use mathlib.Core.Bool.{Bool, true, false, not, true≢false, false≢true}
 use mathlib.Core.List.{List, [], _∷_, _++_, append-assoc, append-nil}
 use mathlib.Core.Option.{Option}
 use Prim.Native.Nat.{ℕ, _+_, _*_, _≤_, _<_}
@@ -29,13 +29,14 @@ use Rattle.file_walk.specs.declared.step.Here.{Here}
 use Rattle.file_walk.specs.declared.step.Met.{Met}
 use Rattle.file_walk.specs.declared.step.Met.the-variants.{Opened, Closed, Refused, Lost}
 use Rattle.file_walk.specs.declared.step.Turn.{Turn}
-use Rattle.file_walk.specs.Types.{Types, Spelling}
-use Rattle.file_walk.specs.First.{refuse, orElse, isNone, currency, firstViolation}
+use Rattle.file_walk.specs.Types.{Spelling}
+use Rattle.file_walk.specs.First.{First, refuse, orElse, currency}
 use Rattle.file_walk.specs.Denotes.{Has}
-use Rattle.file_walk.specs.Machine.{before, advance, opens, closes, run, emits}
+use Rattle.file_walk.specs.Machine.{Speller, isNone, judgeOf, spellerOf, Computes, before, advance, opens, closes, run, emits}
 use Rattle.file_walk.specs.Stride.{stepIn, stackIn}
 use Rattle.file_walk.specs.Begin.{beginIn}
 use Rattle.file_walk.proofs.Answers.{kinds}
+use Rattle.file_walk.proofs.Judges.{computes-decides}
 use Rattle.file_walk.proofs.Sound.{Placed}
 use Rattle.file_walk.proofs.Joint.{judged}
 use Rattle.file_walk.proofs.Own.{Coins}
@@ -49,7 +50,7 @@ use Rattle.image.specs.Image.{bytes, itemBytes, valueBytes, header, image}
 use Rattle.file.specs.Instance.{Kinds, valuesOf}
 use Rattle.file.specs.File.{imageOf}
 use Rattle.text.proofs.Puts.{puts-none, puts-pasted, puts-then, puts-as}
-use Rattle.file_measure.specs.Pass.{kindIn, Shut, Shuts, Opens, ItemPut, Passes, violates, holds}
+use Rattle.file_measure.specs.Pass.{kindIn, Shut, Yields, Shuts, Opens, ItemPut, Passes, violates, holds}
 use Rattle.file_measure.proofs.Coin.{coin-is}
 
 -- ---- what a step met
@@ -82,9 +83,26 @@ apart p x y z e f g h = true≢false (sym g ∙ ap p (sym e ∙ f) ∙ h)
 plainly : (n : ℕ) → 0 + n ≡ n
 plainly n = omega arith
 
-module _ (k : Kinds) (t pool s : List ℕ) (sd : Sound t pool) where
-  abbrev T : Types
-  T = k .types
+-- types, and a way to compute which of their values is spelt
+pub record Computed : Type 1 where
+  pub kinds : Kinds
+  pub spell : Leaf → List ℕ → List ℕ → Option (kinds .types .A)
+  pub computes : Computes (kinds .types) spell
+
+module _ (k : Kinds) (sp : Leaf → List ℕ → List ℕ → Option (k .types .A)) (y : Computes (k .types) sp) where
+  no-value : (f : Leaf) (w cs : List ℕ) → LeafOk f → sp f w cs ≡ Option.none → (v : k .types .A) → k .types .Spelt f w cs v → ⊥
+  no-value f w cs ok e v st = true≢false (ap (λ (x : Option (k .types .A)). isNone x) (sym e ∙ y .complete f w cs v ok st))
+
+  yields : (f : Leaf) (w cs : List ℕ) → LeafOk f → (u : Option (k .types .A)) → sp f w cs ≡ u → Yields k f w cs u
+  yields f w cs ok Option.none e = no-value f w cs ok e
+  yields f w cs ok (Option.some v) e = y .sound f w cs v e
+
+module _ (cm : Computed) (t pool s : List ℕ) (sd : Sound t pool) where
+  abbrev k : Kinds
+  k = cm .kinds
+
+  abbrev T : Speller
+  T = spellerOf (k .types) (cm .spell)
 
   abbrev l : Listing
   l = listOf t pool
@@ -140,12 +158,12 @@ module _ (k : Kinds) (t pool s : List ℕ) (sd : Sound t pool) where
         subst (λ (z : Turn). Began T t pool s sd (x .tree) z) (sym e)
         (subst (λ (z : List ℕ). Began T t pool z sd (x .tree) (beginIn t pool z)) (sym (x .is)) (began T t pool sd (x .tree) (x .good)))
 
-    first-found : firstViolation T l (messageOf (x .tree)) ≡ found-all
-    first-found = first-is T l (sd .well) (x .tree) (x .good)
+    pub first-found : (f : Found) → found-all ≡ f → First (k .types) l (messageOf (x .tree)) f
+    first-found f e = record { judge = judgeOf T; decides = computes-decides (k .types) (cm .spell) (cm .computes); is = first-is T l (sd .well) (x .tree) (x .good) ∙ e }
 
     -- a violation that is the first, as it was met
     refused-is : (d₀ d : List ℕ) (met : Met) (a b : Answer) → met ≡ Refused a → met ≡ Refused b → found-all ≡ Violation b → Goal d₀ a d
-    refused-is d₀ d met a b e f g = violates (first-found ∙ g ∙ ap Violation (refused-one b a (sym f ∙ e)))
+    refused-is d₀ d met a b e f g = violates (first-found (Violation a) (g ∙ ap Violation (refused-one b a (sym f ∙ e))))
 
     module _ (turn : Turn) (w : Began T t pool s sd (x .tree) turn) where
       pub begin-refused : (d₀ : List ℕ) (a : Answer) → turn .met ≡ Refused a → Goal d₀ a d₀
@@ -214,7 +232,7 @@ module _ (k : Kinds) (t pool s : List ℕ) (sd : Sound t pool) where
             puts-as d₁ a₁ (itemsOf (g .done) ++ itemsOf new) (itemsOf (g .done ++ new)) r d′ (sym (items-append (g .done) new))
             (puts-then d₁ a₁ (itemsOf (g .done)) at d (itemsOf new) r d′ (g .put) p)
 
-        module _ (coins : Coins T) (turn : Turn) (st′ : List ℕ) (e : turn ≡ stepIn t pool s st here) (f : st′ ≡ stackIn t pool s st here) where
+        module _ (coins : Coins (judgeOf T)) (turn : Turn) (st′ : List ℕ) (e : turn ≡ stepIn t pool s st here) (f : st′ ≡ stackIn t pool s st here) where
           abbrev Steps : Type 0
           Steps = Turned T t pool s sd here (g .below) (g .ats) (g .rest) st′ turn
 
@@ -322,7 +340,7 @@ module _ (k : Kinds) (t pool s : List ℕ) (sd : Sound t pool) where
             new = closes T l (rowAt l row .kind) row (g .ats) (w .chars)
 
             -- it adds these items, and nothing is found in it
-            goes-by : judged T (rowAt l row .kind) row (here .level .place) (g .ats) (w .chars) ≡ Fine → Puts d at (itemsOf new) r d′ → Going d′ st′ (turn .here) r
+            goes-by : judged (judgeOf T) (rowAt l row .kind) row (here .level .place) (g .ats) (w .chars) ≡ Fine → Puts d at (itemsOf new) r d′ → Going d′ st′ (turn .here) r
             goes-by j p = record {
               below = w .outer;
               ats = [];
@@ -344,12 +362,12 @@ module _ (k : Kinds) (t pool s : List ℕ) (sd : Sound t pool) where
                 (puts-as d at [] (itemsOf new) r d′ (ap itemsOf (sym (closes-group T l (rowAt l row .kind) row (g .ats) (w .chars) b))) (o .group (ap isGroup (sym kind-here) ∙ b)))
 
             item-of : (f : Leaf) → rowAt l row .kind ≡ leaf f → (v : Option (T .A)) → spelt f ≡ v → ItemPut k t pool row f v d at r d′
-            item-of f e v u = subst (λ z. ItemPut k t pool row f z d at r d′) u (o .leaf f (currency (g .ats)) (w .chars) (shut f e))
+            item-of f e v u = o .leaf f (currency (g .ats)) (w .chars) (shut f e) v (yields k (cm .spell) (cm .computes) f (currency (g .ats)) (w .chars) (leaf-ok f e) v u)
 
             by-leaf : r ≢ 0 → (f : Leaf) → rowAt l row .kind ≡ leaf f → (v : Option (T .A)) → spelt f ≡ v → Going d′ st′ (turn .here) r
             by-leaf n f e Option.none u = absurd (n (item-of f e Option.none u))
             by-leaf n f e (Option.some v) u = goes-by
-                (ap (λ (q : Kind). judged T q row (here .level .place) (g .ats) (w .chars)) e ∙ ap (λ z. refuse (isNone z) (badValue row (here .level .place))) u)
+                (ap (λ (q : Kind). judged (judgeOf T) q row (here .level .place) (g .ats) (w .chars)) e ∙ ap (λ z. refuse (not (not (isNone z))) (badValue row (here .level .place))) u)
                 (puts-as d at (row ∷ k .bytes f v) (itemsOf new) r d′
                 (sym (ap (λ (q : Kind). itemsOf (closes T l q row (g .ats) (w .chars))) e ∙ ap (λ z. itemsOf ((row, z) ∷ [])) u ∙ leaf-item row f v e))
                 (item-of f e (Option.some v) u))
@@ -358,9 +376,9 @@ module _ (k : Kinds) (t pool s : List ℕ) (sd : Sound t pool) where
             goes-out n = kinds (rowAt l row .kind) by-group (λ f e. by-leaf n f e (spelt f) refl)
 
             bad-leaf : (d₀ : List ℕ) → r ≡ 0 → (f : Leaf) → rowAt l row .kind ≡ leaf f → (v : Option (T .A)) → spelt f ≡ v → Goal d₀ (badValue row (here .level .place)) d′
-            bad-leaf d₀ n f e Option.none u = violates (first-found ∙ g .found ∙ w .found
+            bad-leaf d₀ n f e Option.none u = violates (first-found (Violation (badValue row (here .level .place))) (g .found ∙ w .found
                 ∙ ap (λ z. orElse z (finds T t pool s sd (turn .here) (w .outer) [] (w .rest)))
-                (ap (λ (q : Kind). judged T q row (here .level .place) (g .ats) (w .chars)) e ∙ ap (λ z. refuse (isNone z) (badValue row (here .level .place))) u))
+                (ap (λ (q : Kind). judged (judgeOf T) q row (here .level .place) (g .ats) (w .chars)) e ∙ ap (λ z. refuse (not (not (isNone z))) (badValue row (here .level .place))) u)))
             bad-leaf d₀ n f e (Option.some v) u = absurd (omega (arith, n, (item-of f e (Option.some v) u) .behind))
 
             pub bad-value : (d₀ : List ℕ) → r ≡ 0 → Goal d₀ (badValue row (here .level .place)) d′
@@ -369,25 +387,25 @@ module _ (k : Kinds) (t pool s : List ℕ) (sd : Sound t pool) where
                 (λ f e. bad-leaf d₀ n f e (spelt f) refl)
 
         -- the end of the root
-        pub ends-in : Spelling T → (d₀ : List ℕ) → Puts d₀ 0 (header l ++ (1 ∷ [])) a₁ d₁ → (st′ : List ℕ) (turn : Turn) → Ends T t pool s sd here (g .below) (g .ats) (g .rest) st′ turn → (d′ : List ℕ) → d′ ≡ pasted d at (0 ∷ [])
+        pub ends-in : Spelling (k .types) → (d₀ : List ℕ) → Puts d₀ 0 (header l ++ (1 ∷ [])) a₁ d₁ → (st′ : List ℕ) (turn : Turn) → Ends T t pool s sd here (g .below) (g .ats) (g .rest) st′ turn → (d′ : List ℕ) → d′ ≡ pasted d at (0 ∷ [])
             → Goal d₀ (accepted (at + 1)) d′
         unfolding image
         ends-in y d₀ p st′ turn w d′ e = holds none c has (ap accepted length-is) (λ h. image-put .is (omega (arith, h)))
           where
-            none : firstViolation T l (messageOf (x .tree)) ≡ Fine
-            none = first-found ∙ g .found ∙ w .found
+            none : First (k .types) l (messageOf (x .tree)) Fine
+            none = first-found Fine (g .found ∙ w .found)
 
-            content : (c : Content (T .A)) × Meets (T .Is) l c × Has T l (messageOf (x .tree)) c
-            content = accept T y l (sd .well) (messageOf (x .tree)) (one-element (x .tree .root) (rootAt (x .tree)) (x .good .one)) none
+            content : (c : Content (T .A)) × Meets (k .types .Is) l c × Has (k .types) l (messageOf (x .tree)) c
+            content = accept (k .types) y l (sd .well) (messageOf (x .tree)) (one-element (x .tree .root) (rootAt (x .tree)) (x .good .one)) none
 
             c : Content (T .A)
             c = content .0
 
-            has : Has T l (messageOf (x .tree)) c
+            has : Has (k .types) l (messageOf (x .tree)) c
             has = content .2
 
             all-done : (1, Option.none) ∷ g .done ≡ items c
-            all-done = ap (λ z. (1, Option.none) ∷ z) (sym (append-nil (g .done)) ∙ ap (λ z. g .done ++ z) (sym (w .handed))) ∙ sym (g .handed) ∙ items-are T y l (sd .well) (messageOf (x .tree)) c has
+            all-done = ap (λ z. (1, Option.none) ∷ z) (sym (append-nil (g .done)) ∙ ap (λ z. g .done ++ z) (sym (w .handed))) ∙ sym (g .handed) ∙ items-are (k .types) (cm .spell) (cm .computes) l (sd .well) (messageOf (x .tree)) c has
 
             root-bytes : itemsOf ((1, Option.none) ∷ g .done) ≡ 1 ∷ itemsOf (g .done)
             root-bytes = items-append ((1, Option.none) ∷ []) (g .done) ∙ ap (λ (z : List ℕ). z ++ itemsOf (g .done)) (group-item 1 (ap isGroup (sd .well .root .1)))

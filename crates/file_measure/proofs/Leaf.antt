@@ -48,7 +48,7 @@ module _ (t : List ℕ) (row q : ℕ) (e : q ≡ cell t row 2) (g : Bool) (f : g
         most = omega arith;
         long = refl;
         group = λ z. puts-none d at;
-        leaf = λ l w cs s. absurd (false≢true (sym (ap isGroup (s .kind)) ∙ group-told pool ∙ h));
+        leaf = λ l w cs s u i. absurd (false≢true (sym (ap isGroup (s .kind)) ∙ group-told pool ∙ h));
       }
 
       module _ (some-bytes : (l : Leaf) (v : k .types .A) → 0 < length (k .bytes l v)) (h : g ≡ false) (x : ℕ) (i : x ≡ row) (d₁ : List ℕ) (j : d₁ ≡ pasted d at (x ∷ []))
@@ -71,7 +71,7 @@ module _ (t : List ℕ) (row q : ℕ) (e : q ≡ cell t row 2) (g : Bool) (f : g
           most = omega arith;
           long = long-is;
           group = λ y. absurd (no-group y);
-          leaf = λ l w cs s. bad z l (k .types .spell l w cs) (v .value l w cs s);
+          leaf = λ l w cs s u i. bad z l u (v .value l w cs s u i);
         }
 
         good : n ≢ 0 → (l : Leaf) (u : Option (k .types .A)) → Puts d₁ (at + 1) (given k l u) (at + 1 + n) d₂ → ItemPut k t pool row l u d at (at + 1 + n) d₂
@@ -83,5 +83,5 @@ module _ (t : List ℕ) (row q : ℕ) (e : q ≡ cell t row 2) (g : Bool) (f : g
           most = omega (arith, v .most);
           long = long-is;
           group = λ y. absurd (no-group y);
-          leaf = λ l w cs s. good z l (k .types .spell l w cs) (v .value l w cs s);
+          leaf = λ l w cs s u i. good z l u (v .value l w cs s u i);
         }

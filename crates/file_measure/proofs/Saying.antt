@@ -21,7 +21,7 @@ use Rattle.xml_scan.specs.declared.Scanned.the-variants as S
 use Rattle.xml_scan.specs.Right.{Right}
 use Rattle.file_walk.specs.declared.found.Found.the-variants.{Fine}
 use Rattle.file_walk.specs.Types.{Spelling}
-use Rattle.file_walk.specs.First.{firstViolation}
+use Rattle.file_walk.specs.First.{First}
 use Rattle.file_walk.specs.Denotes.{Has}
 use Rattle.file_walk.proofs.Accept as walk
 use Rattle.file_walk.proofs.Beginning.{one-element}
@@ -56,7 +56,7 @@ is-whole s h u r p q = record { size = h; utf8 = u; xml = subst (Right s) q p }
 
 module _ (k : Kinds) (y : Spelling (k .types)) (l : Listing) (wf : WellFormed l) (s : List ℕ) (w : Whole s) where
   -- a message without violation is a good file's, with its content
-  file-of : (c : Content (k .types .A)) → firstViolation (k .types) l (messageIn w) ≡ Fine → Has (k .types) l (messageIn w) c → File k l s c
+  file-of : (c : Content (k .types .A)) → First (k .types) l (messageIn w) Fine → Has (k .types) l (messageIn w) c → File k l s c
   file-of c z h =
       let g = walk.accept (k .types) y l wf (messageIn w) (one-element (w .xml .tree .root) (rootAt (w .xml .tree)) (w .xml .good .one)) z in
       let e = walk.unique (k .types) y l wf (messageIn w) (g .0) c (g .2) h in

@@ -1,13 +1,13 @@
 -- The bytes of a leaf's value, from what the code's calls told, with document 01's types. Assumes nothing.
 use mathlib.Core.Path.{_≡_, refl, sym, _∙_, ap, subst}
 use mathlib.Core.Logic.{_≢_}
-use mathlib.Core.Bool.{Bool, true, false, not, true≢false, false≢true}
+use mathlib.Core.Bool.{Bool, true, false, not, true≢false}
 use mathlib.Core.List.{List, [], _∷_}
 use mathlib.Core.Option.{Option, none, some}
-use Prim.Native.Nat.{ℕ, zero, suc, _+_, _≤_}
+use Prim.Native.Nat.{ℕ, zero, suc, _+_, _≤_, _<_}
 use native.Mathlib.Omega.{arith}
 use native.Mathlib.Decide.{ℕ-discrete}
-use lib.ListN.{length}
+use lib.ListN.{length, getD}
 use Rattle.text.specs.Bytes.{inRange}
 use Rattle.text.specs.Pasting.{pasted}
 use Rattle.text.specs.Puts.{Puts}
@@ -24,9 +24,8 @@ use Rattle.list.proofs.Places.{place-found, place-none, byte-near}
 use Rattle.value.specs.Code.{Ccy, WordAt}
 use Rattle.value.specs.Kind.{code, Given}
 use Rattle.value.specs.Value.{Value, text, place, Form, reference, writing, account, currency, listed, either, count, money, dated, timed, Spelt, bytes}
-use Rattle.value.specs.Spell.{spell}
 use Rattle.value.proofs.Rights.{word-spelt, spelt-word}
-use Rattle.value.proofs.Spell.{spell-sound, spell-complete}
+use Rattle.value.proofs.Values.{value-laws}
 use Rattle.file_walk.specs.Tables.{isGroupIn}
 use Rattle.value_to_bytes.specs.Giving.{Counted, Gives, Sized, Written}
 use Rattle.value_to_bytes.specs.Giving as giving
@@ -34,7 +33,7 @@ use Rattle.value_to_bytes.proofs.Putting.{text-long, natural-long, amount-long,
 use Rattle.value_to_bytes.proofs.Unique.{spelt-any, euro, euro-is}
 use Rattle.value_to_bytes.proofs.Theorems.{bytes-some, write-is, write-none, size-is, size-none}
 use Rattle.file.specs.Instance.{houseKinds}
-use Rattle.file_measure.specs.Pass.{Worded, Shut, given, Valued}
+use Rattle.file_measure.specs.Pass.{Worded, Shut, Yields, given, Valued}
 
 -- ---- no value has many bytes
 
@@ -94,20 +93,8 @@ leaf-kind q g e f = in-range-is 2 11 q (go (inRange 2 11 q) (sym e ∙ f)) .1
 
 -- ---- the text spells a value, or none
 
-no-other : (f : Leaf) (w raw cs : List ℕ) → LeafOk f → Spells raw cs → spell f w cs ≡ none → (ds : List ℕ) (v : Value) → Spells raw ds → Spelt f w ds v → ⊥
-no-other f w raw cs ok sp e ds v sp′ st = go (spell f w cs) e (spell-complete f w cs v ok (subst (λ (z : List ℕ). Spelt f w z v) (one-text raw ds cs sp′ sp) st))
-  where
-    go : (u : Option Value) → u ≡ none → u ≡ some v → ⊥
-    go none a b = true≢false (ap is-none b)
-      where
-        is-none : Option Value → Bool
-        is-none none = true
-        is-none (some x) = false
-    go (some x) a b = false≢true (ap is-none a)
-      where
-        is-none : Option Value → Bool
-        is-none none = true
-        is-none (some y) = false
+no-other : (f : Leaf) (w raw cs : List ℕ) → Spells raw cs → Yields houseKinds f w cs none → (ds : List ℕ) (v : Value) → Spells raw ds → Spelt f w ds v → ⊥
+no-other f w raw cs sp n ds v sp′ st = n v (subst (λ (z : List ℕ). Spelt f w z v) (one-text raw ds cs sp′ sp) st)
 
 module _ (t pool : List ℕ) (row q : ℕ) (e : q ≡ cell t row 2) (cur raw d : List ℕ) (at : ℕ) where
   abbrev ws : List (List ℕ)
@@ -129,29 +116,37 @@ module _ (t pool : List ℕ) (row q : ℕ) (e : q ≡ cell t row 2) (cur raw d :
   -- ---- ENUM
 
   module _ (n : ℕ) (d′ : List ℕ) (o : Worded ws raw d at n d′) where
-    word-none : (w cs : List ℕ) → LeafOk (enum ws) → Spells raw cs → placeIn ws raw ≡ 0 → (u : Option Value) → spell (enum ws) w cs ≡ u → Puts d at (given houseKinds (enum ws) u) (at + n) d′
-    word-none w cs ok sp z none u = o .none z
-    word-none w cs ok sp z (some v) u =
-        let p = spelt-word ws w raw cs v (ok .1) sp (spell-sound (enum ws) w cs v u) in
+    word-none : (w cs : List ℕ) → LeafOk (enum ws) → Spells raw cs → placeIn ws raw ≡ 0 → (u : Option Value) → Yields houseKinds (enum ws) w cs u → Puts d at (given houseKinds (enum ws) u) (at + n) d′
+    word-none w cs ok sp z none y = o .none z
+    word-none w cs ok sp z (some v) y =
+        let p = spelt-word ws w raw cs v (ok .1) sp y in
         absurd (place-none raw ws z (p .word .before) (p .word .within) (p .word .is))
 
-    word-some : (w cs : List ℕ) → LeafOk (enum ws) → Spells raw cs → (p : ℕ) → placeIn ws raw ≡ suc p → Puts d at (given houseKinds (enum ws) (spell (enum ws) w cs)) (at + n) d′
-    word-some w cs ok sp p z =
-        let h = place-found raw ws p z in
-        let at-p : WordAt ws (suc p) raw = record { before = p; from = refl; within = h .0; is = h .1 } in
-        let r = word-spelt ws w raw (suc p) (ok .1) at-p in
-        let same : raw ≡ cs = one-text raw raw cs (r .0) sp in
-        let u : spell (enum ws) w cs ≡ some (place (suc p)) = spell-complete (enum ws) w cs (place (suc p)) ok (subst (λ (c : List ℕ). Spelt (enum ws) w c (place (suc p))) same (r .1)) in
-        puts-as d at (suc p ∷ []) (given houseKinds (enum ws) (spell (enum ws) w cs)) (at + n) d′ (ap (given houseKinds (enum ws)) (sym u))
-        (o .some p z (omega (arith, h .0, ok .0 .1)))
+    word-some : (w cs : List ℕ) → LeafOk (enum ws) → Spells raw cs → (p : ℕ) → placeIn ws raw ≡ suc p → (u : Option Value) → Yields houseKinds (enum ws) w cs u → Puts d at (given houseKinds (enum ws) u) (at + n) d′
+    word-some w cs ok sp p z = go
+      where
+        h : (p < length ws) × (getD ws p [] ≡ raw)
+        h = place-found raw ws p z
 
-    word-put : (w cs : List ℕ) → LeafOk (enum ws) → Spells raw cs → (p : ℕ) → placeIn ws raw ≡ p → Puts d at (given houseKinds (enum ws) (spell (enum ws) w cs)) (at + n) d′
-    word-put w cs ok sp zero z = word-none w cs ok sp z (spell (enum ws) w cs) refl
+        found : Spelt (enum ws) w cs (place (suc p))
+        found =
+            let at-p : WordAt ws (suc p) raw = record { before = p; from = refl; within = h .0; is = h .1 } in
+            let r = word-spelt ws w raw (suc p) (ok .1) at-p in
+            subst (λ (c : List ℕ). Spelt (enum ws) w c (place (suc p))) (one-text raw raw cs (r .0) sp) (r .1)
+
+        go : (u : Option Value) → Yields houseKinds (enum ws) w cs u → Puts d at (given houseKinds (enum ws) u) (at + n) d′
+        go none y = absurd (y (place (suc p)) found)
+        go (some v) y =
+            puts-as d at (suc p ∷ []) (bytes v) (at + n) d′ (ap bytes (value-laws .one (enum ws) w cs (place (suc p)) v ok found y))
+            (o .some p z (omega (arith, h .0, ok .0 .1)))
+
+    word-put : (w cs : List ℕ) → LeafOk (enum ws) → Spells raw cs → (p : ℕ) → placeIn ws raw ≡ p → (u : Option Value) → Yields houseKinds (enum ws) w cs u → Puts d at (given houseKinds (enum ws) u) (at + n) d′
+    word-put w cs ok sp zero z = word-none w cs ok sp z
     word-put w cs ok sp (suc p) z = word-some w cs ok sp p z
 
-    as-enum : (f : Leaf) (w cs : List ℕ) → f ≡ enum ws → LeafOk f → Spells raw cs → Puts d at (given houseKinds f (spell f w cs)) (at + n) d′
+    as-enum : (f : Leaf) (w cs : List ℕ) → f ≡ enum ws → LeafOk f → Spells raw cs → (u : Option Value) → Yields houseKinds f w cs u → Puts d at (given houseKinds f u) (at + n) d′
     as-enum f w cs i ok sp =
-        subst (λ (m : Leaf). Puts d at (given houseKinds m (spell m w cs)) (at + n) d′) (sym i) (word-put w cs (subst LeafOk i ok) sp (placeIn ws raw) refl)
+        subst (λ (m : Leaf). (u : Option Value) → Yields houseKinds m w cs u → Puts d at (given houseKinds m u) (at + n) d′) (sym i) (word-put w cs (subst LeafOk i ok) sp (placeIn ws raw) refl)
 
     pub valued-word : q ≡ 6 → Valued houseKinds t pool row cur raw d at n d′
     valued-word z = record {
@@ -164,55 +159,44 @@ module _ (t pool : List ℕ) (row q : ℕ) (e : q ≡ cell t row 2) (cur raw d :
 
   module _ (other : q ≢ 6) (n : ℕ) where
     module _ (d′ : List ℕ) (p : Written q (cell t row 3) cur raw d at n d′) where
-      written-put : (f : Leaf) (w cs : List ℕ) → Shut t pool row cur raw f w cs → (u : Option Value) → spell f w cs ≡ u → Puts d at (given houseKinds f u) (at + n) d′
+      written-put : (f : Leaf) (w cs : List ℕ) → Shut t pool row cur raw f w cs → (u : Option Value) → Yields houseKinds f w cs u → Puts d at (given houseKinds f u) (at + n) d′
       written-put f w cs sh none u =
           let i = its f w cs sh in
-          let r = write-none f q (cell t row 3) (i .number) other (i .given other) (sh .ok) w cur (λ z. money-q f w cs sh z .0) raw d at n d′ p (no-other f w raw cs (sh .ok) (sh .chars) u) in
+          let r = write-none f q (cell t row 3) (i .number) other (i .given other) (sh .ok) w cur (λ z. money-q f w cs sh z .0) raw d at n d′ p (no-other f w raw cs (sh .chars) u) in
           record { behind = omega (arith, r .0); long = ap length (r .1); is = λ h. r .1 ∙ puts-none d at .is h }
       written-put f w cs sh (some v) u =
           let i = its f w cs sh in
-          let r = write-is f q (cell t row 3) (i .number) other (i .given other) (sh .ok) w cur (λ z. money-q f w cs sh z .0) raw d at n d′ p cs v (sh .chars) (spell-sound f w cs v u) in
+          let r = write-is f q (cell t row 3) (i .number) other (i .given other) (sh .ok) w cur (λ z. money-q f w cs sh z .0) raw d at n d′ p cs v (sh .chars) u in
           puts-pasted d at (bytes v) n d′ (r .0) (r .1)
 
       written-is : Valued houseKinds t pool row cur raw d at n d′
       written-is = record {
         most = omega (arith, p .count, gives-few q (cell t row 3) cur raw (p .found) (p .gives));
         long = ap length (p .is) ∙ length-pasted d at (p .found);
-        value = λ f w cs sh. written-put f w cs sh (spell f w cs) refl;
+        value = written-put;
       }
 
     -- ---- and counted, with no buffer
 
     module _ (no-buffer : length d ≡ 0) (p : Sized q (cell t row 3) raw n) where
-      counted : (f : Leaf) (w cs : List ℕ) → Coded q (cell t row 3) f → LeafOk f → Spells raw cs → Ccy w → (u : Option Value) → spell f w cs ≡ u → Puts d at (given houseKinds f u) (at + n) d
+      counted : (f : Leaf) (w cs : List ℕ) → Coded q (cell t row 3) f → LeafOk f → Spells raw cs → Ccy w → (u : Option Value) → Yields houseKinds f w cs u → Puts d at (given houseKinds f u) (at + n) d
       counted f w cs i ok sp cw none u =
-          let r : n ≡ 0 = size-none f q (cell t row 3) (i .number) other (i .given other) ok w cw raw n p (no-other f w raw cs ok sp u) in
+          let r : n ≡ 0 = size-none f q (cell t row 3) (i .number) other (i .given other) ok w cw raw n p (no-other f w raw cs sp u) in
           record { behind = omega (arith, r); long = refl; is = λ h. puts-none d at .is h }
       counted f w cs i ok sp cw (some v) u =
-          let r : n ≡ length (bytes v) = size-is f q (cell t row 3) (i .number) other (i .given other) ok w cw raw n p cs v sp (spell-sound f w cs v u) in
+          let r : n ≡ length (bytes v) = size-is f q (cell t row 3) (i .number) other (i .given other) ok w cw raw n p cs v sp u in
           record { behind = omega (arith, r); long = refl; is = λ h. absurd (omega (arith, h, no-buffer, bytes-some v)) }
 
       -- of another than an amount, with any currency
-      any-currency : (f : Leaf) (w cs : List ℕ) → LeafOk f → code f ≢ 9 → (u : Option Value) → spell f w cs ≡ u → spell f euro cs ≡ u
-      any-currency f w cs ok c none u = go (spell f euro cs) refl
-        where
-          go : (x : Option Value) → spell f euro cs ≡ x → spell f euro cs ≡ none
-          go none y = y
-          go (some v) y = absurd (no-value (sym (spell-complete f w cs v ok (spelt-any f euro w cs v c (spell-sound f euro cs v y))) ∙ u))
-            where
-              no-value : some v ≡ none → ⊥
-              no-value z = false≢true (ap is-none z)
-                where
-                  is-none : Option Value → Bool
-                  is-none none = true
-                  is-none (some x) = false
-      any-currency f w cs ok c (some v) u = spell-complete f euro cs v ok (spelt-any f w euro cs v c (spell-sound f w cs v u))
+      any-currency : (f : Leaf) (w cs : List ℕ) → code f ≢ 9 → (u : Option Value) → Yields houseKinds f w cs u → Yields houseKinds f euro cs u
+      any-currency f w cs c none y = λ v st. y v (spelt-any f euro w cs v c st)
+      any-currency f w cs c (some v) y = spelt-any f w euro cs v c y
 
-      counted-any : (f : Leaf) (w cs : List ℕ) → Shut t pool row cur raw f w cs → Puts d at (given houseKinds f (spell f w cs)) (at + n) d
-      counted-any f w cs sh = elim (ℕ-discrete q 9) [
-        | yes z ↦ let m = money-q f w cs sh z in counted f w cs (its f w cs sh) (sh .ok) (sh .chars) (subst Ccy (sym (m .0)) (m .1)) (spell f w cs) refl
-        | no z ↦ let c : code f ≢ 9 = λ y. z (sym (its f w cs sh .number) ∙ y) in
-            counted f euro cs (its f w cs sh) (sh .ok) (sh .chars) euro-is (spell f w cs) (any-currency f w cs (sh .ok) c (spell f w cs) refl)
+      counted-any : (f : Leaf) (w cs : List ℕ) → Shut t pool row cur raw f w cs → (u : Option Value) → Yields houseKinds f w cs u → Puts d at (given houseKinds f u) (at + n) d
+      counted-any f w cs sh u y = elim (ℕ-discrete q 9) [
+        | yes z ↦ let m = money-q f w cs sh z in counted f w cs (its f w cs sh) (sh .ok) (sh .chars) (subst Ccy (sym (m .0)) (m .1)) u y
+        | no z ↦ let c : code f ≢ 9 = λ x. z (sym (its f w cs sh .number) ∙ x) in
+            counted f euro cs (its f w cs sh) (sh .ok) (sh .chars) euro-is u (any-currency f w cs c u y)
       ]
 
       counted-is : Valued houseKinds t pool row cur raw d at n d

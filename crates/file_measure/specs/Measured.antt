@@ -10,7 +10,7 @@ use Rattle.list.specs.Content.{Content}
 use Rattle.xml.specs.House.{HouseXml}
 use Rattle.xml.specs.Message.{Parts, messageOf}
 use Rattle.file_walk.specs.declared.found.Found.the-variants.{Fine, Violation}
-use Rattle.file_walk.specs.First.{firstViolation}
+use Rattle.file_walk.specs.First.{First}
 use Rattle.file_walk.specs.Denotes.{Has}
 use Rattle.file.specs.Instance.{Kinds}
 use Rattle.file.specs.File.{imageOf}
@@ -18,8 +18,8 @@ use Rattle.file.specs.File.{imageOf}
 module _ (k : Kinds) (l : Listing) where
   -- the first violation of a message; or that there is none, and the length of its content's image
   pub data Says (m : Parts) (a : Answer) : Type 0 where
-    violates : firstViolation (k .types) l m ≡ Violation a → Says m a
-    holds : firstViolation (k .types) l m ≡ Fine → (c : Content (k .types .A)) → Has (k .types) l m c → a ≡ accepted (length (imageOf k l c)) → Says m a
+    violates : First (k .types) l m (Violation a) → Says m a
+    holds : First (k .types) l m Fine → (c : Content (k .types .A)) → Has (k .types) l m c → a ≡ accepted (length (imageOf k l c)) → Says m a
 
   -- the same of a text that is house XML
   abbrev pub Measured : List ℕ → Answer → Type 0
@@ -27,10 +27,10 @@ module _ (k : Kinds) (l : Listing) where
 
   -- a text that is house XML has a message without violation
   abbrev pub Faultless : List ℕ → Type 0
-  Faultless s = (x : HouseXml s) → firstViolation (k .types) l (messageOf (x .tree)) ≡ Fine
+  Faultless s = (x : HouseXml s) → First (k .types) l (messageOf (x .tree)) Fine
 
   -- a text is house XML, its message has no violation, and c is its content
   pub record Message (s : List ℕ) (c : Content (k .types .A)) : Type 0 where
     pub xml : HouseXml s
-    pub none : firstViolation (k .types) l (messageOf (xml .tree)) ≡ Fine
+    pub none : First (k .types) l (messageOf (xml .tree)) Fine
     pub has : Has (k .types) l (messageOf (xml .tree)) c

@@ -19,7 +19,7 @@ use Rattle.xml.specs.House.{HouseXml}
 use Rattle.xml.specs.Message.{Parts, messageOf}
 use Rattle.value.specs.Code.{Ccy}
 use Rattle.file_walk.specs.declared.found.Found.the-variants.{Fine, Violation}
-use Rattle.file_walk.specs.First.{firstViolation}
+use Rattle.file_walk.specs.First.{First}
 use Rattle.file_walk.specs.Denotes.{Has}
 use Rattle.file.specs.Instance.{Kinds}
 use Rattle.file.specs.File.{imageOf}
@@ -48,6 +48,11 @@ module _ (t pool : List ℕ) where
     pub money : f ≡ amt → (w ≡ cur) × Ccy cur
 
 module _ (k : Kinds) where
+  -- what the characters cs spell, beside those of a currency: a value; or that they spell none
+  abbrev pub Yields : Leaf → List ℕ → List ℕ → Option (k .types .A) → Type 0
+  Yields f w cs none = (v : k .types .A) → k .types .Spelt f w cs v → ⊥
+  Yields f w cs (some v) = k .types .Spelt f w cs v
+
   -- the bytes of the value that is spelt; none where there is none
   abbrev pub given : Leaf → Option (k .types .A) → List ℕ
   given f none = []
@@ -58,7 +63,7 @@ module _ (k : Kinds) where
     pub record Valued (row : ℕ) (cur raw d : List ℕ) (at n : ℕ) (d′ : List ℕ) : Type 0 where
       pub most : n ≤ 65537
       pub long : length d′ ≡ length d
-      pub value : (f : Leaf) (w cs : List ℕ) → Shut t pool row cur raw f w cs → Puts d at (given f (k .types .spell f w cs)) (at + n) d′
+      pub value : (f : Leaf) (w cs : List ℕ) → Shut t pool row cur raw f w cs → (u : Option (k .types .A)) → Yields f w cs u → Puts d at (given f u) (at + n) d′
 
     -- the same where nothing is written, whatever the currency
     abbrev pub Sizes : ℕ → List ℕ → ℕ → Type 0
@@ -74,7 +79,7 @@ module _ (k : Kinds) where
       pub most : r ≤ at + 65538
       pub long : length d′ ≡ length d
       pub group : isGroup (kindIn t pool row) ≡ true → Puts d at [] r d′
-      pub leaf : (f : Leaf) (w cs : List ℕ) → Shut t pool row cur raw f w cs → ItemPut row f (k .types .spell f w cs) d at r d′
+      pub leaf : (f : Leaf) (w cs : List ℕ) → Shut t pool row cur raw f w cs → (u : Option (k .types .A)) → Yields f w cs u → ItemPut row f u d at r d′
 
   -- at the beginning of an element: of a group its item, of a leaf nothing
   pub record Opens (t : List ℕ) (row : ℕ) (d : List ℕ) (at r : ℕ) (d′ : List ℕ) : Type 0 where
@@ -91,8 +96,8 @@ pub record Ready (t pool s : List ℕ) : Type 0 where
 module _ (k : Kinds) (l : Listing) where
   -- the first violation of a message; or that there is none, its image's length, and its image where that fits in
   pub data Passes (m : Parts) (d : List ℕ) (a : Answer) (d′ : List ℕ) : Type 0 where
-    violates : firstViolation (k .types) l m ≡ Violation a → Passes m d a d′
-    holds : firstViolation (k .types) l m ≡ Fine → (c : Content (k .types .A)) → Has (k .types) l m c → a ≡ accepted (length (imageOf k l c))
+    violates : First (k .types) l m (Violation a) → Passes m d a d′
+    holds : First (k .types) l m Fine → (c : Content (k .types .A)) → Has (k .types) l m c → a ≡ accepted (length (imageOf k l c))
         → (length (imageOf k l c) ≤ length d → d′ ≡ pasted d 0 (imageOf k l c)) → Passes m d a d′
 
   -- the same of a text that is house XML

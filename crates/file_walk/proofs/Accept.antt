@@ -2,7 +2,6 @@
 use mathlib.Core.Path.{_≡_, refl, sym, _∙_, ap, ap₂, subst}
 use mathlib.Core.Bool.{true, false, _&&_, not, and-false, true≢false, false≢true}
 use mathlib.Core.List.{List, [], _∷_}
-use mathlib.Core.Option.{Option}
 use Prim.Native.Nat.{ℕ, _<_}
 use native.Mathlib.Omega.{arith}
 use lib.Dec.{eqb}
@@ -16,13 +15,13 @@ use Rattle.list.specs.Content.{Content, end, value, node, rows, ValueOf, GroupO
 use Rattle.xml.specs.Message.{Attrs, Parts, none, char, element}
 use Rattle.file_walk.specs.declared.found.Found.{Found}
 use Rattle.file_walk.specs.declared.found.Found.the-variants.{Fine}
-use Rattle.file_walk.specs.Types.{Types, Spelling}
-use Rattle.file_walk.specs.First.{refuse, firstOf, isNone, empty, textOf, only, currency, attrsOk, kindOf, isRoot, childRows, opening, leafEnd, closing, inside, firstViolation}
+use Rattle.file_walk.specs.Types.{Types, Judge, Decides, Spelling}
+use Rattle.file_walk.specs.First.{First, refuse, firstOf, empty, textOf, only, currency, attrsOk, kindOf, isRoot, childRows, opening, leafEnd, closing, inside, firstViolation}
 use Rattle.file_walk.specs.Denotes.{plain, OneElement, Spells, Denotes, Has}
 use Rattle.text.proofs.Classes.{and-is}
 use Rattle.list.proofs.Tests.{clash}
 use Rattle.list.proofs.Words.{same-eq, same-of}
-use Rattle.file_walk.proofs.Answers.{or-fine, refuse-no, only-yes, yes-only, group-attrs, attrs-group, kinds, some-of}
+use Rattle.file_walk.proofs.Answers.{or-fine, refuse-no, only-yes, yes-only, group-attrs, attrs-group, kinds}
 use Rattle.file_walk.proofs.Attrs.{leaf-mean}
 use Rattle.list.proofs.Child.{child-found, child-is}
 use Rattle.file_walk.proofs.Tests.{no-child}
@@ -42,17 +41,17 @@ of-group t l group g = refl
 of-group t l choice g = refl
 of-group t l (leaf f) g = absurd g
 
-module _ (t : Types) (y : Spelling t) (l : Listing) (w : WellFormed l) where
+module _ (t : Types) (y : Spelling t) (j : Judge) (d : Decides t j) (l : Listing) (w : WellFormed l) where
   -- ---- from no violation to a content
 
   -- in a leaf there are characters only
-  leaf-plain : (i : Parts) (p : ℕ) (seen : List ℕ) (f : Leaf) → 0 < p → kindOf l p ≡ leaf f → inside t l p seen i ≡ Fine → plain i ≡ true
+  leaf-plain : (i : Parts) (p : ℕ) (seen : List ℕ) (f : Leaf) → 0 < p → kindOf l p ≡ leaf f → inside j l p seen i ≡ Fine → plain i ≡ true
   unfolding inside
   leaf-plain none p seen f h e z = refl
   leaf-plain (char o x k) p seen f h e z =
-      leaf-plain k p seen f h e (or-fine (inside t l p seen k) Fine (or-fine (refuse (isGroup (kindOf l p) && not (isBlank x)) (table.textInGroup p o)) _ z .1) .0)
+      leaf-plain k p seen f h e (or-fine (inside j l p seen k) Fine (or-fine (refuse (isGroup (kindOf l p) && not (isBlank x)) (table.textInGroup p o)) _ z .1) .0)
   leaf-plain (element o n ats i k) p seen f h e z =
-      let a = or-fine (refuse (eqb (child l p n) 0) (table.noChild p o)) _ (or-fine (opening t l p seen (child l p n) ats o) _ z .0) in
+      let a = or-fine (refuse (eqb (child l p n) 0) (table.noChild p o)) _ (or-fine (opening j l p seen (child l p n) ats o) _ z .0) in
       clash (eqb (child l p n) 0) (eq-eqb (child l p n) 0 (no-child l p n w f h e)) (refuse-no (eqb (child l p n) 0) (table.noChild p o) (a .0))
 
   -- what no violation among p's parts comes to
@@ -64,29 +63,29 @@ module _ (t : Types) (y : Spelling t) (l : Listing) (w : WellFormed l) where
     theirs : Each (Child l p) (rows content)
     rowed : childRows l p i ≡ rows content
 
-  spells : (k : Kind) (f : Leaf) (ats : Attrs) (i : Parts) (v : t .A) → k ≡ leaf f → plain i ≡ true → attrsOk t k ats ≡ true → t .spell f (currency ats) (textOf i) ≡ Option.some v
+  spells : (k : Kind) (f : Leaf) (ats : Attrs) (i : Parts) (v : t .A) → k ≡ leaf f → plain i ≡ true → attrsOk j k ats ≡ true → t .Spelt f (currency ats) (textOf i) v
       → Spells t l k ats i v × ValueOf (t .Is) l k v
   spells group f ats i v e a b c = absurd (true≢false (ap isGroup e))
   spells choice f ats i v e a b c = absurd (true≢false (ap isGroup e))
   spells (leaf g) f ats i v e a b c =
       let z : g ≡ f = cc in
-      let d : t .Spelt g (currency ats) (textOf i) v = y .sound g (currency ats) (textOf i) v (subst (λ x. t .spell x (currency ats) (textOf i) ≡ Option.some v) (sym z) c) in
-      ((a, leaf-mean t y g ats .0 b, d), y .is g (currency ats) (textOf i) v d)
+      let s : t .Spelt g (currency ats) (textOf i) v = subst (λ x. t .Spelt x (currency ats) (textOf i) v) (sym z) c in
+      ((a, leaf-mean t j d g ats .0 b, s), y .is g (currency ats) (textOf i) v s)
 
   -- one element of row r, found good, and what follows it
   module _ (p : ℕ) (seen : List ℕ) (o : ℕ) (n : List ℕ) (ats : Attrs) (i k : Parts) (c : Child l p (child l p n)) (nm : rowAt l (child l p n) .name ≡ n)
-      (op : Opened t l (kindOf l p) (kindOf l (child l p n)) seen (child l p n) ats) (after : Clean p (child l p n ∷ seen) k) where
+      (op : Opened j l (kindOf l p) (kindOf l (child l p n)) seen (child l p n) ats) (after : Clean p (child l p n ∷ seen) k) where
     abbrev shut : Found
-    shut = closing t l (kindOf l (child l p n)) (child l p n) o ats (childRows l (child l p n) i) (textOf i)
+    shut = closing j l (kindOf l (child l p n)) (child l p n) o ats (childRows l (child l p n) i) (textOf i)
 
     as-node : isGroup (kindOf l (child l p n)) ≡ true → Clean (child l p n) [] i → shut ≡ Fine → Clean p seen (element o n ats i k)
     unfolding childRows
     as-node g f z =
         let r = child l p n in
-        let y = closed t l w (kindOf l r) r o ats (rows (f .content)) (textOf i) g refl (f .steps) (f .theirs) (subst (λ rs. closing t l (kindOf l r) r o ats rs (textOf i) ≡ Fine) (f .rowed) z) in
+        let y = closed j l w (kindOf l r) r o ats (rows (f .content)) (textOf i) g refl (f .steps) (f .theirs) (subst (λ rs. closing j l (kindOf l r) r o ats rs (textOf i) ≡ Fine) (f .rowed) z) in
         record {
           content = node (child l p n) (f .content) (after .content);
-          denotes = ((c, nm), (g, group-attrs t (kindOf l (child l p n)) ats g (op .attrs)), f .denotes, after .denotes);
+          denotes = ((c, nm), (g, group-attrs j (kindOf l (child l p n)) ats g (op .attrs)), f .denotes, after .denotes);
           good = ((group-of t l (kindOf l (child l p n)) g, y), f .good, after .good);
           steps = (op .fits, after .steps);
           theirs = (c, after .theirs);
@@ -97,9 +96,10 @@ module _ (t : Types) (y : Spelling t) (l : Listing) (w : WellFormed l) where
     unfolding childRows
     as-value f e y z =
         let r = child l p n in
-        let z′ : leafEnd t l f r o ats (textOf i) ≡ Fine = subst (λ q. closing t l q r o ats (childRows l r i) (textOf i) ≡ Fine) e z in
-        let a = or-fine (refuse (isNone (t .spell f (currency ats) (textOf i))) (table.badValue r o)) Fine (or-fine (refuse (empty (textOf i)) (table.empty r o)) _ z′ .1) in
-        let v = some-of (t .spell f (currency ats) (textOf i)) (refuse-no (isNone (t .spell f (currency ats) (textOf i))) (table.badValue r o) (a .0)) in
+        let z′ : leafEnd j l f r o ats (textOf i) ≡ Fine = subst (λ q. closing j l q r o ats (childRows l r i) (textOf i) ≡ Fine) e z in
+        let b = j f (currency ats) (textOf i) in
+        let a = or-fine (refuse (not b) (table.badValue r o)) Fine (or-fine (refuse (empty (textOf i)) (table.empty r o)) _ z′ .1) in
+        let v = d .right f (currency ats) (textOf i) .0 (not-false b (refuse-no (not b) (table.badValue r o) (a .0))) in
         let s = spells (kindOf l r) f ats i (v .0) e y (op .attrs) (v .1) in
         record {
           content = value (child l p n) (v .0) (after .content);
@@ -110,22 +110,22 @@ module _ (t : Types) (y : Spelling t) (l : Listing) (w : WellFormed l) where
           rowed = ap (λ rs. child l p n ∷ rs) (after .rowed);
         }
 
-  accepts : (i : Parts) (p : ℕ) (seen : List ℕ) → 0 < p → isGroup (kindOf l p) ≡ true → inside t l p seen i ≡ Fine → Clean p seen i
+  accepts : (i : Parts) (p : ℕ) (seen : List ℕ) → 0 < p → isGroup (kindOf l p) ≡ true → inside j l p seen i ≡ Fine → Clean p seen i
   unfolding inside childRows
   accepts none p seen h g z = record { content = end; denotes = tt; good = tt; steps = tt; theirs = tt; rowed = refl }
   accepts (char o x k) p seen h g z =
       let a = or-fine (refuse (isGroup (kindOf l p) && not (isBlank x)) (table.textInGroup p o)) _ z in
-      let f = accepts k p seen h g (or-fine (inside t l p seen k) Fine (a .1) .0) in
+      let f = accepts k p seen h g (or-fine (inside j l p seen k) Fine (a .1) .0) in
       let b : (isGroup (kindOf l p) && not (isBlank x)) ≡ false = refuse-no (isGroup (kindOf l p) && not (isBlank x)) (table.textInGroup p o) (a .0) in
       let d : not (isBlank x) ≡ false = sym (ap (λ y. y && not (isBlank x)) g) ∙ b in
       record { content = f .content; denotes = (not-false (isBlank x) d, f .denotes); good = f .good; steps = f .steps; theirs = f .theirs; rowed = f .rowed }
   accepts (element o n ats i k) p seen h g z =
       let r = child l p n in
-      let a = or-fine (opening t l p seen r ats o) _ z in
-      let b = or-fine (inside t l r [] i) _ (a .1) in
-      let c = or-fine (closing t l (kindOf l r) r o ats (childRows l r i) (textOf i)) _ (b .1) in
-      let d = or-fine (inside t l p (r ∷ seen) k) Fine (c .1) in
-      let op = opened t l (kindOf l p) (kindOf l r) p seen r ats o g (a .0) in
+      let a = or-fine (opening j l p seen r ats o) _ z in
+      let b = or-fine (inside j l r [] i) _ (a .1) in
+      let c = or-fine (closing j l (kindOf l r) r o ats (childRows l r i) (textOf i)) _ (b .1) in
+      let d = or-fine (inside j l p (r ∷ seen) k) Fine (c .1) in
+      let op = opened j l (kindOf l p) (kindOf l r) p seen r ats o g (a .0) in
       let f = child-found l p n r refl (op .row) in
       let after = accepts k p (r ∷ seen) h g (d .0) in
       kinds (kindOf l r)
@@ -134,7 +134,7 @@ module _ (t : Types) (y : Spelling t) (l : Listing) (w : WellFormed l) where
 
   -- ---- back: from a content to no violation
 
-  plain-leaf : (i : Parts) (p : ℕ) (seen : List ℕ) → isGroup (kindOf l p) ≡ false → plain i ≡ true → inside t l p seen i ≡ Fine
+  plain-leaf : (i : Parts) (p : ℕ) (seen : List ℕ) → isGroup (kindOf l p) ≡ false → plain i ≡ true → inside j l p seen i ≡ Fine
   unfolding inside
   plain-leaf none p seen e z = refl
   plain-leaf (char o x k) p seen e z = rw (e, plain-leaf k p seen e z)
@@ -145,30 +145,30 @@ module _ (t : Types) (y : Spelling t) (l : Listing) (w : WellFormed l) where
   some-text f u (x ∷ cs) v h e = refl
 
   record Leafy (k : Kind) (r o : ℕ) (ats : Attrs) (rs : List ℕ) (i : Parts) : Type 0 where
-    attrs : attrsOk t k ats ≡ true
+    attrs : attrsOk j k ats ≡ true
     plainly : plain i ≡ true
     noGroup : isGroup k ≡ false
-    shuts : closing t l k r o ats rs (textOf i) ≡ Fine
+    shuts : closing j l k r o ats rs (textOf i) ≡ Fine
 
   leafy : (k : Kind) (r o : ℕ) (ats : Attrs) (rs : List ℕ) (i : Parts) (v : t .A) → KindOk k → Spells t l k ats i v → Leafy k r o ats rs i
   leafy group r o ats rs i v h s = absurd s
   leafy choice r o ats rs i v h s = absurd s
   leafy (leaf f) r o ats rs i v h s =
-      record { attrs = leaf-mean t y f ats .1 (s .1); plainly = s .0; noGroup = refl; shuts = rw (some-text f (currency ats) (textOf i) v h (s .2), y .complete f (currency ats) (textOf i) v h (s .2)) }
+      record { attrs = leaf-mean t j d f ats .1 (s .1); plainly = s .0; noGroup = refl; shuts = rw (some-text f (currency ats) (textOf i) v h (s .2), d .right f (currency ats) (textOf i) .1 (v, s .2)) }
 
   record Back (p : ℕ) (seen : List ℕ) (i : Parts) (rs : List ℕ) : Type 0 where
-    passes : inside t l p seen i ≡ Fine
+    passes : inside j l p seen i ≡ Fine
     rowed : childRows l p i ≡ rs
 
   -- one element of row r, its parts and what follows it found good
   module _ (p : ℕ) (seen : List ℕ) (o : ℕ) (n : List ℕ) (ats : Attrs) (i k : Parts) (r : ℕ) (rs : List ℕ) (is : child l p n ≡ r) (pos : 0 < r) (fits : Fits l (kindOf l p) seen r)
-      (attrs : attrsOk t (kindOf l r) ats ≡ true) (within : inside t l r [] i ≡ Fine) (close : closing t l (kindOf l r) r o ats (childRows l r i) (textOf i) ≡ Fine) (after : Back p (r ∷ seen) k rs) where
+      (attrs : attrsOk j (kindOf l r) ats ≡ true) (within : inside j l r [] i ≡ Fine) (close : closing j l (kindOf l r) r o ats (childRows l r i) (textOf i) ≡ Fine) (after : Back p (r ∷ seen) k rs) where
     back-element : Back p seen (element o n ats i k) (r ∷ rs)
     unfolding inside childRows
     back-element = record {
-      passes = subst (λ q. firstOf (opening t l p seen q ats o ∷ inside t l q [] i ∷ closing t l (kindOf l q) q o ats (childRows l q i) (textOf i) ∷ inside t l p (q ∷ seen) k ∷ []) ≡ Fine) (sym is)
-          (firstOf4 (opening t l p seen r ats o) (inside t l r [] i) (closing t l (kindOf l r) r o ats (childRows l r i) (textOf i)) (inside t l p (r ∷ seen) k)
-          (opens t l (kindOf l p) (kindOf l r) p seen r ats o (record { row = pos; fits = fits; attrs = attrs })) within close (after .passes));
+      passes = subst (λ q. firstOf (opening j l p seen q ats o ∷ inside j l q [] i ∷ closing j l (kindOf l q) q o ats (childRows l q i) (textOf i) ∷ inside j l p (q ∷ seen) k ∷ []) ≡ Fine) (sym is)
+          (firstOf4 (opening j l p seen r ats o) (inside j l r [] i) (closing j l (kindOf l r) r o ats (childRows l r i) (textOf i)) (inside j l p (r ∷ seen) k)
+          (opens j l (kindOf l p) (kindOf l r) p seen r ats o (record { row = pos; fits = fits; attrs = attrs })) within close (after .passes));
       rowed = ap₂ _∷_ is (after .rowed);
     }
 
@@ -187,18 +187,61 @@ module _ (t : Types) (y : Spelling t) (l : Listing) (w : WellFormed l) where
       back-element p seen o n ats i k r (rows c) (child-is l p n w r (record { its = d .0 .0; name = d .0 .1 })) (d .0 .0 .first) (s .0) (f .attrs) (plain-leaf i r [] (f .noGroup) (f .plainly)) (f .shuts)
       (back k p (r ∷ seen) c (d .2) (g .1) (s .1))
   back (element o n ats i k) p seen (node r e c) d g s =
-      let z = closes t l w (kindOf l r) r o ats (rows e) (textOf i) (d .1 .0) refl (g .0 .1) in
+      let z = closes j l w (kindOf l r) r o ats (rows e) (textOf i) (d .1 .0) refl (g .0 .1) in
       let b = back i r [] e (d .2) (g .1) (z .1) in
-      back-element p seen o n ats i k r (rows c) (child-is l p n w r (record { its = d .0 .0; name = d .0 .1 })) (d .0 .0 .first) (s .0) (attrs-group t (kindOf l r) ats (d .1 .0) (d .1 .1)) (b .passes)
-      (subst (λ rs. closing t l (kindOf l r) r o ats rs (textOf i) ≡ Fine) (sym (b .rowed)) (z .0)) (back k p (r ∷ seen) c (d .3) (g .2) (s .1))
+      back-element p seen o n ats i k r (rows c) (child-is l p n w r (record { its = d .0 .0; name = d .0 .1 })) (d .0 .0 .first) (s .0) (attrs-group j (kindOf l r) ats (d .1 .0) (d .1 .1)) (b .passes)
+      (subst (λ rs. closing j l (kindOf l r) r o ats rs (textOf i) ≡ Fine) (sym (b .rowed)) (z .0)) (back k p (r ∷ seen) c (d .3) (g .2) (s .1))
+
+  -- ---- the message
+
+  root-group : isGroup (kindOf l 1) ≡ true
+  root-group = ap isGroup (w .root .1)
+
+  -- no violation: a content that meets the list, and is the message's
+  accept-by : (m : Parts) → OneElement m → firstViolation j l m ≡ Fine → (c : Content (t .A)) × Meets (t .Is) l c × Has t l m c
+  unfolding firstViolation
+  accept-by none one z = absurd one
+  accept-by (char o x k) one z = absurd one
+  accept-by (element o n ats i k) one z =
+      let a = or-fine (refuse (not (isRoot l n ats)) (table.wrongRoot o)) _ z in
+      let b = or-fine (inside j l 1 [] i) _ (a .1) in
+      let c = or-fine (closing j l (kindOf l 1) 1 o ats (childRows l 1 i) (textOf i)) Fine (b .1) in
+      let f = accepts i 1 [] (omega arith) root-group (b .0) in
+      let y = and-is (same (rowAt l 1 .name) n) (only (ascii "xmlns") (l .space) ats) (not-false (isRoot l n ats) (refuse-no (not (isRoot l n ats)) (table.wrongRoot o) (a .0))) in
+      let k = closed j l w (kindOf l 1) 1 o ats (rows (f .content)) (textOf i) root-group refl (f .steps) (f .theirs)
+      (subst (λ rs. closing j l (kindOf l 1) 1 o ats rs (textOf i) ≡ Fine) (f .rowed) (c .0)) in (
+        node 1 (f .content) end,
+        record { root = refl; good = ((group-of t l (kindOf l 1) root-group, k), f .good, tt) },
+        record { name = same-eq (rowAt l 1 .name) n (y .0); attrs = only-yes (ascii "xmlns") (l .space) ats (y .1); alone = one; kids = f .content; is = refl; parts = f .denotes },
+      )
+
+  -- a content that meets the list, and is the message's: no violation
+  accepted-by : (m : Parts) (c : Content (t .A)) → Meets (t .Is) l c → Has t l m c → firstViolation j l m ≡ Fine
+  unfolding firstViolation
+  accepted-by none c k h = absurd h
+  accepted-by (char o x k′) c k h = absurd h
+  accepted-by (element o n ats i k′) c k h =
+      let g : Good (t .Is) l (node 1 (h .kids) end) = subst (λ x. Good (t .Is) l x) (h .is) (k .good) in
+      let z = closes j l w (kindOf l 1) 1 o ats (rows (h .kids)) (textOf i) root-group refl (g .0 .1) in
+      let b = back i 1 [] (h .kids) (h .parts) (g .1) (z .1) in
+      let y = subst (λ rs. closing j l (kindOf l 1) 1 o ats rs (textOf i) ≡ Fine) (sym (b .rowed)) (z .0) in
+      rw (same-of (rowAt l 1 .name) n (h .name), yes-only (ascii "xmlns") (l .space) ats (h .attrs), b .passes, y)
+
+module _ (t : Types) (y : Spelling t) (l : Listing) (w : WellFormed l) where
+  -- nothing is found: a content that meets the list, and is the message's
+  pub accept : (m : Parts) → OneElement m → First t l m Fine → (c : Content (t .A)) × Meets (t .Is) l c × Has t l m c
+  accept m one f = accept-by t y (f .judge) (f .decides) l w m one (f .is)
+
+  -- a content that meets the list, and is the message's: nothing is found
+  pub accepted : (m : Parts) (c : Content (t .A)) → Meets (t .Is) l c → Has t l m c → (f : Found) → First t l m f → f ≡ Fine
+  accepted m c k h f x = sym (x .is) ∙ accepted-by t y (x .judge) (x .decides) l w m c k h
 
   -- ---- one content
 
   spells-one : (k : Kind) (ats : Attrs) (i : Parts) (u v : t .A) → KindOk k → Spells t l k ats i u → Spells t l k ats i v → u ≡ v
   spells-one group ats i u v h a b = absurd a
   spells-one choice ats i u v h a b = absurd a
-  spells-one (leaf f) ats i u v h a b =
-      let z : Option.some u ≡ Option.some v = sym (y .complete f (currency ats) (textOf i) u h (a .2)) ∙ y .complete f (currency ats) (textOf i) v h (b .2) in cc
+  spells-one (leaf f) ats i u v h a b = y .one f (currency ats) (textOf i) u v h (a .2) (b .2)
 
   no-both : {P : Type 0} (k : Kind) (ats : Attrs) (i : Parts) (u : t .A) → Spells t l k ats i u → isGroup k ≡ true → P
   no-both group ats i u s g = absurd s
@@ -230,41 +273,6 @@ module _ (t : Types) (y : Spelling t) (l : Listing) (w : WellFormed l) where
       let z : r ≡ q = same-row p r q n (d .0) (e .0) in
       let f = one-content i r x y (d .2) (subst (λ m. Denotes t l m i y) (sym z) (e .2)) in
       let h = one-content k p a b (d .3) (e .3) in cc
-
-  -- ---- the message
-
-  root-group : isGroup (kindOf l 1) ≡ true
-  root-group = ap isGroup (w .root .1)
-
-  -- no violation: a content that meets the list, and is the message's
-  pub accept : (m : Parts) → OneElement m → firstViolation t l m ≡ Fine → (c : Content (t .A)) × Meets (t .Is) l c × Has t l m c
-  unfolding firstViolation
-  accept none one z = absurd one
-  accept (char o x k) one z = absurd one
-  accept (element o n ats i k) one z =
-      let a = or-fine (refuse (not (isRoot l n ats)) (table.wrongRoot o)) _ z in
-      let b = or-fine (inside t l 1 [] i) _ (a .1) in
-      let c = or-fine (closing t l (kindOf l 1) 1 o ats (childRows l 1 i) (textOf i)) Fine (b .1) in
-      let f = accepts i 1 [] (omega arith) root-group (b .0) in
-      let y = and-is (same (rowAt l 1 .name) n) (only (ascii "xmlns") (l .space) ats) (not-false (isRoot l n ats) (refuse-no (not (isRoot l n ats)) (table.wrongRoot o) (a .0))) in
-      let k = closed t l w (kindOf l 1) 1 o ats (rows (f .content)) (textOf i) root-group refl (f .steps) (f .theirs)
-      (subst (λ rs. closing t l (kindOf l 1) 1 o ats rs (textOf i) ≡ Fine) (f .rowed) (c .0)) in (
-        node 1 (f .content) end,
-        record { root = refl; good = ((group-of t l (kindOf l 1) root-group, k), f .good, tt) },
-        record { name = same-eq (rowAt l 1 .name) n (y .0); attrs = only-yes (ascii "xmlns") (l .space) ats (y .1); alone = one; kids = f .content; is = refl; parts = f .denotes },
-      )
-
-  -- a content that meets the list, and is the message's: no violation
-  pub accepted : (m : Parts) (c : Content (t .A)) → Meets (t .Is) l c → Has t l m c → firstViolation t l m ≡ Fine
-  unfolding firstViolation
-  accepted none c k h = absurd h
-  accepted (char o x k′) c k h = absurd h
-  accepted (element o n ats i k′) c k h =
-      let g : Good (t .Is) l (node 1 (h .kids) end) = subst (λ x. Good (t .Is) l x) (h .is) (k .good) in
-      let z = closes t l w (kindOf l 1) 1 o ats (rows (h .kids)) (textOf i) root-group refl (g .0 .1) in
-      let b = back i 1 [] (h .kids) (h .parts) (g .1) (z .1) in
-      let y = subst (λ rs. closing t l (kindOf l 1) 1 o ats rs (textOf i) ≡ Fine) (sym (b .rowed)) (z .0) in
-      rw (same-of (rowAt l 1 .name) n (h .name), yes-only (ascii "xmlns") (l .space) ats (h .attrs), b .passes, y)
 
   -- a message has one content
   pub unique : (m : Parts) (a b : Content (t .A)) → Has t l m a → Has t l m b → a ≡ b

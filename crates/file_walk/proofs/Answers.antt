@@ -14,8 +14,9 @@ use Rattle.list.specs.Listing.{Leaf, Kind, group, choice, leaf, isGroup}
 use Rattle.xml.specs.Message.{Attrs}
 use Rattle.file_walk.specs.declared.found.Found.{Found}
 use Rattle.file_walk.specs.declared.found.Found.the-variants.{Fine, Violation}
-use Rattle.file_walk.specs.Types.{Types}
-use Rattle.file_walk.specs.First.{refuse, orElse, isNone, empty, passed, only, noAttrs, attrsOk}
+use Rattle.file_walk.specs.Types.{Judge}
+use Rattle.file_walk.specs.Machine.{isNone}
+use Rattle.file_walk.specs.First.{refuse, orElse, empty, passed, only, noAttrs, attrsOk}
 use Rattle.text.proofs.Classes.{and-is, or-not}
 use Rattle.list.proofs.Words.{same-eq, same-refl}
 
@@ -95,15 +96,15 @@ no-attrs [] e = refl
 no-attrs (a ∷ ats) e = absurd (false≢true e)
 
 -- a group has no attributes
-pub group-attrs : (t : Types) (k : Kind) (ats : Attrs) → isGroup k ≡ true → attrsOk t k ats ≡ true → ats ≡ []
-group-attrs t group ats g e = no-attrs ats e
-group-attrs t choice ats g e = no-attrs ats e
-group-attrs t (leaf f) ats g e = absurd (false≢true g)
+pub group-attrs : (j : Judge) (k : Kind) (ats : Attrs) → isGroup k ≡ true → attrsOk j k ats ≡ true → ats ≡ []
+group-attrs j group ats g e = no-attrs ats e
+group-attrs j choice ats g e = no-attrs ats e
+group-attrs j (leaf f) ats g e = absurd (false≢true g)
 
-pub attrs-group : (t : Types) (k : Kind) (ats : Attrs) → isGroup k ≡ true → ats ≡ [] → attrsOk t k ats ≡ true
-attrs-group t group ats g e = rw e
-attrs-group t choice ats g e = rw e
-attrs-group t (leaf f) ats g e = absurd (false≢true g)
+pub attrs-group : (j : Judge) (k : Kind) (ats : Attrs) → isGroup k ≡ true → ats ≡ [] → attrsOk j k ats ≡ true
+attrs-group j group ats g e = rw e
+attrs-group j choice ats g e = rw e
+attrs-group j (leaf f) ats g e = absurd (false≢true g)
 
 -- ---- kinds and values
 
@@ -112,6 +113,10 @@ pub kinds : {P : Type 0} (k : Kind) → (isGroup k ≡ true → P) → ((f : Lea
 kinds group a b = a refl
 kinds choice a b = a refl
 kinds (leaf f) a b = b f refl
+
+pub not-none : {A : Type 0} (x : Option A) → not (isNone x) ≡ true → isNone x ≡ false
+not-none Option.none e = absurd (false≢true e)
+not-none (Option.some v) e = refl
 
 pub some-of : {A : Type 0} (x : Option A) → isNone x ≡ false → (v : A) × (x ≡ Option.some v)
 some-of Option.none e = absurd (true≢false e)

@@ -37,10 +37,9 @@ use Rattle.file_walk.specs.declared.found.Found.the-variants.{Violation}
 use Rattle.file_walk.specs.declared.step.Here.{Here}
 use Rattle.file_walk.specs.declared.step.Turn.{Turn}
 use Rattle.file_walk.specs.declared.step.Met.the-variants.{Opened}
-use Rattle.file_walk.specs.Types.{Types}
 use Rattle.file_walk.specs.First.{refuse, orElse, only, kindOf, isRoot, firstViolation}
 use Rattle.file_walk.specs.Denotes.{OneElement as Single}
-use Rattle.file_walk.specs.Machine.{before, at, after, fresh, run, walk, emits}
+use Rattle.file_walk.specs.Machine.{Speller, judgeOf, before, at, after, fresh, run, walk, emits}
 use Rattle.file_walk.specs.Tables.{freshIn, levels}
 use Rattle.file_walk.specs.Stride.{named, spaceIn, refusedAt}
 use Rattle.file_walk.specs.Begin.{isFirstIn, isRootIn, rootAt as root-in, rootedIn, hollowIn, foundIn, beginBy, beginIn}
@@ -68,7 +67,7 @@ some-events (empty t i) o h = omega arith
 some-events (full t j g i) o h = omega arith
 
 -- what the walk over events finds is the first violation of a tree's message
-pub first-is : (T : Types) (l : Listing) → WellFormed l → (m : Tree) → GoodTree m → firstViolation T l (messageOf m) ≡ run T l before (events (messageOf m) [])
+pub first-is : (T : Speller) (l : Listing) → WellFormed l → (m : Tree) → GoodTree m → firstViolation (judgeOf T) l (messageOf m) ≡ run T l before (events (messageOf m) [])
 unfolding walk
 first-is T l w m g = sym (walk-is T l w (messageOf m) (one-element (m .root) (rootAt m) (g .one)))
 
@@ -107,7 +106,7 @@ module _ (t pool s : List ℕ) (sd : Sound t pool) where
       (ap (λ (x : Attribute). eqb (k .attributes) 1 && (named (ascii "xmlns") s (x .name) (x .stop) && same (l .space) (slice (x .value) (x .quote) s))) (g .first)
       ∙ only-by (k .stop) ats (k .attributes) (g .count) (g .attributes)))
 
-module _ (T : Types) (t pool : List ℕ) (sd : Sound t pool) (m : Tree) (good : GoodTree m) where
+module _ (T : Speller) (t pool : List ℕ) (sd : Sound t pool) (m : Tree) (good : GoodTree m) where
   abbrev s : List ℕ
   s = text m
 
@@ -179,7 +178,7 @@ module _ (T : Types) (t pool : List ℕ) (sd : Sound t pool) (m : Tree) (good : 
       within = ahead .within;
       tells = tells;
       closing = closing-text 0 (startOf s) ps (enter (k .less) n ats ∷ more) (subst (Closing 0) is (closing-events (messageOf m) 0 [] refl));
-      attrs = attrs-group T (kindOf list 1) [] root-group refl;
+      attrs = attrs-group (judgeOf T) (kindOf list 1) [] root-group refl;
       coin = λ z. absurd (no-amount (kindOf list 1) root-group z);
       capitals = λ z. absurd (no-amount (kindOf list 1) root-group z);
     }

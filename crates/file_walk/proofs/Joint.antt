@@ -1,7 +1,7 @@
 -- One step over bytes and tables does what the walk over events does, in sound tables. Assumes nothing.
 use mathlib.Core.Path.{_≡_, refl, sym, _∙_, ap, ap₂, subst}
 use mathlib.Core.Logic.{_⊎_, inl, inr}
-use mathlib.Core.Bool.{Bool, true, false, cond}
+use mathlib.Core.Bool.{Bool, true, false, cond, not}
 use mathlib.Core.List.{List, [], _∷_, _++_}
 use Prim.Native.Nat.{ℕ, zero, suc, _+_, _≤_, _<_}
 use native.Mathlib.Omega.{arith}
@@ -29,9 +29,9 @@ use Rattle.xml_tags.proofs.Texts.{ink-is}
 use Rattle.file_walk.specs.declared.level.Level.{Level}
 use Rattle.file_walk.specs.declared.found.Found.{Found}
 use Rattle.file_walk.specs.declared.found.Found.the-variants.{Fine, Violation}
-use Rattle.file_walk.specs.Types.{Types}
-use Rattle.file_walk.specs.First.{refuse, orElse, isNone, empty, currency, kindOf}
-use Rattle.file_walk.specs.Machine.{at, pop, openTest, closeTest, run}
+use Rattle.file_walk.specs.Types.{Judge}
+use Rattle.file_walk.specs.First.{refuse, orElse, empty, currency, kindOf}
+use Rattle.file_walk.specs.Machine.{Speller, judgeOf, at, pop, openTest, closeTest, run}
 use Rattle.file_walk.specs.Tables.{isGroupIn, openingIn, groupEndIn}
 use Rattle.file_walk.specs.Stride.{inkBefore, endIn, rowIn, ownIn}
 use Rattle.file_walk.proofs.Answers.{or-right, or-assoc}
@@ -45,17 +45,17 @@ text-empty [] = refl
 text-empty (p ∷ ps) = sym (ne-eqb (length (spell p ++ spells ps)) 0 (omega (arith, piece-some p, length-append (spell p) (spells ps))))
 
 -- what is left to say of a leaf when it has a character: 12
-abbrev pub judged : Types → Kind → ℕ → ℕ → Attrs → List ℕ → Found
-judged T group r o ats cs = Fine
-judged T choice r o ats cs = Fine
-judged T (leaf k) r o ats cs = refuse (isNone (T .spell k (currency ats) cs)) (table.badValue r o)
+abbrev pub judged : Judge → Kind → ℕ → ℕ → Attrs → List ℕ → Found
+judged j group r o ats cs = Fine
+judged j choice r o ats cs = Fine
+judged j (leaf k) r o ats cs = refuse (not (j k (currency ats) cs)) (table.badValue r o)
 
 -- the characters that are kept of a text
 abbrev pub kept : Bool → List Piece → List ℕ
 kept true ps = []
 kept false ps = resolvedAll ps
 
-module _ (T : Types) (t pool s : List ℕ) (sd : Sound t pool) where
+module _ (T : Speller) (t pool s : List ℕ) (sd : Sound t pool) where
   abbrev pub l : Listing
   l = listOf t pool
 
@@ -87,25 +87,25 @@ module _ (T : Types) (t pool s : List ℕ) (sd : Sound t pool) where
 
       -- the tests of a closing tag: those over the tables, then 12
       close-test : (k : Kind) → closeTest T l k lv ats (kept (isGroup k) ps)
-          ≡ orElse (cond (isGroup k) (groupEndIn t lv) (refuse (eqb b a) (table.empty (lv .row) (lv .place)))) (judged T k (lv .row) (lv .place) ats (resolvedAll ps))
+          ≡ orElse (cond (isGroup k) (groupEndIn t lv) (refuse (eqb b a) (table.empty (lv .row) (lv .place)))) (judged (judgeOf T) k (lv .row) (lv .place) ats (resolvedAll ps))
       close-test group = sym (or-right (groupEndIn t lv) ∙ group-end-in t pool sd T lv pl)
       close-test choice = sym (or-right (groupEndIn t lv) ∙ group-end-in t pool sd T lv pl)
       close-test (leaf f) =
-          ap₂ orElse (ap (λ z. refuse z (table.empty (lv .row) (lv .place))) no-text) (or-right (judged T (leaf f) (lv .row) (lv .place) ats (resolvedAll ps)))
+          ap₂ orElse (ap (λ z. refuse z (table.empty (lv .row) (lv .place))) no-text) (or-right (judged (judgeOf T) (leaf f) (lv .row) (lv .place) ats (resolvedAll ps)))
 
       -- a closing tag, and what follows
       pub close-run : (more : List Event)
           → run T l (at lv below ats (kept (isGroup (kindOf l (lv .row))) ps)) (leave ∷ more)
-          ≡ orElse (endIn t (isGroupIn (cell t (lv .row) 2)) lv a b) (orElse (judged T (kindOf l (lv .row)) (lv .row) (lv .place) ats (resolvedAll ps)) (run T l (pop below) more))
+          ≡ orElse (endIn t (isGroupIn (cell t (lv .row) 2)) lv a b) (orElse (judged (judgeOf T) (kindOf l (lv .row)) (lv .row) (lv .place) ats (resolvedAll ps)) (run T l (pop below) more))
       unfolding run endIn
       close-run more =
           let q = kindOf l (lv .row) in
-          let j = judged T q (lv .row) (lv .place) ats (resolvedAll ps) in
+          let j = judged (judgeOf T) q (lv .row) (lv .place) ats (resolvedAll ps) in
           let f : Bool → Found = λ z. cond z (groupEndIn t lv) (refuse (eqb b a) (table.empty (lv .row) (lv .place))) in
           ap (λ z. orElse z (run T l (pop below) more)) (close-test q ∙ ap (λ z. orElse (f z) j) (sym is-group)) ∙ or-assoc (f (isGroupIn (cell t (lv .row) 2))) j (run T l (pop below) more)
 
     -- an opening tag: its row is the list's child of that name, and its tests are the tables'
-    module _ (m : Coins T) (o : ℕ) (k : Token) (is : k ≡ tokenIn s o) (inside : k .less < length s) (n : List ℕ) (new : Attrs) (g : Tagged s k n new) where
+    module _ (m : Coins (judgeOf T)) (o : ℕ) (k : Token) (is : k ≡ tokenIn s o) (inside : k .less < length s) (n : List ℕ) (new : Attrs) (g : Tagged s k n new) where
       pub row-is : rowIn t pool s lv (k .less) (k .stop) ≡ child l (lv .row) n
       unfolding rowIn
       row-is =
@@ -121,4 +121,4 @@ module _ (T : Types) (t pool s : List ℕ) (sd : Sound t pool) where
       open-run =
           let r = child l (lv .row) n in
           sym (opening-in t pool sd T lv r (ownIn t s r (k .attributes) (k .first)) new (k .less) pl (its r refl)
-          (λ h. own-is T t pool s r h (subst (λ z. r ≤ z) (size-is t pool) (child-found l (lv .row) n r refl h .its .last)) m k n new g))
+          (λ h. own-is (judgeOf T) t pool s r h (subst (λ z. r ≤ z) (size-is t pool) (child-found l (lv .row) n r refl h .its .last)) m k n new g))

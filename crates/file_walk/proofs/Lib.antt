@@ -7,6 +7,8 @@ pub mod Steps
 pub mod Tests
 -- a leaf's attributes
 pub mod Attrs
+-- it does not matter who judges which texts spell a value
+pub mod Judges
 -- a flag for rules
 pub mod Rules
 -- no violation exactly when some content meets the list; one content

@@ -21,10 +21,10 @@ use Rattle.xml_tags.specs.Story.{Event, char as text, leave, events}
 use Rattle.file_walk.specs.declared.level.Level.{Level}
 use Rattle.file_walk.specs.declared.found.Found.{Found}
 use Rattle.file_walk.specs.declared.found.Found.the-variants.{Fine}
-use Rattle.file_walk.specs.Types.{Types}
+use Rattle.file_walk.specs.Types.{Judge}
 use Rattle.file_walk.specs.First.{refuse, orElse, firstOf, empty, passed, breaks, textOf, attrsOk, kindOf, isRoot, over, absent, childRows, opening, closing, inside, firstViolation}
 use Rattle.file_walk.specs.Denotes.{OneElement}
-use Rattle.file_walk.specs.Machine.{at, pop, fresh, advance, again, openTest, closeTest, run, walk, misses}
+use Rattle.file_walk.specs.Machine.{Speller, judgeOf, at, pop, fresh, advance, again, openTest, closeTest, run, walk, misses}
 use Rattle.file_walk.proofs.Answers.{or-right, or-when, or-assoc, refuse-no, passed-no, no-passed, group-attrs, kinds}
 use Rattle.list.proofs.Child.{child-found}
 use Rattle.file_walk.proofs.Tests.{no-child}
@@ -59,20 +59,23 @@ breaks-same : (p : ℕ) (a b : List ℕ) (qs : List Rule) → ((q : ℕ) → tim
 breaks-same p a b [] e = refl
 breaks-same p a b (both g x y ∷ qs) e = rw (e x, e y, breaks-same p a b qs e)
 
-module _ (t : Types) (l : Listing) where
+module _ (T : Speller) (l : Listing) where
+  abbrev j : Judge
+  j = judgeOf T
+
   absent-same : (p : ℕ) (a b : List ℕ) → ((q : ℕ) → times q a ≡ times q b) → absent l p a ≡ absent l p b
   unfolding absent
   absent-same p a b e =
       firstFrom-ext (λ r. eqb (rowAt l r .parent) p && (required (rowAt l r .count) && not (has r a))) (λ r. eqb (rowAt l r .parent) p && (required (rowAt l r .count) && not (has r b))) 1 (size l)
       (λ q h k. ap (λ n. eqb (rowAt l q .parent) p && (required (rowAt l q .count) && not (ltb 0 n))) (e q))
 
-  closing-same : (k : Kind) (r o : ℕ) (ats : Attrs) (cs a b : List ℕ) → ((q : ℕ) → times q a ≡ times q b) → empty a ≡ empty b → closing t l k r o ats a cs ≡ closing t l k r o ats b cs
+  closing-same : (k : Kind) (r o : ℕ) (ats : Attrs) (cs a b : List ℕ) → ((q : ℕ) → times q a ≡ times q b) → empty a ≡ empty b → closing j l k r o ats a cs ≡ closing j l k r o ats b cs
   closing-same group r o ats cs a b e f = rw (f, absent-same r a b e, breaks-same r a b (l .rules) e)
   closing-same choice r o ats cs a b e f = rw (f, absent-same r a b e, breaks-same r a b (l .rules) e)
   closing-same (leaf k) r o ats cs a b e f = refl
 
   -- a group's attributes and characters are not asked at its end
-  closing-group : (k : Kind) (r o : ℕ) (ats bts : Attrs) (rs cs ds : List ℕ) → isGroup k ≡ true → closing t l k r o ats rs cs ≡ closing t l k r o bts rs ds
+  closing-group : (k : Kind) (r o : ℕ) (ats bts : Attrs) (rs cs ds : List ℕ) → isGroup k ≡ true → closing j l k r o ats rs cs ≡ closing j l k r o bts rs ds
   closing-group group r o ats bts rs cs ds g = refl
   closing-group choice r o ats bts rs cs ds g = refl
   closing-group (leaf k) r o ats bts rs cs ds g = absurd (false≢true g)
@@ -107,12 +110,12 @@ module _ (t : Types) (l : Listing) where
   over-latest (leaf k) p r seen pos c a e = refl
 
   open-same : (kp kr : Kind) (p last r o : ℕ) (seen : List ℕ) (ats : Attrs) → Each (Child l p) seen → Each (λ x. x ≤ latest seen) seen → last ≡ latest seen
-      → firstOf (refuse (eqb r 0) (table.noChild p o) ∷ refuse (not (isChoice kp) && ltb r last) (table.outOfOrder r o) ∷ refuse (again l kp last r) (table.tooMany r o) ∷ refuse (not (attrsOk t kr ats)) (table.wrongAttributes r o) ∷ [])
-      ≡ firstOf (refuse (eqb r 0) (table.noChild p o) ∷ refuse (not (isChoice kp) && passed r seen) (table.outOfOrder r o) ∷ refuse (over l kp seen r) (table.tooMany r o) ∷ refuse (not (attrsOk t kr ats)) (table.wrongAttributes r o) ∷ [])
+      → firstOf (refuse (eqb r 0) (table.noChild p o) ∷ refuse (not (isChoice kp) && ltb r last) (table.outOfOrder r o) ∷ refuse (again l kp last r) (table.tooMany r o) ∷ refuse (not (attrsOk j kr ats)) (table.wrongAttributes r o) ∷ [])
+      ≡ firstOf (refuse (eqb r 0) (table.noChild p o) ∷ refuse (not (isChoice kp) && passed r seen) (table.outOfOrder r o) ∷ refuse (over l kp seen r) (table.tooMany r o) ∷ refuse (not (attrsOk j kr ats)) (table.wrongAttributes r o) ∷ [])
   open-same kp kr p last r o seen ats c a e =
       rw (e, passed-latest r seen a)
       (or-when (refuse (eqb r 0) (table.noChild p o)) _ _ (λ z. or-when (refuse (not (isChoice kp) && passed r seen) (table.outOfOrder r o)) _ _ (λ y.
-      ap (λ b. orElse (refuse b (table.tooMany r o)) (orElse (refuse (not (attrsOk t kr ats)) (table.wrongAttributes r o)) Fine)) (over-latest kp p r seen (pos (refuse-no (eqb r 0) (table.noChild p o) z)) c a (refuse-no (not (isChoice kp) && passed r seen) (table.outOfOrder r o) y)))))
+      ap (λ b. orElse (refuse b (table.tooMany r o)) (orElse (refuse (not (attrsOk j kr ats)) (table.wrongAttributes r o)) Fine)) (over-latest kp p r seen (pos (refuse-no (eqb r 0) (table.noChild p o) z)) c a (refuse-no (not (isChoice kp) && passed r seen) (table.outOfOrder r o) y)))))
     where
       pos : eqb r 0 ≡ false → 0 < r
       pos z = elim (decLt 0 r) [ yes h ↦ h | no h ↦ absurd (eqb-false r 0 z (omega arith)) ]
@@ -160,36 +163,36 @@ module _ (t : Types) (l : Listing) where
     }
 
     close-same : (k : Kind) (lv : Level) (seen : List ℕ) (ats bts : Attrs) (cs ds : List ℕ) → isGroup k ≡ true → Stands lv seen
-        → closeTest t l k lv ats cs ≡ closing t l k (lv .row) (lv .place) bts seen ds
+        → closeTest T l k lv ats cs ≡ closing j l k (lv .row) (lv .place) bts seen ds
     close-same k lv seen ats bts cs ds g s = go k (lv .row) (lv .place) (lv .last) (lv .due) (lv .odd) g (s .last) (s .due)
         (first-latest (lv .row) seen (s .theirs)) (odd-ends l w (lv .row) seen (s .theirs) (s .top) (lv .odd) (s .oddTo) (s .oddFrom))
       where
         go : (k : Kind) (p o last due : ℕ) (odd : Bool) → isGroup k ≡ true → last ≡ latest seen → due ≡ absent l p seen → eqb (latest seen) 0 ≡ empty seen
             → (odd || not (eqb (pair (l .rules) (latest seen)) 0)) ≡ breaks p seen (l .rules)
-            → closeTest t l k (record { row = p; place = o; last = last; due = due; odd = odd }) ats cs ≡ closing t l k p o bts seen ds
+            → closeTest T l k (record { row = p; place = o; last = last; due = due; odd = odd }) ats cs ≡ closing j l k p o bts seen ds
         go group p o last due odd g e f h i = rw (e, f, h, i)
         go choice p o last due odd g e f h i = rw (e, f, h, i)
         go (leaf x) p o last due odd g e f h i = absurd (false≢true g)
 
     -- ---- a leaf, with its closing tag
 
-    leaf-close : (k : Kind) (f : Leaf) (lv : Level) (ats : Attrs) (rs cs : List ℕ) → k ≡ leaf f → closeTest t l k lv ats cs ≡ closing t l k (lv .row) (lv .place) ats rs cs
+    leaf-close : (k : Kind) (f : Leaf) (lv : Level) (ats : Attrs) (rs cs : List ℕ) → k ≡ leaf f → closeTest T l k lv ats cs ≡ closing j l k (lv .row) (lv .place) ats rs cs
     leaf-close group f lv ats rs cs e = absurd (true≢false (ap isGroup e))
     leaf-close choice f lv ats rs cs e = absurd (true≢false (ap isGroup e))
     leaf-close (leaf g) f lv ats rs cs e = refl
 
     leaf-run : (i : Parts) (lv : Level) (below : List Level) (ats : Attrs) (rs cs : List ℕ) (rest : List Event) (f : Leaf) → 0 < lv .row → kindOf l (lv .row) ≡ leaf f
-        → run t l (at lv below ats cs) (events i (leave ∷ rest))
-        ≡ orElse (inside t l (lv .row) [] i) (orElse (closing t l (kindOf l (lv .row)) (lv .row) (lv .place) ats rs (cs ++ textOf i)) (run t l (pop below) rest))
+        → run T l (at lv below ats cs) (events i (leave ∷ rest))
+        ≡ orElse (inside j l (lv .row) [] i) (orElse (closing j l (kindOf l (lv .row)) (lv .row) (lv .place) ats rs (cs ++ textOf i)) (run T l (pop below) rest))
     unfolding run inside openTest
     leaf-run none lv below ats rs cs rest f h e =
-        ap (λ x. orElse x (run t l (pop below) rest)) (leaf-close (kindOf l (lv .row)) f lv ats rs cs e)
-        ∙ ap (λ x. orElse (closing t l (kindOf l (lv .row)) (lv .row) (lv .place) ats rs x) (run t l (pop below) rest)) (sym (append-nil cs))
+        ap (λ x. orElse x (run T l (pop below) rest)) (leaf-close (kindOf l (lv .row)) f lv ats rs cs e)
+        ∙ ap (λ x. orElse (closing j l (kindOf l (lv .row)) (lv .row) (lv .place) ats rs x) (run T l (pop below) rest)) (sym (append-nil cs))
     leaf-run (char o x k) lv below ats rs cs rest f h e =
         let g : isGroup (kindOf l (lv .row)) ≡ false = ap isGroup e in
         let ih = leaf-run k lv below ats rs (cs ++ (x ∷ [])) rest f h e in
         let a : cs ++ (x ∷ []) ++ textOf k ≡ cs ++ (x ∷ textOf k) = append-assoc cs (x ∷ []) (textOf k) in
-        rw (g, or-right (inside t l (lv .row) [] k)) (rw a at ih)
+        rw (g, or-right (inside j l (lv .row) [] k)) (rw a at ih)
     leaf-run (element o n ats′ i k) lv below ats rs cs rest f h e =
         let z : eqb (child l (lv .row) n) 0 ≡ true = eq-eqb (child l (lv .row) n) 0 (no-child l (lv .row) n w f h e) in
         rw z
@@ -197,14 +200,14 @@ module _ (t : Types) (l : Listing) where
     -- ---- an element that passed its opening tests: its parts, its closing tests, and what follows it
 
     module _ (lv : Level) (below : List Level) (seen : List ℕ) (rest : List Event) (s : Stands lv seen) (o : ℕ) (ats : Attrs) (i k : Parts) (r : ℕ) (its : Child l (lv .row) r)
-        (op : Opened t l (kindOf l (lv .row)) (kindOf l r) seen r ats) where
+        (op : Opened j l (kindOf l (lv .row)) (kindOf l r) seen r ats) where
       abbrev ends : List ℕ → Found
-      ends rs = orElse (closing t l (kindOf l (lv .row)) (lv .row) (lv .place) [] rs []) (run t l (pop below) rest)
+      ends rs = orElse (closing j l (kindOf l (lv .row)) (lv .row) (lv .place) [] rs []) (run T l (pop below) rest)
 
-      rest-run : (Stands (advance l lv r) (r ∷ seen) → run t l (at (advance l lv r) below [] []) (events k (leave ∷ rest)) ≡ orElse (inside t l (lv .row) (r ∷ seen) k) (ends (childRows l (lv .row) k ++ (r ∷ seen))))
-          → run t l (at (advance l lv r) below [] []) (events k (leave ∷ rest)) ≡ orElse (inside t l (lv .row) (r ∷ seen) k) (ends (r ∷ (childRows l (lv .row) k ++ seen)))
+      rest-run : (Stands (advance l lv r) (r ∷ seen) → run T l (at (advance l lv r) below [] []) (events k (leave ∷ rest)) ≡ orElse (inside j l (lv .row) (r ∷ seen) k) (ends (childRows l (lv .row) k ++ (r ∷ seen))))
+          → run T l (at (advance l lv r) below [] []) (events k (leave ∷ rest)) ≡ orElse (inside j l (lv .row) (r ∷ seen) k) (ends (r ∷ (childRows l (lv .row) k ++ seen)))
       rest-run ih = ih (stands-advance lv seen r s its (below-of (kindOf l (lv .row)) r seen (op .fits)))
-          ∙ ap (λ x. orElse (inside t l (lv .row) (r ∷ seen) k) (orElse x (run t l (pop below) rest)))
+          ∙ ap (λ x. orElse (inside j l (lv .row) (r ∷ seen) k) (orElse x (run T l (pop below) rest)))
           (closing-same (kindOf l (lv .row)) (lv .row) (lv .place) [] [] (childRows l (lv .row) k ++ (r ∷ seen)) (r ∷ (childRows l (lv .row) k ++ seen))
           (λ q. times-shift q r (childRows l (lv .row) k) seen) (empty-shift r (childRows l (lv .row) k) seen))
 
@@ -212,58 +215,58 @@ module _ (t : Types) (l : Listing) where
       tail = events k (leave ∷ rest)
 
       abbrev on : Found
-      on = run t l (at (advance l lv r) below [] []) tail
+      on = run T l (at (advance l lv r) below [] []) tail
 
-      part-run : (isGroup (kindOf l r) ≡ true → run t l (at (fresh l r o) (advance l lv r ∷ below) [] []) (events i (leave ∷ tail)) ≡ orElse (inside t l r [] i) (orElse (closing t l (kindOf l r) r o [] (childRows l r i ++ []) []) on))
-          → run t l (at (fresh l r o) (advance l lv r ∷ below) ats []) (events i (leave ∷ tail)) ≡ orElse (inside t l r [] i) (orElse (closing t l (kindOf l r) r o ats (childRows l r i) (textOf i)) on)
+      part-run : (isGroup (kindOf l r) ≡ true → run T l (at (fresh l r o) (advance l lv r ∷ below) [] []) (events i (leave ∷ tail)) ≡ orElse (inside j l r [] i) (orElse (closing j l (kindOf l r) r o [] (childRows l r i ++ []) []) on))
+          → run T l (at (fresh l r o) (advance l lv r ∷ below) ats []) (events i (leave ∷ tail)) ≡ orElse (inside j l r [] i) (orElse (closing j l (kindOf l r) r o ats (childRows l r i) (textOf i)) on)
       unfolding fresh
       part-run ih = kinds (kindOf l r)
-          (λ y. ap (λ z. run t l (at (fresh l r o) (advance l lv r ∷ below) z []) (events i (leave ∷ tail))) (group-attrs t (kindOf l r) ats y (op .attrs)) ∙ ih y
-          ∙ ap (λ z. orElse (inside t l r [] i) (orElse z on))
-          (ap (λ z. closing t l (kindOf l r) r o [] z []) (append-nil (childRows l r i)) ∙ closing-group (kindOf l r) r o [] ats (childRows l r i) [] (textOf i) y))
+          (λ y. ap (λ z. run T l (at (fresh l r o) (advance l lv r ∷ below) z []) (events i (leave ∷ tail))) (group-attrs j (kindOf l r) ats y (op .attrs)) ∙ ih y
+          ∙ ap (λ z. orElse (inside j l r [] i) (orElse z on))
+          (ap (λ z. closing j l (kindOf l r) r o [] z []) (append-nil (childRows l r i)) ∙ closing-group (kindOf l r) r o [] ats (childRows l r i) [] (textOf i) y))
           (λ f y. leaf-run i (fresh l r o) (advance l lv r ∷ below) ats (childRows l r i) [] tail f (its .first) y)
 
     -- ---- what stands in a group, with its closing tag
 
     group-run : (i : Parts) (lv : Level) (below : List Level) (seen : List ℕ) (rest : List Event) → Stands lv seen → isGroup (kindOf l (lv .row)) ≡ true
-        → run t l (at lv below [] []) (events i (leave ∷ rest))
-        ≡ orElse (inside t l (lv .row) seen i) (orElse (closing t l (kindOf l (lv .row)) (lv .row) (lv .place) [] (childRows l (lv .row) i ++ seen) []) (run t l (pop below) rest))
+        → run T l (at lv below [] []) (events i (leave ∷ rest))
+        ≡ orElse (inside j l (lv .row) seen i) (orElse (closing j l (kindOf l (lv .row)) (lv .row) (lv .place) [] (childRows l (lv .row) i ++ seen) []) (run T l (pop below) rest))
     unfolding run inside openTest childRows fresh advance
-    group-run none lv below seen rest s g = ap (λ x. orElse x (run t l (pop below) rest)) (close-same (kindOf l (lv .row)) lv seen [] [] [] [] g s)
+    group-run none lv below seen rest s g = ap (λ x. orElse x (run T l (pop below) rest)) (close-same (kindOf l (lv .row)) lv seen [] [] [] [] g s)
     group-run (char o x k) lv below seen rest s g =
         let ih = group-run k lv below seen rest s g in
         let f = refuse (isGroup (kindOf l (lv .row)) && not (isBlank x)) (table.textInGroup (lv .row) o) in
-        let u = inside t l (lv .row) seen k in
-        let v = orElse (closing t l (kindOf l (lv .row)) (lv .row) (lv .place) [] (childRows l (lv .row) k ++ seen) []) (run t l (pop below) rest) in
-        ap (λ b. orElse f (run t l (at lv below [] (cond b [] (x ∷ []))) (events k (leave ∷ rest)))) g
+        let u = inside j l (lv .row) seen k in
+        let v = orElse (closing j l (kindOf l (lv .row)) (lv .row) (lv .place) [] (childRows l (lv .row) k ++ seen) []) (run T l (pop below) rest) in
+        ap (λ b. orElse f (run T l (at lv below [] (cond b [] (x ∷ []))) (events k (leave ∷ rest)))) g
         ∙ ap (orElse f) ih ∙ sym (or-assoc f (orElse u Fine) v ∙ ap (orElse f) (or-assoc u Fine v))
     group-run (element o n ats i k) lv below seen rest s g =
         let p = lv .row in
         let r = child l p n in
-        let open′ = opening t l p seen r ats o in
+        let open′ = opening j l p seen r ats o in
         let tail = events k (leave ∷ rest) in
-        let done = run t l (pop below) rest in
+        let done = run T l (pop below) rest in
         let lv₂ = advance l lv r in
-        let shut = closing t l (kindOf l r) r o ats (childRows l r i) (textOf i) in
-        let ended = closing t l (kindOf l p) p (lv .place) [] (r ∷ (childRows l p k ++ seen)) [] in
-        ap (λ a. orElse a (run t l (at (fresh l r o) (lv₂ ∷ below) ats []) (events i (leave ∷ tail))))
+        let shut = closing j l (kindOf l r) r o ats (childRows l r i) (textOf i) in
+        let ended = closing j l (kindOf l p) p (lv .place) [] (r ∷ (childRows l p k ++ seen)) [] in
+        ap (λ a. orElse a (run T l (at (fresh l r o) (lv₂ ∷ below) ats []) (events i (leave ∷ tail))))
         (open-same (kindOf l p) (kindOf l r) p (lv .last) r o seen ats (s .theirs) (s .top) (s .last))
-        ∙ or-when open′ (run t l (at (fresh l r o) (lv₂ ∷ below) ats []) (events i (leave ∷ tail))) (orElse (inside t l r [] i) (orElse shut (orElse (inside t l p (r ∷ seen) k) (orElse ended done))))
-        (λ z. let op = opened t l (kindOf l p) (kindOf l r) p seen r ats o g z in
+        ∙ or-when open′ (run T l (at (fresh l r o) (lv₂ ∷ below) ats []) (events i (leave ∷ tail))) (orElse (inside j l r [] i) (orElse shut (orElse (inside j l p (r ∷ seen) k) (orElse ended done))))
+        (λ z. let op = opened j l (kindOf l p) (kindOf l r) p seen r ats o g z in
         let its = child-found l p n r refl (op .row) .its in
         part-run lv below seen rest s o ats i k r its op (λ y. group-run i (fresh l r o) (lv₂ ∷ below) [] tail (stands-fresh r o) y)
-        ∙ ap (λ x. orElse (inside t l r [] i) (orElse shut x)) (rest-run lv below seen rest s o ats i k r its op (λ s₂. group-run k lv₂ below (r ∷ seen) rest s₂ g)))
-        ∙ sym (regroup open′ (inside t l r [] i) shut (inside t l p (r ∷ seen) k) (orElse ended done))
+        ∙ ap (λ x. orElse (inside j l r [] i) (orElse shut x)) (rest-run lv below seen rest s o ats i k r its op (λ s₂. group-run k lv₂ below (r ∷ seen) rest s₂ g)))
+        ∙ sym (regroup open′ (inside j l r [] i) shut (inside j l p (r ∷ seen) k) (orElse ended done))
 
     -- the walk finds the first violation of every message
-    pub walk-is : (m : Parts) → OneElement m → walk t l m ≡ firstViolation t l m
+    pub walk-is : (m : Parts) → OneElement m → walk T l m ≡ firstViolation j l m
     unfolding walk firstViolation fresh run
     walk-is none one = absurd one
     walk-is (char o x k) one = absurd one
     walk-is (element o n ats i k) one =
         let g : isGroup (kindOf l 1) ≡ true = ap isGroup (w .root .1) in
         let c = childRows l 1 i in
-        let e : closing t l (kindOf l 1) 1 o [] (c ++ []) [] ≡ closing t l (kindOf l 1) 1 o ats c (textOf i) =
-        ap (λ z. closing t l (kindOf l 1) 1 o [] z []) (append-nil c) ∙ closing-group (kindOf l 1) 1 o [] ats c [] (textOf i) g in
-        ap (λ x. orElse (refuse (not (isRoot l n ats)) (table.wrongRoot o)) (run t l (at (fresh l 1 o) [] [] []) (events i (leave ∷ events x [])))) one
-        ∙ ap (orElse (refuse (not (isRoot l n ats)) (table.wrongRoot o))) (group-run i (fresh l 1 o) [] [] [] (stands-fresh 1 o) g ∙ ap (λ x. orElse (inside t l 1 [] i) (orElse x Fine)) e)
+        let e : closing j l (kindOf l 1) 1 o [] (c ++ []) [] ≡ closing j l (kindOf l 1) 1 o ats c (textOf i) =
+        ap (λ z. closing j l (kindOf l 1) 1 o [] z []) (append-nil c) ∙ closing-group (kindOf l 1) 1 o [] ats c [] (textOf i) g in
+        ap (λ x. orElse (refuse (not (isRoot l n ats)) (table.wrongRoot o)) (run T l (at (fresh l 1 o) [] [] []) (events i (leave ∷ events x [])))) one
+        ∙ ap (orElse (refuse (not (isRoot l n ats)) (table.wrongRoot o))) (group-run i (fresh l 1 o) [] [] [] (stands-fresh 1 o) g ∙ ap (λ x. orElse (inside j l 1 [] i) (orElse x Fine)) e)

@@ -16,11 +16,10 @@ use Rattle.xml.specs.Message.{Attrs}
 use Rattle.xml_tags.specs.Story.{Event, chars, inkOf}
 use Rattle.file_walk.specs.declared.level.Level.{Level}
 use Rattle.file_walk.specs.declared.found.Found.the-variants.{Violation}
-use Rattle.file_walk.specs.Types.{Types}
 use Rattle.file_walk.specs.First.{refuse, orElse, kindOf}
-use Rattle.file_walk.specs.Machine.{at, fresh, closeTest, run, emits}
+use Rattle.file_walk.specs.Machine.{Speller, at, fresh, closeTest, run, emits}
 
-module _ (T : Types) (l : Listing) (lv : Level) (below : List Level) (ats : Attrs) where
+module _ (T : Speller) (l : Listing) (lv : Level) (below : List Level) (ats : Attrs) where
   -- in a leaf the characters are collected
   pub leaf-chars : (ps : List Piece) (o : ℕ) (cs : List ℕ) (more : List Event) → isGroup (kindOf l (lv .row)) ≡ false
       → run T l (at lv below ats cs) (chars o ps more) ≡ run T l (at lv below ats (cs ++ resolvedAll ps)) more
@@ -65,7 +64,7 @@ module _ (T : Types) (l : Listing) (lv : Level) (below : List Level) (ats : Attr
   group-hands (p ∷ ps) o cs more g = rw g (group-hands ps (o + length (spell p)) cs more g)
 
 -- an element that closes at once has no child or no character
-pub closes-empty : (T : Types) (l : Listing) (k : Kind) (r o : ℕ) (ats : Attrs) → closeTest T l k (fresh l r o) ats [] ≡ Violation (table.empty r o)
+pub closes-empty : (T : Speller) (l : Listing) (k : Kind) (r o : ℕ) (ats : Attrs) → closeTest T l k (fresh l r o) ats [] ≡ Violation (table.empty r o)
 unfolding fresh
 closes-empty T l group r o ats = refl
 closes-empty T l choice r o ats = refl

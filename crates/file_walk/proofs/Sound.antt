@@ -17,10 +17,9 @@ use Rattle.list.proofs.Codes.{single-is, choice-is, group-is}
 use Rattle.list.proofs.Rows.{size-is, kind-is, count-is}
 use Rattle.xml.specs.Message.{Attrs}
 use Rattle.file_walk.specs.declared.level.Level.{Level}
-use Rattle.file_walk.specs.Types.{Types}
 use Rattle.file_walk.specs.First.{refuse, firstOf, attrsOk}
 use Rattle.file_walk.specs.First.{kindOf as kindIn}
-use Rattle.file_walk.specs.Machine.{misses, fresh, advance, again, openTest, groupTest}
+use Rattle.file_walk.specs.Machine.{Speller, judgeOf, misses, fresh, advance, again, openTest, groupTest}
 use Rattle.file_walk.specs.Tables.{freshIn, advanceIn, isGroupIn, passedIn, againIn, openingIn, brokenIn, groupEndIn}
 
 module _ (t pool : List ℕ) (s : Sound t pool) where
@@ -76,8 +75,8 @@ module _ (t pool : List ℕ) (s : Sound t pool) where
       ap₂ (λ a b. cond a (not (eqb (lv .last) 0)) (b && eqb (lv .last) r)) (choice-in (lv .row) (p .low) (p .high)) (single-in r (c .first) (c .last))
       ∙ again-kind (kindIn l (lv .row)) (isChoice (kindIn l (lv .row))) (lv .last) r (s .well .parents (lv .row) r c (p .low)) refl
 
-  module _ (T : Types) where
-    pub opening-in : (lv : Level) (r : ℕ) (own : Bool) (ats : Attrs) (o : ℕ) → Placed lv → (r ≡ 0) ⊎ Child l (lv .row) r → (0 < r → own ≡ attrsOk T (kindIn l r) ats)
+  module _ (T : Speller) where
+    pub opening-in : (lv : Level) (r : ℕ) (own : Bool) (ats : Attrs) (o : ℕ) → Placed lv → (r ≡ 0) ⊎ Child l (lv .row) r → (0 < r → own ≡ attrsOk (judgeOf T) (kindIn l r) ats)
         → openingIn t lv r own o ≡ openTest T l lv r ats o
     unfolding openingIn openTest
     opening-in lv r own ats o p (inl e) h = rw (eq-eqb r 0 e)

@@ -12,8 +12,7 @@ use Rattle.xml_tags.specs.declared.token.Kind.{Kind as Mark}
 use Rattle.xml_tags.specs.declared.token.Kind.the-variants.{Open, Empty, Close, End}
 use Rattle.xml_tags.specs.Story.{Event, enter, leave, events, chars, Text, tokenIn, Tagged, Tells, enters, passes, leaves, ends}
 use Rattle.file_walk.specs.declared.found.Found.the-variants.{Fine}
-use Rattle.file_walk.specs.Types.{Types}
-use Rattle.file_walk.specs.Machine.{before, after, run, emits}
+use Rattle.file_walk.specs.Machine.{Speller, before, after, run, emits}
 use Rattle.file_walk.proofs.Turned.{Closing}
 
 -- ---- what is told behind a place, by the token there
@@ -55,7 +54,7 @@ closing-events none n more h = h
 closing-events (char o x k) n more h = closing-events k n more h
 closing-events (element o m ats i k) n more h = closing-events i (suc n) (leave ∷ events k more) (closing-events k n more h)
 
-module _ (T : Types) (l : Listing) where
+module _ (T : Speller) (l : Listing) where
   -- behind the root nothing is found or handed out
   pub run-after : (es : List Event) → run T l after es ≡ Fine
   unfolding run

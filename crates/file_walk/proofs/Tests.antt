@@ -18,7 +18,7 @@ use Rattle.list.specs.Content.{Counts, Keeps, Children}
 use Rattle.xml.specs.Message.{Attrs}
 use Rattle.file_walk.specs.declared.found.Found.{Found}
 use Rattle.file_walk.specs.declared.found.Found.the-variants.{Fine}
-use Rattle.file_walk.specs.Types.{Types}
+use Rattle.file_walk.specs.Types.{Judge}
 use Rattle.file_walk.specs.First.{refuse, firstOf, empty, passed, breaks, attrsOk, over, absent, groupEnd, closing}
 use Rattle.text.proofs.Classes.{or-not}
 use Rattle.list.proofs.Child.{child-zero}
@@ -32,12 +32,12 @@ use Rattle.file_walk.proofs.Steps.{Fits, Steps, ordered, at-most, steps
 pub no-child : (l : Listing) (p : ℕ) (n : List ℕ) → WellFormed l → (f : Leaf) → 0 < p → rowAt l p .kind ≡ leaf f → child l p n ≡ 0
 no-child l p n w f h e = child-zero l p n (λ r g. true≢false (sym (w .parents p r (g .its) h) ∙ ap isGroup e))
 
-pub record Opened (t : Types) (l : Listing) (kp kr : Kind) (seen : List ℕ) (r : ℕ) (ats : Attrs) : Type 0 where
+pub record Opened (j : Judge) (l : Listing) (kp kr : Kind) (seen : List ℕ) (r : ℕ) (ats : Attrs) : Type 0 where
   pub row : 0 < r
   pub fits : Fits l kp seen r
-  pub attrs : attrsOk t kr ats ≡ true
+  pub attrs : attrsOk j kr ats ≡ true
 
-module _ (t : Types) (l : Listing) where
+module _ (j : Judge) (l : Listing) where
   fits-of : (kp : Kind) (seen : List ℕ) (r : ℕ) → isGroup kp ≡ true → (not (isChoice kp) && passed r seen) ≡ false → over l kp seen r ≡ false → Fits l kp seen r
   fits-of group seen r g a b = (passed-no r seen a, λ e. let z = ltb-false 0 (times r seen) (and-not (single (rowAt l r .count)) (has r seen) b e) in omega arith)
   fits-of choice seen r g a b = empty-yes seen (not-false (empty seen) b)
@@ -52,22 +52,22 @@ module _ (t : Types) (l : Listing) where
     -- the tests of an opening tag, its parent's kind and its own being kp and kr
     abbrev tests : Found
     tests = firstOf (
-        refuse (eqb r 0) (table.noChild p o) ∷ refuse (not (isChoice kp) && passed r seen) (table.outOfOrder r o) ∷ refuse (over l kp seen r) (table.tooMany r o) ∷ refuse (not (attrsOk t kr ats)) (table.wrongAttributes r o) ∷ [])
+        refuse (eqb r 0) (table.noChild p o) ∷ refuse (not (isChoice kp) && passed r seen) (table.outOfOrder r o) ∷ refuse (over l kp seen r) (table.tooMany r o) ∷ refuse (not (attrsOk j kr ats)) (table.wrongAttributes r o) ∷ [])
 
-    pub opened : isGroup kp ≡ true → tests ≡ Fine → Opened t l kp kr seen r ats
+    pub opened : isGroup kp ≡ true → tests ≡ Fine → Opened j l kp kr seen r ats
     opened g e =
         let a = or-fine (refuse (eqb r 0) (table.noChild p o)) _ e in
         let b = or-fine (refuse (not (isChoice kp) && passed r seen) (table.outOfOrder r o)) _ (a .1) in
         let c = or-fine (refuse (over l kp seen r) (table.tooMany r o)) _ (b .1) in
-        let d = or-fine (refuse (not (attrsOk t kr ats)) (table.wrongAttributes r o)) _ (c .1) in
+        let d = or-fine (refuse (not (attrsOk j kr ats)) (table.wrongAttributes r o)) _ (c .1) in
         let z = eqb-false r 0 (refuse-no (eqb r 0) (table.noChild p o) (a .0)) in
         record {
           row = elim (decLt 0 r) [ yes h ↦ h | no h ↦ absurd (z (omega arith)) ];
           fits = fits-of kp seen r g (refuse-no (not (isChoice kp) && passed r seen) (table.outOfOrder r o) (b .0)) (refuse-no (over l kp seen r) (table.tooMany r o) (c .0));
-          attrs = not-false (attrsOk t kr ats) (refuse-no (not (attrsOk t kr ats)) (table.wrongAttributes r o) (d .0));
+          attrs = not-false (attrsOk j kr ats) (refuse-no (not (attrsOk j kr ats)) (table.wrongAttributes r o) (d .0));
         }
 
-    pub opens : Opened t l kp kr seen r ats → tests ≡ Fine
+    pub opens : Opened j l kp kr seen r ats → tests ≡ Fine
     opens w =
         let f = of-fits kp seen r (w .fits) in
         let z : r ≢ 0 = omega (arith, w .row) in
@@ -124,16 +124,16 @@ module _ (l : Listing) where
     full : (q : ℕ) → Child l r q → required (rowAt l q .count) ≡ true → 0 < times q rs
     rules : Each (Keeps r rs) (l .rules)
 
-  ended : (t : Types) (r o : ℕ) (rs : List ℕ) → groupEnd t l r o rs ≡ Fine → Ended r rs
-  ended t r o rs e =
+  ended : (j : Judge) (r o : ℕ) (rs : List ℕ) → groupEnd j l r o rs ≡ Fine → Ended r rs
+  ended j r o rs e =
       let a = or-fine (refuse (empty rs) (table.empty r o)) _ e in
       let b = or-fine (refuse (ltb 0 (absent l r rs)) (table.absent (absent l r rs) o)) _ (a .1) in
       let c = or-fine (refuse (breaks r rs (l .rules)) (table.ruleBroken r o)) _ (b .1) in
       let z = ltb-false 0 (absent l r rs) (refuse-no (ltb 0 (absent l r rs)) (table.absent (absent l r rs) o) (b .0)) in
       record { some = empty-no rs (refuse-no (empty rs) (table.empty r o) (a .0)); full = none-absent r rs (omega arith); rules = kept r rs (l .rules) (refuse-no (breaks r rs (l .rules)) (table.ruleBroken r o) (c .0)) }
 
-  ends : (t : Types) (r o : ℕ) (rs : List ℕ) → Ended r rs → groupEnd t l r o rs ≡ Fine
-  ends t r o rs w =
+  ends : (j : Judge) (r o : ℕ) (rs : List ℕ) → Ended r rs → groupEnd j l r o rs ≡ Fine
+  ends j r o rs w =
       let z : ltb 0 (absent l r rs) ≡ false = le-ltb 0 (absent l r rs) (omega (arith, absent-none r rs (w .full))) in
       rw (no-empty rs (w .some), z, keeps r rs (l .rules) (w .rules))
 
@@ -151,11 +151,11 @@ order-one (r ∷ s ∷ rs) e = absurd (omega arith)
 no-choice : {P : Type 0} (k : Kind) → k ≡ group → k ≡ choice → P
 no-choice k e f = let z : group ≡ choice = sym e ∙ f in let y : _≡_ {A = ℕ} 0 1 = cc in absurd (omega arith)
 
-module _ (t : Types) (l : Listing) (w : WellFormed l) where
+module _ (j : Judge) (l : Listing) (w : WellFormed l) where
   pub closed : (k : Kind) (r o : ℕ) (ats : Attrs) (rs cs : List ℕ) → isGroup k ≡ true → rowAt l r .kind ≡ k → Steps l k [] rs → Each (Child l r) rs
-      → closing t l k r o ats rs cs ≡ Fine → Children l r rs
+      → closing j l k r o ats rs cs ≡ Fine → Children l r rs
   closed group r o ats rs cs g e s c f =
-      let z = ended l t r o rs f in
+      let z = ended l j r o rs f in
       record {
         nonempty = z .some;
         theirs = c;
@@ -165,7 +165,7 @@ module _ (t : Types) (l : Listing) (w : WellFormed l) where
         counts = λ q d. counted (rowAt l q .count) (times q rs) (w .counted r q d e) (λ h. omega (arith, at-most l [] rs q s h (omega arith))) (z .full q d);
       }
   closed choice r o ats rs cs g e s c f =
-      let z = ended l t r o rs f in
+      let z = ended l j r o rs f in
       let y = step-one l rs s (z .some) in
       record {
         nonempty = z .some;
@@ -180,13 +180,13 @@ module _ (t : Types) (l : Listing) (w : WellFormed l) where
   not-required : (c : Count) → c ≡ alternative → required c ≡ true → ⊥
   not-required c e h = false≢true (sym (ap required e) ∙ h)
 
-  pub closes : (k : Kind) (r o : ℕ) (ats : Attrs) (rs cs : List ℕ) → isGroup k ≡ true → rowAt l r .kind ≡ k → Children l r rs → (closing t l k r o ats rs cs ≡ Fine) × Steps l k [] rs
+  pub closes : (k : Kind) (r o : ℕ) (ats : Attrs) (rs cs : List ℕ) → isGroup k ≡ true → rowAt l r .kind ≡ k → Children l r rs → (closing j l k r o ats rs cs ≡ Fine) × Steps l k [] rs
   closes group r o ats rs cs g e c = (
-    ends l t r o rs (record { some = c .nonempty; full = λ q d. need (rowAt l q .count) (times q rs) (c .counts q d); rules = c .rules }),
+    ends l j r o rs (record { some = c .nonempty; full = λ q d. need (rowAt l q .count) (times q rs) (c .counts q d); rules = c .rules }),
     steps l r [] rs (c .theirs) (c .order) (λ q z. absurd (omega arith)) (λ q d z. omega (arith, limit (rowAt l q .count) (times q rs) (c .counts q d) z)),
   )
   closes choice r o ats rs cs g e c = (
-    ends l t r o rs (record { some = c .nonempty; full = λ q d z. absurd (not-required (rowAt l q .count) (w .uncounted r q d e) z); rules = c .rules }),
+    ends l j r o rs (record { some = c .nonempty; full = λ q d z. absurd (not-required (rowAt l q .count) (w .uncounted r q d e) z); rules = c .rules }),
     one-step l rs (c .single e),
   )
   closes (leaf k) r o ats rs cs g e c = absurd (false≢true g)

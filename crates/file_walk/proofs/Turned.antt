@@ -20,9 +20,8 @@ use Rattle.file_walk.specs.declared.step.Turn.{Turn}
 use Rattle.file_walk.specs.declared.step.Met.the-variants.{Opened, Closed, Refused}
 use Rattle.file_walk.specs.declared.found.Found.{Found}
 use Rattle.file_walk.specs.declared.found.Found.the-variants.{Fine, Violation}
-use Rattle.file_walk.specs.Types.{Types}
 use Rattle.file_walk.specs.First.{orElse, currency, attrsOk, kindOf}
-use Rattle.file_walk.specs.Machine.{before, at, advance, run, opens, closes, emits}
+use Rattle.file_walk.specs.Machine.{Speller, judgeOf, before, at, advance, run, opens, closes, emits}
 use Rattle.file_walk.specs.Tables.{levels}
 use Rattle.file_walk.specs.Stride.{isCurrency}
 use Rattle.file_walk.proofs.Sound.{Placed}
@@ -36,7 +35,7 @@ Closing n (enter o m ats ∷ es) = Closing (suc n) es
 Closing zero (leave ∷ es) = ⊥
 Closing (suc n) (leave ∷ es) = Closing n es
 
-module _ (T : Types) (t pool s : List ℕ) (sd : Sound t pool) where
+module _ (T : Speller) (t pool s : List ℕ) (sd : Sound t pool) where
   abbrev pub list : Listing
   list = listOf t pool
 
@@ -54,7 +53,7 @@ module _ (T : Types) (t pool s : List ℕ) (sd : Sound t pool) where
     pub within : here .at ≤ length s
     pub tells : Tells s (here .at) es
     pub closing : Closing (suc (here .depth)) es
-    pub attrs : attrsOk T (kindOf list (here .level .row)) ats ≡ true
+    pub attrs : attrsOk (judgeOf T) (kindOf list (here .level .row)) ats ≡ true
     -- an amount's currency is three capitals, and stands where it is said to
     pub coin : kindOf list (here .level .row) ≡ leaf amt → currency ats ≡ slice (here .value) (here .quote) s
     pub capitals : kindOf list (here .level .row) ≡ leaf amt → isCurrency (slice (here .value) (here .quote) s) ≡ true
@@ -98,7 +97,7 @@ module _ (T : Types) (t pool s : List ℕ) (sd : Sound t pool) where
       pub rest : List Event
       pub stands : Stands st (turn .here) outer [] rest
       pub found : finds here below ats es
-          ≡ orElse (judged T (kindOf list (here .level .row)) (here .level .row) (here .level .place) ats chars) (finds (turn .here) outer [] rest)
+          ≡ orElse (judged (judgeOf T) (kindOf list (here .level .row)) (here .level .row) (here .level .place) ats chars) (finds (turn .here) outer [] rest)
       pub handed : hands here below ats es
           ≡ closes T list (kindOf list (here .level .row)) (here .level .row) ats chars ++ hands (turn .here) outer [] rest
       pub on : here .at < turn .here .at

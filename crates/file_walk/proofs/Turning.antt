@@ -33,9 +33,8 @@ use Rattle.file_walk.specs.declared.found.Found.the-variants.{Fine, Viol
 use Rattle.file_walk.specs.declared.step.Here.{Here}
 use Rattle.file_walk.specs.declared.step.Turn.{Turn}
 use Rattle.file_walk.specs.declared.step.Met.the-variants.{Opened, Closed}
-use Rattle.file_walk.specs.Types.{Types}
 use Rattle.file_walk.specs.First.{refuse, orElse, firstOf, currency, attrsOk, kindOf}
-use Rattle.file_walk.specs.Machine.{State, at, pop, fresh, advance, closeTest, run, opens, closes, emits}
+use Rattle.file_walk.specs.Machine.{Speller, judgeOf, State, at, pop, fresh, advance, closeTest, run, opens, closes, emits}
 use Rattle.file_walk.specs.Tables.{isGroupIn, freshIn, advanceIn, passedIn, againIn, openingIn, levelAt, pushed, levels}
 use Rattle.file_walk.specs.Stride.{isCurrency, ownIn, inkBefore, endIn, rowIn, refusedAt, closedIn, enteredIn, belowIn, vacantIn, stepIn, stackIn}
 use Rattle.file_walk.proofs.Answers.{or-fine, refuse-no, attrs-group}
@@ -49,8 +48,8 @@ use Rattle.file_walk.proofs.Joint.{judged, kept, text-run, close-run, r
 use Rattle.file_walk.proofs.Telling.{Told, byOpen, byEmpty, byClose, byEnd, told-of, goes-on, closing-text, run-after, emits-after}
 use Rattle.file_walk.proofs.Turned.{Closing, Nested, Stands, finds, hands, Turned, refused, opened, closed, whole}
 
-module _ (T : Types) (l : Listing) where
-  pub judged-group : (k : Kind) (r o : ℕ) (ats : Attrs) (cs : List ℕ) → isGroup k ≡ true → judged T k r o ats cs ≡ Fine
+module _ (T : Speller) (l : Listing) where
+  pub judged-group : (k : Kind) (r o : ℕ) (ats : Attrs) (cs : List ℕ) → isGroup k ≡ true → judged (judgeOf T) k r o ats cs ≡ Fine
   judged-group group r o ats cs g = refl
   judged-group choice r o ats cs g = refl
   judged-group (leaf f) r o ats cs g = absurd (false≢true g)
@@ -76,7 +75,7 @@ opening-fits : (t : List ℕ) (lv : Level) (r : ℕ) (own : Bool) (o : ℕ) → 
 unfolding openingIn
 opening-fits t lv r own o e = open-fits (eqb r 0) (passedIn t lv r) (againIn t lv r) own _ _ _ _ e
 
-module _ (T : Types) (t pool s : List ℕ) (sd : Sound t pool) (m : Coins T) where
+module _ (T : Speller) (t pool s : List ℕ) (sd : Sound t pool) (m : Coins (judgeOf T)) where
   abbrev l : Listing
   l = listOf t pool
 
@@ -164,7 +163,7 @@ module _ (T : Types) (t pool s : List ℕ) (sd : Sound t pool) (m : Coins T) whe
       v = endIn t inGroup lv (here .at) (k .less)
 
       found-close : finds T t pool s sd here below ats es
-          ≡ orElse v (orElse (judged T (kindOf l (lv .row)) (lv .row) (lv .place) ats (resolvedAll ps)) (run T l (pop below) more))
+          ≡ orElse v (orElse (judged (judgeOf T) (kindOf l (lv .row)) (lv .row) (lv .place) ats (resolvedAll ps)) (run T l (pop below) more))
       found-close = passed-text ps x (leave ∷ more) is h ∙ close-run T t pool s sd lv (w .placed) below ats (here .at) (k .less) ps low high x more
 
       close-to : (y : Turn) → y ≡ closedIn t inGroup st here (k .less) (k .end) → Turned T t pool s sd here below ats es st y → Goal
@@ -175,14 +174,14 @@ module _ (T : Types) (t pool s : List ℕ) (sd : Sound t pool) (m : Coins T) whe
       handed-close = handed-text ps x (leave ∷ more) is ∙ ap (λ z. z ++ emits T l (pop below) more) (closes-kept T l (kindOf l (lv .row)) (lv .row) ats ps)
 
       -- by what its tests found
-      found-by : (f : Found) → v ≡ f → finds T t pool s sd here below ats es ≡ orElse f (orElse (judged T (kindOf l (lv .row)) (lv .row) (lv .place) ats (resolvedAll ps)) (run T l (pop below) more))
-      found-by f e = found-close ∙ ap (λ g. orElse g (orElse (judged T (kindOf l (lv .row)) (lv .row) (lv .place) ats (resolvedAll ps)) (run T l (pop below) more))) e
+      found-by : (f : Found) → v ≡ f → finds T t pool s sd here below ats es ≡ orElse f (orElse (judged (judgeOf T) (kindOf l (lv .row)) (lv .row) (lv .place) ats (resolvedAll ps)) (run T l (pop below) more))
+      found-by f e = found-close ∙ ap (λ g. orElse g (orElse (judged (judgeOf T) (kindOf l (lv .row)) (lv .row) (lv .place) ats (resolvedAll ps)) (run T l (pop below) more))) e
 
       close-refused : (a : Answer) → v ≡ Violation a → Goal
       close-refused a e = close-to (refusedAt here a) (closed-refused t inGroup st here (k .less) (k .end) v refl a (refusedAt here a) e refl) (refuses a (found-by (Violation a) e))
 
       module _ (z : v ≡ Fine) where
-        found-on : finds T t pool s sd here below ats es ≡ orElse (judged T (kindOf l (lv .row)) (lv .row) (lv .place) ats (resolvedAll ps)) (run T l (pop below) more)
+        found-on : finds T t pool s sd here below ats es ≡ orElse (judged (judgeOf T) (kindOf l (lv .row)) (lv .row) (lv .place) ats (resolvedAll ps)) (run T l (pop below) more)
         found-on = found-by Fine z
 
         -- the root's
@@ -229,7 +228,7 @@ module _ (T : Types) (t pool s : List ℕ) (sd : Sound t pool) (m : Coins T) whe
             within = ahead .within;
             tells = tells;
             closing = subst (λ n. Closing n more) (let e : here .depth ≡ suc (here .depth - 1) = omega arith in e) (closing-behind ps x (leave ∷ more) is);
-            attrs = attrs-group T (kindOf l (around .row)) [] around-group refl;
+            attrs = attrs-group (judgeOf T) (kindOf l (around .row)) [] around-group refl;
             coin = λ e. absurd (no-amount (kindOf l (around .row)) around-group e);
             capitals = λ e. absurd (no-amount (kindOf l (around .row)) around-group e);
           }
@@ -249,7 +248,7 @@ module _ (T : Types) (t pool s : List ℕ) (sd : Sound t pool) (m : Coins T) whe
                 is = below-is;
                 rest = more;
                 stands = stands-out;
-                found = found-on ∙ ap (λ b. orElse (judged T (kindOf l (lv .row)) (lv .row) (lv .place) ats (resolvedAll ps)) (run T l (pop b) more)) below-is;
+                found = found-on ∙ ap (λ b. orElse (judged (judgeOf T) (kindOf l (lv .row)) (lv .row) (lv .place) ats (resolvedAll ps)) (run T l (pop b) more)) below-is;
                 handed = handed-close ∙ ap (λ b. closes T l (kindOf l (lv .row)) (lv .row) ats (resolvedAll ps) ++ emits T l (pop b) more) below-is;
                 on = omega (arith, low, ahead .on (goes-on (k .kind) Close kind (omega arith)));
               }))
@@ -300,8 +299,8 @@ module _ (T : Types) (t pool s : List ℕ) (sd : Sound t pool) (m : Coins T) whe
             some : eqb r 0 ≡ false → 0 < r
             some e = elim (decLt 0 r) [ yes p ↦ p | no p ↦ absurd (eqb-false r 0 e (omega arith)) ]
 
-        fits : attrsOk T (kindOf l r) new ≡ true
-        fits = sym (own-is T t pool s r (its .first) (subst (λ y. r ≤ y) (size-is t pool) (its .last)) m k n new g) ∙ opening-fits t lv r ok (k .less) z .1
+        fits : attrsOk (judgeOf T) (kindOf l r) new ≡ true
+        fits = sym (own-is (judgeOf T) t pool s r (its .first) (subst (λ y. r ≤ y) (size-is t pool) (its .last)) m k n new g) ∙ opening-fits t lv r ok (k .less) z .1
 
         fresh-is : freshIn t r (k .less) ≡ fresh l r (k .less)
         fresh-is = fresh-in t pool sd r (k .less) (its .last)
@@ -323,7 +322,7 @@ module _ (T : Types) (t pool s : List ℕ) (sd : Sound t pool) (m : Coins T) whe
         nested-child = (its, record { low = w .placed .low; high = w .placed .high; last = inr its }, w .nested)
 
         coined-in : kindOf l r ≡ leaf amt → (isCurrency (slice (k .first .value) (k .first .quote) s) ≡ true) × (currency new ≡ slice (k .first .value) (k .first .quote) s)
-        coined-in e = coined T m s k n new g (subst (λ q. attrsOk T q new ≡ true) e fits)
+        coined-in e = coined (judgeOf T) m s k n new g (subst (λ q. attrsOk (judgeOf T) q new ≡ true) e fits)
 
         stands-in : Tells s (k .end) more → Stands T t pool s sd st′ in′ (advance l lv r ∷ below) new more
         stands-in tells = record {

@@ -1,41 +1,29 @@
--- Small messages against the house list with their first violations, one or more for each code; the types are a stand-in. Assumes nothing.
-use mathlib.Core.Path.{_≡_}
+-- Small messages against the house list with their first violations, one or more for each code; the judge is a stand-in. Assumes nothing.
+use mathlib.Core.Bool.{false, not}
 use mathlib.Core.List.{List, [], _∷_}
-use mathlib.Core.Option.{Option}
 use Prim.Native.Nat.{ℕ, suc}
 use Prim.Native.String.{String}
 use Rattle.answer.specs.Table.{wrongRoot, noChild, outOfOrder, tooMany, absent, wrongAttributes, textInGroup, empty, badValue, ruleBroken}
 use Rattle.text.specs.Bytes.{ascii}
-use Rattle.list.specs.Listing.{Leaf, ref, iban, ccy, bool, num, amt, date, dtm, txt, enum}
+use Rattle.list.specs.Listing.{ref, iban, ccy, bool, num, amt, date, dtm, txt, enum}
 use Rattle.xml.specs.Message.{Attrs, Parts, none, char, element}
-use Rattle.file_walk.specs.Types.{Types}
+use Rattle.file_walk.specs.Types.{Judge}
+use Rattle.file_walk.specs.First as first
 use Rattle.file_walk.specs.declared.found.Found.{Found}
 use Rattle.file_walk.specs.declared.found.Found.the-variants.{Fine, Violation}
 
 -- a stand-in: every text but the empty one is a value of every type but NUM, which has none
-abbrev pub someText : List ℕ → Option (List ℕ)
-someText [] = Option.none
-someText (x ∷ cs) = Option.some (x ∷ cs)
-
-abbrev pub spellAny : Leaf → List ℕ → Option (List ℕ)
-spellAny num cs = Option.none
-spellAny ref cs = someText cs
-spellAny iban cs = someText cs
-spellAny ccy cs = someText cs
-spellAny bool cs = someText cs
-spellAny amt cs = someText cs
-spellAny date cs = someText cs
-spellAny dtm cs = someText cs
-spellAny (txt k) cs = someText cs
-spellAny (enum ws) cs = someText cs
-
-abbrev pub anyText : Types
-anyText = record {
-  A = List ℕ;
-  Is = λ k v. Unit {0};
-  Spelt = λ k w cs v. spellAny k cs ≡ Option.some v;
-  spell = λ k w cs. spellAny k cs;
-}
+abbrev pub anyText : Judge
+anyText num w cs = false
+anyText ref w cs = not (first.empty cs)
+anyText iban w cs = not (first.empty cs)
+anyText ccy w cs = not (first.empty cs)
+anyText bool w cs = not (first.empty cs)
+anyText amt w cs = not (first.empty cs)
+anyText date w cs = not (first.empty cs)
+anyText dtm w cs = not (first.empty cs)
+anyText (txt k) w cs = not (first.empty cs)
+anyText (enum ws) w cs = not (first.empty cs)
 
 -- an element without attributes, its `<` at a place, with its parts, and what follows it; characters; a leaf with its text; an amount
 abbrev pub el : ℕ → String → Parts → Parts → Parts

@@ -1,7 +1,7 @@
 -- The first violation of a message, in document order. Assumes nothing.
+use mathlib.Core.Path.{_≡_}
 use mathlib.Core.Bool.{Bool, true, false, _&&_, _||_, not, xor}
 use mathlib.Core.List.{List, [], _∷_}
-use mathlib.Core.Option.{Option}
 use Prim.Native.Nat.{ℕ}
 use lib.Dec.{eqb, ltb}
 use Rattle.answer.specs.declared.Answer.{Answer}
@@ -13,7 +13,7 @@ use Rattle.list.specs.Listing.{Leaf, ref, iban, ccy, bool, num, amt, date, dtm,
 use Rattle.xml.specs.Message.{Attrs, Parts, none, char, element}
 use Rattle.file_walk.specs.declared.found.Found.{Found}
 use Rattle.file_walk.specs.declared.found.Found.the-variants.{Fine, Violation}
-use Rattle.file_walk.specs.Types.{Types}
+use Rattle.file_walk.specs.Types.{Types, Judge, Decides}
 
 -- a line of document 01's table, where the test says so
 abbrev pub refuse : Bool → Answer → Found
@@ -28,10 +28,6 @@ orElse (Violation a) g = Violation a
 abbrev pub firstOf : List Found → Found
 firstOf [] = Fine
 firstOf (f ∷ fs) = orElse f (firstOf fs)
-
-abbrev pub isNone : {A : Type 0} → Option A → Bool
-isNone Option.none = true
-isNone (Option.some v) = false
 
 abbrev pub empty : List ℕ → Bool
 empty [] = true
@@ -68,11 +64,11 @@ abbrev pub currency : Attrs → List ℕ
 currency [] = []
 currency (a ∷ ats) = a .1
 
-module _ (t : Types) where
+module _ (judge : Judge) where
   -- "One attribute, Ccy, of type CCY"
   abbrev pub oneCurrency : Attrs → Bool
   oneCurrency [] = false
-  oneCurrency (a ∷ []) = same (ascii "Ccy") (a .0) && not (isNone (t .spell ccy [] (a .1)))
+  oneCurrency (a ∷ []) = same (ascii "Ccy") (a .0) && judge ccy [] (a .1)
   oneCurrency (a ∷ b ∷ ats) = false
 
   -- "exactly the type's"
@@ -117,7 +113,7 @@ module _ (l : Listing) where
   childRows p (char o x k) = childRows p k
   childRows p (element o n ats i k) = child l p n ∷ childRows p k
 
-module _ (t : Types) (l : Listing) where
+module _ (judge : Judge) (l : Listing) where
   -- "An opening tag is tested 4, 5, 6, 7, 9 (in a choice 6 isn't given)": below the root, with its `<` at o, in an element of row p, its own row
   -- being r (0: "not a child of its parent")
   abbrev pub opening : ℕ → List ℕ → ℕ → Attrs → ℕ → Found
@@ -125,7 +121,7 @@ module _ (t : Types) (l : Listing) where
       refuse (eqb r 0) (table.noChild p o) ∷
       refuse (not (isChoice (kindOf l p)) && passed r seen) (table.outOfOrder r o) ∷
       refuse (over l (kindOf l p) seen r) (table.tooMany r o) ∷
-      refuse (not (attrsOk t (kindOf l r) ats)) (table.wrongAttributes r o) ∷ [])
+      refuse (not (attrsOk judge (kindOf l r) ats)) (table.wrongAttributes r o) ∷ [])
 
   -- "a closing tag 11, 8, 12, 13": of a group with children of the rows rs; of a leaf with the characters cs
   abbrev pub groupEnd : ℕ → ℕ → List ℕ → Found
@@ -137,7 +133,7 @@ module _ (t : Types) (l : Listing) where
   abbrev pub leafEnd : Leaf → ℕ → ℕ → Attrs → List ℕ → Found
   leafEnd k r o ats cs = firstOf (
       refuse (empty cs) (table.empty r o) ∷
-      refuse (isNone (t .spell k (currency ats) cs)) (table.badValue r o) ∷ [])
+      refuse (not (judge k (currency ats) cs)) (table.badValue r o) ∷ [])
 
   abbrev pub closing : Kind → ℕ → ℕ → Attrs → List ℕ → List ℕ → Found
   closing group r o ats rs cs = groupEnd r o rs
@@ -163,3 +159,10 @@ module _ (t : Types) (l : Listing) where
       refuse (not (isRoot l n ats)) (table.wrongRoot o) ∷
       inside 1 [] i ∷
       closing (kindOf l 1) 1 o ats (childRows l 1 i) (textOf i) ∷ [])
+
+-- f is what is found first in a message. "value breaks its type", "bad Ccy": a judge says yes exactly where some value is spelt; who judges does not
+-- matter (`first-one`)
+pub record First (t : Types) (l : Listing) (m : Parts) (f : Found) : Type 0 where
+  pub judge : Judge
+  pub decides : Decides t judge
+  pub is : firstViolation judge l m ≡ f

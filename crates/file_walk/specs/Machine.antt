@@ -1,20 +1,45 @@
 -- A mirror: the walk over a message's tags and characters, with five numbers for each open element. Assumes nothing.
-use mathlib.Core.Bool.{Bool, false, cond, _&&_, _||_, not}
+use mathlib.Core.Path.{_≡_}
+use mathlib.Core.Bool.{Bool, true, false, cond, _&&_, _||_, not}
 use mathlib.Core.List.{List, [], _∷_, _++_}
 use mathlib.Core.Option.{Option}
 use Prim.Native.Nat.{ℕ}
 use lib.Dec.{eqb, ltb}
 use Rattle.answer.specs.Table as table
 use Rattle.text.specs.Bytes.{isBlank}
-use Rattle.list.specs.Listing.{Kind, group, choice, leaf, Listing, rowAt, child, isGroup, isChoice, single, nextDue}
+use Rattle.list.specs.Listing.{Leaf, Kind, group, choice, leaf, Listing, rowAt, child, isGroup, isChoice, single, nextDue}
+use Rattle.list.specs.WellFormed.{LeafOk}
 use Rattle.list.specs.Sound.{firstOf as mate, secondOf as pair}
 use Rattle.xml.specs.Message.{Attrs, Parts}
 use Rattle.xml_tags.specs.Story.{Event, char as text, enter, leave, events}
 use Rattle.file_walk.specs.declared.level.Level.{Level}
 use Rattle.file_walk.specs.declared.found.Found.{Found}
 use Rattle.file_walk.specs.declared.found.Found.the-variants.{Fine}
-use Rattle.file_walk.specs.Types.{Types}
+use Rattle.file_walk.specs.Types.{Types, Judge}
 use Rattle.file_walk.specs.First.{refuse, orElse, firstOf, currency, attrsOk, kindOf, isRoot, leafEnd}
+
+-- values, and a way to compute which of them is spelt
+pub record Speller : Type 1 where
+  pub A : Type 0
+  pub spell : Leaf → List ℕ → List ℕ → Option A
+
+abbrev pub isNone : {A : Type 0} → Option A → Bool
+isNone Option.none = true
+isNone (Option.some v) = false
+
+-- the judge that asks it
+abbrev pub judgeOf : Speller → Judge
+judgeOf T k w cs = not (isNone (T .spell k w cs))
+
+-- of types
+abbrev pub spellerOf : (t : Types) → (Leaf → List ℕ → List ℕ → Option (t .A)) → Speller
+spellerOf t sp = record { A = t .A; spell = sp }
+
+pub record Computes (t : Types) (sp : Leaf → List ℕ → List ℕ → Option (t .A)) : Type 0 where
+  pub sound : (k : Leaf) (w cs : List ℕ) (v : t .A) → sp k w cs ≡ Option.some v → t .Spelt k w cs v
+  pub some : (k : Leaf) (w cs : List ℕ) (v : t .A) → t .Spelt k w cs v → (u : t .A) × (sp k w cs ≡ Option.some u)
+  -- of the types that a list may have it is that very value
+  pub complete : (k : Leaf) (w cs : List ℕ) (v : t .A) → LeafOk k → t .Spelt k w cs v → sp k w cs ≡ Option.some v
 
 -- the root is to come; the innermost open element, those around it, and of a leaf its attributes and the characters so far; the root is closed
 pub data State : Type 0 where
@@ -50,13 +75,13 @@ module _ (l : Listing) where
   again choice last r = not (eqb last 0)
   again (leaf k) last r = false
 
-module _ (t : Types) (l : Listing) where
+module _ (T : Speller) (l : Listing) where
   unfoldable pub openTest : Level → ℕ → Attrs → ℕ → Found
   openTest lv r ats o = firstOf (
       refuse (eqb r 0) (table.noChild (lv .row) o) ∷
       refuse (not (isChoice (kindOf l (lv .row))) && ltb r (lv .last)) (table.outOfOrder r o) ∷
       refuse (again l (kindOf l (lv .row)) (lv .last) r) (table.tooMany r o) ∷
-      refuse (not (attrsOk t (kindOf l r) ats)) (table.wrongAttributes r o) ∷ [])
+      refuse (not (attrsOk (judgeOf T) (kindOf l r) ats)) (table.wrongAttributes r o) ∷ [])
 
   abbrev pub groupTest : Level → Found
   groupTest lv = firstOf (
@@ -67,7 +92,7 @@ module _ (t : Types) (l : Listing) where
   abbrev pub closeTest : Kind → Level → Attrs → List ℕ → Found
   closeTest group lv ats cs = groupTest lv
   closeTest choice lv ats cs = groupTest lv
-  closeTest (leaf k) lv ats cs = leafEnd t l k (lv .row) (lv .place) ats cs
+  closeTest (leaf k) lv ats cs = leafEnd (judgeOf T) l k (lv .row) (lv .place) ats cs
 
   -- what an event finds, and what it leads to
   abbrev pub test : State → Event → Found
@@ -96,17 +121,17 @@ module _ (t : Types) (l : Listing) where
   walk m = run before (events m [])
 
   -- the items: a group's at its opening tag, a leaf's at its closing tag
-  abbrev pub opens : Kind → ℕ → List (ℕ × Option (t .A))
+  abbrev pub opens : Kind → ℕ → List (ℕ × Option (T .A))
   opens group r = (r, Option.none) ∷ []
   opens choice r = (r, Option.none) ∷ []
   opens (leaf k) r = []
 
-  abbrev pub closes : Kind → ℕ → Attrs → List ℕ → List (ℕ × Option (t .A))
+  abbrev pub closes : Kind → ℕ → Attrs → List ℕ → List (ℕ × Option (T .A))
   closes group r ats cs = []
   closes choice r ats cs = []
-  closes (leaf k) r ats cs = (r, t .spell k (currency ats) cs) ∷ []
+  closes (leaf k) r ats cs = (r, T .spell k (currency ats) cs) ∷ []
 
-  abbrev pub emit : State → Event → List (ℕ × Option (t .A))
+  abbrev pub emit : State → Event → List (ℕ × Option (T .A))
   emit before (enter o n ats) = (1, Option.none) ∷ []
   emit before (text o x) = []
   emit before leave = []
@@ -115,6 +140,6 @@ module _ (t : Types) (l : Listing) where
   emit (at lv below ats cs) leave = closes (kindOf l (lv .row)) (lv .row) ats cs
   emit after e = []
 
-  unfoldable pub emits : State → List Event → List (ℕ × Option (t .A))
+  unfoldable pub emits : State → List Event → List (ℕ × Option (T .A))
   emits s [] = []
   emits s (e ∷ es) = emit s e ++ emits (next s e) es

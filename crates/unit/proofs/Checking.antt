@@ -14,13 +14,11 @@ use Rattle.list.specs.Table.{listOf}
 use Rattle.list.specs.Content.{Content}
 use Rattle.list_house.specs.House.{house}
 use Rattle.list_house.specs.HouseTable.{houseRows, housePool}
-use Rattle.list_house.proofs.HouseSound.{house-well}
 use Rattle.value.specs.Value.{Value}
 use Rattle.file.specs.Instance.{houseKinds}
 use Rattle.file.specs.File.{File, imageOf}
 use Rattle.file.specs.Checks.{Checks, Finds, long, bytes, markup, violation, room, image}
-use Rattle.file.proofs.One.{file-fine}
-use Rattle.file.proofs.House.{spelling, image-no-longer}
+use Rattle.file.proofs.House.{image-no-longer, good-fine}
 use Rattle.file.proofs.Accepted.{Taken, taken}
 use Rattle.file_measure.specs.Measured.{Faultless}
 use Rattle.file_measure.specs.Pass.{Ready}
@@ -65,7 +63,7 @@ module _ (s : List ℕ) (a : Answer) (p : Finds s a) where
         where
           none : Faultless houseKinds house s
           none x =
-              file-fine houseKinds spelling house house-well s (found .content) (found .file) (record { size = found .file .whole .size; utf8 = found .file .whole .utf8; xml = x })
+              good-fine s (found .content) (found .file) (record { size = found .file .whole .size; utf8 = found .file .whole .utf8; xml = x })
 
       pub filled : (d d′ : List ℕ) (b : Answer) → a .place ≤ length d → FilledIn houseKinds (listOf t pool) s d d′ → b ≡ accepted (a .place) → Checks s d b d′
       filled d d′ b h f e =
@@ -74,4 +72,4 @@ module _ (s : List ℕ) (a : Answer) (p : Finds s a) where
           let n : length (imageOf houseKinds house c) ≤ length d = omega (arith, h, size-is) in
           let g : FilledIn houseKinds house s d d′ = subst (λ (l : Listing). FilledIn houseKinds l s d d′) (list-is t pool et ep) f in
           image c w n (e ∙ ap accepted size-is)
-          (g c (record { xml = w .whole .xml; none = file-fine houseKinds spelling house house-well s c w (w .whole); has = w .has }) n ∙ start-pasted d (imageOf houseKinds house c) n)
+          (g c (record { xml = w .whole .xml; none = good-fine s c w (w .whole); has = w .has }) n ∙ start-pasted d (imageOf houseKinds house c) n)

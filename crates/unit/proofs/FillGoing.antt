@@ -27,20 +27,20 @@ use Rattle.xml_tags.specs.declared.token.Kind.the-variants.{Close}
 use Rattle.xml_tags.specs.declared.token.Token.{Token}
 use Rattle.xml_tags.specs.Passing.{but, headIs, behind}
 use Rattle.xml_tags.specs.Tokens.{openAt}
-use Rattle.xml_tags.specs.Story.{tokenIn}
-use Rattle.file_walk.specs.declared.found.Found.the-variants.{Fine}
+use Rattle.xml_tags.specs.Story.{events, tokenIn}
+use Rattle.file_walk.specs.declared.found.Found.the-variants.{Fine, Violation}
 use Rattle.file_walk.specs.declared.step.Here.{Here}
 use Rattle.file_walk.specs.declared.step.Met.the-variants.{Opened, Closed}
 use Rattle.file_walk.specs.declared.step.Turn.{Turn}
-use Rattle.file_walk.specs.Types.{Types, Spelling}
-use Rattle.file_walk.specs.First.{firstViolation}
-use Rattle.file_walk.specs.Machine.{advance}
+use Rattle.file_walk.specs.Types.{Spelling}
+use Rattle.file_walk.specs.First.{First}
+use Rattle.file_walk.specs.Machine.{Speller, judgeOf, spellerOf, before, advance, run}
 use Rattle.file_walk.specs.Tables.{isGroupIn, levels}
 use Rattle.file_walk.specs.Stride.{rowIn, inner, stepIn, stackIn}
 use Rattle.file_walk.specs.Begin.{beginIn}
 use Rattle.file_walk.proofs.Sound.{Placed, group-in}
 use Rattle.file_walk.proofs.Own.{Coins}
-use Rattle.file_walk.proofs.Beginning.{first-is}
+use Rattle.file_walk.proofs.Judges.{first-one}
 use Rattle.file_walk.proofs.Turned.{Nested, Enters, Leaves, refused, opened, closed, whole, Starts, denied, starts, finds}
 use Rattle.file_walk.proofs.Known.{less-is, is-open, close-end, blanks-less, Went, goesOn, known, there, by-close, by-open, opened-here, closed-here}
 use Rattle.image.specs.Image.{header}
@@ -50,7 +50,7 @@ use Rattle.file_measure.specs.Pass.{Shuts, Passes, violates, holds}
 use Rattle.unit.specs.Fill.{spotAt, Comes}
 use Rattle.file_measure.proofs.Leaf.{opens-group, opens-leaf, shuts-group}
 use Rattle.file.proofs.One.{fine-found}
-use Rattle.file_measure.proofs.Going.{Going, begun, goes-first, at-most, steps, step-enters, step-leaves, step-ends, goes-in, goes-out, bad-value, ends-in}
+use Rattle.file_measure.proofs.Going.{Computed, Going, first-found, begun, goes-first, at-most, steps, step-enters, step-leaves, step-ends, goes-in, goes-out, bad-value, ends-in}
 
 -- a stack to begin with: the walk asks of it only that it has room
 room : List ℕ
@@ -60,9 +60,12 @@ room-length : length room ≡ 80
 unfolding room
 room-length = length-replicate {A = ℕ} 80 0
 
-module _ (k : Kinds) (t pool s : List ℕ) (sd : Sound t pool) (x : HouseXml s) where
-  abbrev T : Types
-  T = k .types
+module _ (cm : Computed) (t pool s : List ℕ) (sd : Sound t pool) (x : HouseXml s) where
+  abbrev k : Kinds
+  k = cm .kinds
+
+  abbrev T : Speller
+  T = spellerOf (k .types) (cm .spell)
 
   abbrev l : Listing
   l = listOf t pool
@@ -75,16 +78,19 @@ module _ (k : Kinds) (t pool s : List ℕ) (sd : Sound t pool) (x : HouseXml s) 
     pub record Writing (d : List ℕ) (here : Spot) (at : ℕ) : Type 0 where
       pub st : List ℕ
       pub full : Here
-      pub going : Going k t pool s sd x d₁ a₁ d st full at
+      pub going : Going cm t pool s sd x d₁ a₁ d st full at
       pub row : full .level .row ≡ here .row
       pub behind : full .at ≡ here .at
       pub group : isGroup (rowAt l (here .row) .kind) ≡ true
       pub last : (here .last ≡ 0) ⊎ Child l (here .row) (here .last)
 
-    module _ (coins : Coins T) (none : firstViolation T l (messageOf (x .tree)) ≡ Fine) where
+    module _ (coins : Coins (judgeOf T)) (none : First (k .types) l (messageOf (x .tree)) Fine) where
+      found-none : run T l before (events (messageOf (x .tree)) []) ≡ Fine
+      found-none = first-one (k .types) l (messageOf (x .tree)) (run T l before (events (messageOf (x .tree)) [])) Fine (first-found cm t pool s sd x (run T l before (events (messageOf (x .tree)) [])) refl) none
+
       -- ---- a step of the walk
 
-      module _ (d st : List ℕ) (full : Here) (at : ℕ) (g : Going k t pool s sd x d₁ a₁ d st full at) where
+      module _ (d st : List ℕ) (full : Here) (at : ℕ) (g : Going cm t pool s sd x d₁ a₁ d st full at) where
         abbrev turn : Turn
         turn = stepIn t pool s st full
 
@@ -98,10 +104,10 @@ module _ (k : Kinds) (t pool s : List ℕ) (sd : Sound t pool) (x : HouseXml s) 
         row = full .level .row
 
         fine-here : finds T t pool s sd full (g .below) (g .ats) (g .rest) ≡ Fine
-        fine-here = sym (g .found) ∙ sym (first-is T l (sd .well) (x .tree) (x .good)) ∙ none
+        fine-here = sym (g .found) ∙ found-none
 
         goes-on : goesOn (turn .met) ≡ true
-        goes-on = elim (steps k t pool s sd x d₁ a₁ d st full at g coins turn st′ refl refl) [
+        goes-on = elim (steps cm t pool s sd x d₁ a₁ d st full at g coins turn st′ refl refl) [
           | refused w ↦ fine-found _ (w .answer) fine-here (w .found)
           | opened w ↦ ap goesOn (w .met)
           | closed w ↦ ap goesOn (w .met)
@@ -112,10 +118,10 @@ module _ (k : Kinds) (t pool s : List ℕ) (sd : Sound t pool) (x : HouseXml s) 
         went = known t pool s st full goes-on .1
 
         pub enters : turn .met ≡ Opened → Enters T t pool s sd full (g .below) (g .ats) (g .rest) st′ turn
-        enters m = step-enters k t pool s sd x d₁ a₁ d st full at g coins turn st′ refl refl m
+        enters m = step-enters cm t pool s sd x d₁ a₁ d st full at g coins turn st′ refl refl m
 
         pub leaves : turn .met ≡ Closed → full .depth ≢ 0 → Leaves T t pool s sd full (g .below) (g .ats) (g .rest) st′ turn
-        leaves m n = step-leaves k t pool s sd x d₁ a₁ d st full at g coins turn st′ refl refl m n
+        leaves m n = step-leaves cm t pool s sd x d₁ a₁ d st full at g coins turn st′ refl refl m n
 
         -- an element within another has its row
         pub around : turn .met ≡ Closed → full .depth ≢ 0 → Child l (turn .here .level .row) row × (0 < turn .here .level .row)
@@ -141,14 +147,14 @@ module _ (k : Kinds) (t pool s : List ℕ) (sd : Sound t pool) (x : HouseXml s) 
         below m = enters m .stands .nested .0
 
         no-bad : (d′ : List ℕ) → Passes k l (messageOf (x .tree)) [] (badValue row (full .level .place)) d′ → ⊥
-        no-bad d′ (violates f) = fine-found _ (badValue row (full .level .place)) none f
+        no-bad d′ (violates f) = fine-found Fine (badValue row (full .level .place)) refl (first-one (k .types) l (messageOf (x .tree)) Fine (Violation (badValue row (full .level .place))) none f)
         no-bad d′ (holds f c h v p) = let z : _≡_ {A = ℕ} 12 0 = ap (λ (u : Answer). u .code) v in omega arith
 
         -- the end of an element within another
         pub leaves-to : (m : turn .met ≡ Closed) (n : full .depth ≢ 0) (r : ℕ) (d′ : List ℕ)
-            → Shuts k t pool row (slice (full .value) (full .quote) s) (slice (full .at) (turn .less) s) d at r d′ → Going k t pool s sd x d₁ a₁ d′ st′ (turn .here) r
-        leaves-to m n r d′ o = goes-out k t pool s sd x d₁ a₁ d st full at g st′ turn (leaves m n) r d′ o
-            (λ e. no-bad d′ (bad-value k t pool s sd x d₁ a₁ d st full at g st′ turn (leaves m n) r d′ o [] e))
+            → Shuts k t pool row (slice (full .value) (full .quote) s) (slice (full .at) (turn .less) s) d at r d′ → Going cm t pool s sd x d₁ a₁ d′ st′ (turn .here) r
+        leaves-to m n r d′ o = goes-out cm t pool s sd x d₁ a₁ d st full at g st′ turn (leaves m n) r d′ o
+            (λ e. no-bad d′ (bad-value cm t pool s sd x d₁ a₁ d st full at g st′ turn (leaves m n) r d′ o [] e))
 
       -- ---- the beginning
 
@@ -156,7 +162,7 @@ module _ (k : Kinds) (t pool s : List ℕ) (sd : Sound t pool) (x : HouseXml s) 
       first-spot d₀ p first e = record {
         st = room;
         full = first .here;
-        going = goes-first k t pool s sd x d₁ a₁ d₀ first w room room-length p;
+        going = goes-first cm t pool s sd x d₁ a₁ d₀ first w room room-length p;
         row = w .stands room room-length .nested;
         behind = refl;
         group = ap isGroup (sd .well .root .1);
@@ -164,15 +170,15 @@ module _ (k : Kinds) (t pool s : List ℕ) (sd : Sound t pool) (x : HouseXml s) 
       }
         where
           w : Starts T t pool s sd (x .tree) first
-          w = elim (begun k t pool s sd x first e) [
-            | denied v ↦ fine-found _ (v .answer) none (first-is T l (sd .well) (x .tree) (x .good) ∙ v .found)
+          w = elim (begun cm t pool s sd x first e) [
+            | denied v ↦ fine-found _ (v .answer) found-none (v .found)
             | starts v ↦ v
           ]
 
       -- ---- a turn
 
       module _ (d : List ℕ) (here : Spot) (at : ℕ) (w : Writing d here at) (o : ℕ) (e : o ≡ here .at + span isBlank (drop (here .at) s)) where
-        abbrev g : Going k t pool s sd x d₁ a₁ d (w .st) (w .full) at
+        abbrev g : Going cm t pool s sd x d₁ a₁ d (w .st) (w .full) at
         g = w .going
 
         abbrev full : Here
@@ -204,7 +210,7 @@ module _ (k : Kinds) (t pool s : List ℕ) (sd : Sound t pool) (x : HouseXml s) 
         tag-in = subst (λ (n : ℕ). n < length s) (sym at-less) (there t pool s (w .st) full step gone)
 
         pub place-low : length s ≤ 1048576 → at ≤ 1000000000000
-        place-low h = at-most k t pool s sd x d₁ a₁ d (w .st) full at g h
+        place-low h = at-most cm t pool s sd x d₁ a₁ d (w .st) full at g h
 
         pub same-room : length d ≡ length d₁
         same-room = g .put .long
@@ -214,11 +220,11 @@ module _ (k : Kinds) (t pool s : List ℕ) (sd : Sound t pool) (x : HouseXml s) 
           shut : step .met ≡ Closed
           shut = by-close t pool s (w .st) full step gone o at-less b
 
-          pub spot-ends : here .row ≡ 1 → Spelling T → (d₀ : List ℕ) → Puts d₀ 0 (header l ++ (1 ∷ [])) a₁ d₁ → (d′ : List ℕ) → d′ ≡ pasted d at (0 ∷ [])
+          pub spot-ends : here .row ≡ 1 → Spelling (k .types) → (d₀ : List ℕ) → Puts d₀ 0 (header l ++ (1 ∷ [])) a₁ d₁ → (d′ : List ℕ) → d′ ≡ pasted d at (0 ∷ [])
               → Passes k l (messageOf (x .tree)) d₀ (accepted (at + 1)) d′
           spot-ends r y d₀ p d′ f =
               let n = is-root d (w .st) full at g (w .row ∙ r) shut in
-              ends-in k t pool s sd x d₁ a₁ d (w .st) full at g y d₀ p stack step (step-ends k t pool s sd x d₁ a₁ d (w .st) full at g coins step stack refl refl shut n) d′ f
+              ends-in cm t pool s sd x d₁ a₁ d (w .st) full at g y d₀ p stack step (step-ends cm t pool s sd x d₁ a₁ d (w .st) full at g coins step stack refl refl shut n) d′ f
 
           module _ (r : here .row ≢ 1) where
             deep : full .depth ≢ 0
@@ -317,7 +323,7 @@ module _ (k : Kinds) (t pool s : List ℕ) (sd : Sound t pool) (x : HouseXml s) 
               spot-in n i d′ p = record {
                 st = stack;
                 full = in′;
-                going = goes-in k t pool s sd x d₁ a₁ d (w .st) full at g stack step (enters d (w .st) full at g enter) (at + 1) d′
+                going = goes-in cm t pool s sd x d₁ a₁ d (w .st) full at g stack step (enters d (w .st) full at g enter) (at + 1) d′
                     (opens-group t (in′ .level .row) (cell t (in′ .level .row) 2) refl (isGroupIn (cell t (in′ .level .row) 2)) refl k d at (ap (λ (m : ℕ). isGroupIn (cell t m 2)) in-row ∙ j) n (i ∙ sym in-row) d′ p);
                 row = in-row;
                 behind = in-at;
@@ -327,8 +333,8 @@ module _ (k : Kinds) (t pool s : List ℕ) (sd : Sound t pool) (x : HouseXml s) 
 
             -- of a leaf: its closing tag is the next
             module _ (j : isGroupIn (cell t r 2) ≡ false) (z : ℕ) (i : z ≡ tag .end + span (but less) (drop (tag .end) s)) where
-              inside : Going k t pool s sd x d₁ a₁ d stack in′ at
-              inside = goes-in k t pool s sd x d₁ a₁ d (w .st) full at g stack step (enters d (w .st) full at g enter) at d
+              inside : Going cm t pool s sd x d₁ a₁ d stack in′ at
+              inside = goes-in cm t pool s sd x d₁ a₁ d (w .st) full at g stack step (enters d (w .st) full at g enter) at d
                   (opens-leaf t (in′ .level .row) (cell t (in′ .level .row) 2) refl (isGroupIn (cell t (in′ .level .row) 2)) refl k d at (ap (λ (m : ℕ). isGroupIn (cell t m 2)) in-row ∙ j))
 
               abbrev next : Turn

@@ -34,18 +34,19 @@ use Rattle.file_measure.specs.Pass.{Shuts, Ready}
 use Rattle.unit.specs.Fill.{spotAt, Comes, FilledIn}
 use Rattle.file_measure.proofs.Coin.{coins}
 use Rattle.file_measure.proofs.End.{filled-of}
+use Rattle.file_measure.proofs.House.{houseComputed}
 use Rattle.unit.proofs.FillGoing.{Writing, first-spot, tag-in, place-low, same-room, spot-ends, out-less, spot-out, comes, row-low, in-less, spot-in, close-in, leaf-less, spot-past}
 
 module _ (t pool s : List ℕ) where
   -- where the pass stands, whatever says that the tables are sound and the text is house XML
   abbrev pub WritingOn : List ℕ → ℕ → List ℕ → Spot → ℕ → Type 0
-  WritingOn d₁ a₁ d here at = (sd : Sound t pool) (x : HouseXml s) → Writing houseKinds t pool s sd x d₁ a₁ d here at
+  WritingOn d₁ a₁ d here at = (sd : Sound t pool) (x : HouseXml s) → Writing houseComputed t pool s sd x d₁ a₁ d here at
 
   module _ (pre : Ready t pool s × Faultless houseKinds (listOf t pool) s) where
     pub fill-first : (first : Turn) → first ≡ beginIn t pool s → (here : Spot) → here ≡ spotAt 1 0 (first .here .at)
         → (d₀ : List ℕ) (a₁ : ℕ) (d₁ : List ℕ) → Puts d₀ 0 (header (listOf t pool) ++ (1 ∷ [])) a₁ d₁ → WritingOn d₁ a₁ d₁ here a₁
     fill-first first e here h d₀ a₁ d₁ p sd x =
-        subst (λ (u : Spot). Writing houseKinds t pool s sd x d₁ a₁ d₁ u a₁) (sym h) (first-spot houseKinds t pool s sd x d₁ a₁ coins (pre .1 x) d₀ p first e)
+        subst (λ (u : Spot). Writing houseComputed t pool s sd x d₁ a₁ d₁ u a₁) (sym h) (first-spot houseComputed t pool s sd x d₁ a₁ coins (pre .1 x) d₀ p first e)
 
     module _ (d₁ : List ℕ) (a₁ : ℕ) (d : List ℕ) (here : Spot) (at : ℕ) (w : WritingOn d₁ a₁ d here at) (o : ℕ) (e : o ≡ here .at + span isBlank (drop (here .at) s)) where
       abbrev sd : Sound t pool
@@ -55,13 +56,13 @@ module _ (t pool s : List ℕ) where
       x = pre .0 .xml
 
       pub name-in : o < length s
-      name-in = tag-in houseKinds t pool s sd x d₁ a₁ coins (pre .1 x) d here at (w sd x) o e
+      name-in = tag-in houseComputed t pool s sd x d₁ a₁ coins (pre .1 x) d here at (w sd x) o e
 
       pub fill-low : at ≤ 1000000000000
-      fill-low = place-low houseKinds t pool s sd x d₁ a₁ coins (pre .1 x) d here at (w sd x) o e (pre .0 .small)
+      fill-low = place-low houseComputed t pool s sd x d₁ a₁ coins (pre .1 x) d here at (w sd x) o e (pre .0 .small)
 
       pub fill-room : length d ≡ length d₁
-      fill-room = same-room houseKinds t pool s sd x d₁ a₁ coins (pre .1 x) d here at (w sd x) o e
+      fill-room = same-room houseComputed t pool s sd x d₁ a₁ coins (pre .1 x) d here at (w sd x) o e
 
       module _ (c : Bool) (is : c ≡ headIs solidus (drop (o + 1) s)) where
         -- a closing tag
@@ -70,18 +71,18 @@ module _ (t pool s : List ℕ) where
               → FilledIn houseKinds (listOf t pool) s d₀ d′
           fill-ends r d₀ p d′ f q m h =
               filled-of houseKinds (listOf t pool) spelling (sd .well) s q m d₀ (accepted (at + 1)) d′
-              (spot-ends houseKinds t pool s sd (m .xml) d₁ a₁ coins (pre .1 (m .xml)) d here at (w sd (m .xml)) o e (sym is ∙ y) r spelling d₀ p d′ f) h
+              (spot-ends houseComputed t pool s sd (m .xml) d₁ a₁ coins (pre .1 (m .xml)) d here at (w sd (m .xml)) o e (sym is ∙ y) r spelling d₀ p d′ f) h
 
           module _ (r : here .row ≢ 1) (p : ℕ) (f : p ≡ cell t (here .row) 0) (z : ℕ) (g : z ≡ behind greater (o + 1) (drop (o + 1) s)) (here′ : Spot) (h : here′ ≡ spotAt p (here .row) z) where
             pub fill-out-less : length s - here′ .at < length s - here .at
             fill-out-less =
-                let n = out-less houseKinds t pool s sd x d₁ a₁ coins (pre .1 x) d here at (w sd x) o e (sym is ∙ y) r in
+                let n = out-less houseComputed t pool s sd x d₁ a₁ coins (pre .1 x) d here at (w sd x) o e (sym is ∙ y) r in
                 omega (arith, n, g, ap (λ (u : Spot). u .at) h)
 
             pub fill-out : WritingOn d₁ a₁ d here′ at
             fill-out sd x =
-                subst (λ (u : Spot). Writing houseKinds t pool s sd x d₁ a₁ d u at) (sym (h ∙ ap (λ (n : ℕ). spotAt n (here .row) z) f ∙ ap (λ (n : ℕ). spotAt (cell t (here .row) 0) (here .row) n) g))
-                (spot-out houseKinds t pool s sd x d₁ a₁ coins (pre .1 x) d here at (w sd x) o e (sym is ∙ y) r)
+                subst (λ (u : Spot). Writing houseComputed t pool s sd x d₁ a₁ d u at) (sym (h ∙ ap (λ (n : ℕ). spotAt n (here .row) z) f ∙ ap (λ (n : ℕ). spotAt (cell t (here .row) 0) (here .row) n) g))
+                (spot-out houseComputed t pool s sd x d₁ a₁ coins (pre .1 x) d here at (w sd x) o e (sym is ∙ y) r)
 
         -- an opening tag
         module _ (y : c ≡ false) (tag : Tag) (f : tag ≡ tagOf (openAt o (drop o s))) where
@@ -94,14 +95,14 @@ module _ (t pool s : List ℕ) where
           pub fill-comes : Comes t pool (here .row) (here .last) (slice (o + 1) (tag .stop) s)
           fill-comes =
               subst (λ (u : Tag). Comes t pool (here .row) (here .last) (slice (o + 1) (u .stop) s)) (sym f)
-              (comes houseKinds t pool s sd x d₁ a₁ coins (pre .1 x) d here at (w sd x) o e (sym is ∙ y) token refl)
+              (comes houseComputed t pool s sd x d₁ a₁ coins (pre .1 x) d here at (w sd x) o e (sym is ∙ y) token refl)
 
           module _ (r : ℕ) (q : r ≡ child (listOf t pool) (here .row) (slice (o + 1) (tag .stop) s)) where
             row-is : r ≡ child (listOf t pool) (here .row) (slice (o + 1) (token .stop) s)
             row-is = q ∙ ap (λ (u : Tag). child (listOf t pool) (here .row) (slice (o + 1) (u .stop) s)) f
 
             pub fill-row : r ≤ 255
-            fill-row = row-low houseKinds t pool s sd x d₁ a₁ coins (pre .1 x) d here at (w sd x) o e (sym is ∙ y) token refl r row-is
+            fill-row = row-low houseComputed t pool s sd x d₁ a₁ coins (pre .1 x) d here at (w sd x) o e (sym is ∙ y) token refl r row-is
 
             module _ (v : ℕ) (k : v ≡ cell t r 2) (g : Bool) (i : g ≡ isGroupIn v) where
               kind-is : isGroupIn (cell t r 2) ≡ g
@@ -111,13 +112,13 @@ module _ (t pool s : List ℕ) where
               module _ (j : g ≡ true) (here′ : Spot) (h : here′ ≡ spotAt r 0 (tag .end)) where
                 pub fill-in-less : length s - here′ .at < length s - here .at
                 fill-in-less =
-                    let n = in-less houseKinds t pool s sd x d₁ a₁ coins (pre .1 x) d here at (w sd x) o e (sym is ∙ y) token refl r row-is (kind-is ∙ j) in
+                    let n = in-less houseComputed t pool s sd x d₁ a₁ coins (pre .1 x) d here at (w sd x) o e (sym is ∙ y) token refl r row-is (kind-is ∙ j) in
                     omega (arith, n, end-is, ap (λ (u : Spot). u .at) h)
 
                 pub fill-in : (n : ℕ) → n ≡ r → (d′ : List ℕ) → d′ ≡ pasted d at (n ∷ []) → WritingOn d₁ a₁ d′ here′ (at + 1)
                 fill-in n m d′ p sd x =
-                    subst (λ (u : Spot). Writing houseKinds t pool s sd x d₁ a₁ d′ u (at + 1)) (sym (h ∙ ap (λ (n : ℕ). spotAt r 0 n) end-is))
-                    (spot-in houseKinds t pool s sd x d₁ a₁ coins (pre .1 x) d here at (w sd x) o e (sym is ∙ y) token refl r row-is (kind-is ∙ j) n m d′ p)
+                    subst (λ (u : Spot). Writing houseComputed t pool s sd x d₁ a₁ d′ u (at + 1)) (sym (h ∙ ap (λ (n : ℕ). spotAt r 0 n) end-is))
+                    (spot-in houseComputed t pool s sd x d₁ a₁ coins (pre .1 x) d here at (w sd x) o e (sym is ∙ y) token refl r row-is (kind-is ∙ j) n m d′ p)
 
               -- of a leaf
               module _ (j : g ≡ false) where
@@ -129,16 +130,16 @@ module _ (t pool s : List ℕ) where
                   text-is = l ∙ ap (λ (u : Tag). u .end + span (but less) (drop (u .end) s)) f
 
                   pub fill-close : z < length s
-                  fill-close = close-in houseKinds t pool s sd x d₁ a₁ coins (pre .1 x) d here at (w sd x) o e (sym is ∙ y) token refl r row-is (kind-is ∙ j) z text-is
+                  fill-close = close-in houseComputed t pool s sd x d₁ a₁ coins (pre .1 x) d here at (w sd x) o e (sym is ∙ y) token refl r row-is (kind-is ∙ j) z text-is
 
                   module _ (n : ℕ) (m : n ≡ behind greater (z + 1) (drop (z + 1) s)) (here′ : Spot) (h : here′ ≡ spotAt (here .row) r n) where
                     pub fill-past-less : length s - here′ .at < length s - here .at
                     fill-past-less =
-                        let u = leaf-less houseKinds t pool s sd x d₁ a₁ coins (pre .1 x) d here at (w sd x) o e (sym is ∙ y) token refl r row-is (kind-is ∙ j) z text-is in
+                        let u = leaf-less houseComputed t pool s sd x d₁ a₁ coins (pre .1 x) d here at (w sd x) o e (sym is ∙ y) token refl r row-is (kind-is ∙ j) z text-is in
                         omega (arith, u, m, ap (λ (u : Spot). u .at) h)
 
                     pub fill-past : (a′ : ℕ) (d′ : List ℕ) → Shuts houseKinds t pool r (slice (tag .value) (tag .quote) s) (slice (tag .end) z s) d at a′ d′ → WritingOn d₁ a₁ d′ here′ a′
                     fill-past a′ d′ p sd x =
-                        subst (λ (u : Spot). Writing houseKinds t pool s sd x d₁ a₁ d′ u a′) (sym (h ∙ ap (λ (i : ℕ). spotAt (here .row) r i) m))
-                        (spot-past houseKinds t pool s sd x d₁ a₁ coins (pre .1 x) d here at (w sd x) o e (sym is ∙ y) token refl r row-is (kind-is ∙ j) z text-is a′ d′
+                        subst (λ (u : Spot). Writing houseComputed t pool s sd x d₁ a₁ d′ u a′) (sym (h ∙ ap (λ (i : ℕ). spotAt (here .row) r i) m))
+                        (spot-past houseComputed t pool s sd x d₁ a₁ coins (pre .1 x) d here at (w sd x) o e (sym is ∙ y) token refl r row-is (kind-is ∙ j) z text-is a′ d′
                         (subst (λ (u : Tag). Shuts houseKinds t pool r (slice (u .value) (u .quote) s) (slice (u .end) z s) d at a′ d′) f p))

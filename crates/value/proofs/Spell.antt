@@ -16,7 +16,7 @@ use Rattle.text.proofs.Parts.{same-eq}
 use Rattle.list.specs.Listing.{Leaf, ref, iban, ccy, bool, num, amt, date, dtm, txt, enum}
 use Rattle.list.specs.WellFormed.{LeafOk, Different}
 use Rattle.list.specs.Table.{placeIn}
-use Rattle.list.proofs.Places.{place-found, place-is}
+use Rattle.list.proofs.Places.{place-found, place-none, place-is}
 use Rattle.value.specs.declared.judged.Judged.{Judged}
 use Rattle.value.specs.declared.judged.Judged.the-variants as J
 use Rattle.value.specs.Plain.{Trimmed, Says, Num, decimal}
@@ -212,6 +212,27 @@ spell-found k w cs v d s = ap (formOf k w) (left-of k w cs (s .left) v (s .lost)
 
 pub spell-complete : (k : Leaf) (w cs : List ℕ) (v : Value) → LeafOk k → Spelt k w cs v → spell k w cs ≡ some v
 spell-complete k w cs v ok s = spell-found k w cs v (apart-of k ok) s
+
+-- some value is found where one is spelt, whatever the words of an ENUM
+form-some : (k : Leaf) (w t : List ℕ) (v : Value) → Form k w t v → (u : Value) × (formOf k w t ≡ some u)
+form-some k w t v (Form.reference r) = (v, form-complete ref w t v tt (Form.reference r))
+form-some k w t v (Form.writing {k = n} r) = (v, form-complete (txt n) w t v tt (Form.writing r))
+form-some k w t v (Form.account r) = (v, form-complete iban w t v tt (Form.account r))
+form-some k w t v (Form.currency r) = (v, form-complete ccy w t v tt (Form.currency r))
+form-some k w t v (Form.listed {ws = ws} a) = go (placeIn ws t) refl
+  where
+    go : (p : ℕ) → placeIn ws t ≡ p → (u : Value) × (placeOf (placeIn ws t) ≡ some u)
+    go zero e = absurd (place-none t ws e (a .before) (a .within) (a .is))
+    go (suc p) e = (place (suc p), ap placeOf e)
+form-some k w t v (Form.either s) = (v, form-complete bool w t v tt (Form.either s))
+form-some k w t v (Form.count m) = (v, form-complete num w t v tt (Form.count m))
+form-some k w t v (Form.money c a) = (v, form-complete amt w t v tt (Form.money c a))
+form-some k w t v (Form.dated r e) = (v, form-complete date w t v tt (Form.dated r e))
+form-some k w t v (Form.timed m) = (v, form-complete dtm w t v tt (Form.timed m))
+
+pub spell-some : (k : Leaf) (w cs : List ℕ) (v : Value) → Spelt k w cs v → (u : Value) × (spell k w cs ≡ some u)
+unfolding spell
+spell-some k w cs v s = let f = form-some k w (s .left) v (s .form) in (f .0, ap (formOf k w) (left-of k w cs (s .left) v (s .lost) (s .form)) ∙ f .1)
 
 -- characters have at most one value, and so has a text
 pub one-form : (k : Leaf) (w t : List ℕ) (v v′ : Value) → Apart k → Form k w t v → Form k w t v′ → v ≡ v′
