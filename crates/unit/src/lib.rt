@@ -1,5 +1,4 @@
 // The unit: one statement file in, its record image out; images read, and values picked from them.
-mod fill; // fill.rt: the pass that writes it
 pub mod check; // check.rt: the entry for files
 pub mod read; // read.rt: the entry for images
 pub mod pick; // pick.rt: the entry for values

@@ -1,7 +1,7 @@
 -- `fill::put_head` meets its contract. Assumes nothing.
 use borrow.Author.Needs.{needs}
-use Rattle.unit.proofs.fill.put_head.Statement.{statement}
-use Rattle.unit.proofs.fill.put_head.Tie as tie
+use Rattle.file_check.proofs.fill.put_head.Statement.{statement}
+use Rattle.file_check.proofs.fill.put_head.Tie as tie
 use mathlib.Core.Path.{refl}
 use Rattle.image.specs.Image.{header}
 use Rattle.text.specs.Numbers.{bigEndian}

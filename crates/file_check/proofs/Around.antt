@@ -16,7 +16,7 @@ use Rattle.list.proofs.Words.{same-eq, same-of}
 use Rattle.list.proofs.Rows.{size-is, name-is}
 use Rattle.list.proofs.Next.{next-child, no-child}
 use Rattle.list.proofs.Child.{child-found, child-is}
-use Rattle.unit.specs.Fill.{roundIn, Comes}
+use Rattle.file_check.specs.Fill.{roundIn, Comes}
 
 -- how far it is from row r to row x, once around where x is before r: no list has 1000 rows
 abbrev pub way : ℕ → ℕ → ℕ

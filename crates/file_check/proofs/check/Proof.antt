@@ -1,9 +1,9 @@
--- `check::check` meets its contract, from what measuring told and what the pass that writes left. Assumes nothing.
+-- `check` meets its contract, from what measuring told and what the pass that writes left. Assumes nothing.
 use borrow.Author.Needs.{needs}
-use Rattle.unit.proofs.check.check.Statement.{statement}
-use Rattle.unit.proofs.check.check.Tie as tie
+use Rattle.file_check.proofs.check.Statement.{statement}
+use Rattle.file_check.proofs.check.Tie as tie
 use native.Mathlib.Omega.{arith}
-use Rattle.unit.proofs.Checking.{refused, no-room, may-fill, filled}
+use Rattle.file_check.proofs.Checking.{refused, no-room, may-fill, filled}
 
 measure-requires : tie.Need-measure-requires
 measure-requires c κs = search needs

@@ -1,7 +1,7 @@
 -- `fill::around` meets its contract. Assumes nothing.
 use borrow.Author.Needs.{needs}
-use Rattle.unit.proofs.fill.around.Statement.{statement}
-use Rattle.unit.proofs.fill.around.Tie as tie
+use Rattle.file_check.proofs.fill.around.Statement.{statement}
+use Rattle.file_check.proofs.fill.around.Tie as tie
 use borrow.Author.Tests.{eq-eqb, ne-eqb}
 
 cell-requires : tie.Need-cell-requires

@@ -16,7 +16,7 @@ use Rattle.image.specs.Image.{header}
 use Rattle.file.specs.Instance.{Kinds}
 use Rattle.file.specs.File.{imageOf}
 use Rattle.file_measure.specs.Measured.{Message}
-use Rattle.unit.specs.declared.fill.Spot.{Spot}
+use Rattle.file_check.specs.declared.fill.Spot.{Spot}
 
 -- the header of an image, whatever its list, and the root's row byte, at the start of a buffer
 abbrev pub Headed : List ℕ → ℕ → List ℕ → Type 0

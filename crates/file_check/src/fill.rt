@@ -30,7 +30,7 @@ ghost use Rattle.file_walk.specs.Tables.{isGroupIn};
 ghost use Rattle.file.specs.Instance.{houseKinds};
 ghost use Rattle.file_measure.specs.Measured.{Faultless};
 ghost use Rattle.file_measure.specs.Pass.{Worded, Valued, Shuts, Ready};
-ghost use Rattle.unit.specs.Fill.{Headed, spotAt, roundIn, Comes, FilledIn};
+ghost use Rattle.file_check.specs.Fill.{Headed, spotAt, roundIn, Comes, FilledIn};
 
 // `KTO`, version 1 in 16 bits, and the root's row byte.
 const HEAD: [u8; 6] = [75, 84, 79, 0, 1, 1];

@@ -1,7 +1,7 @@
 -- `fill::put_word` meets its contract. Assumes nothing.
 use borrow.Author.Needs.{needs}
-use Rattle.unit.proofs.fill.put_word.Statement.{statement}
-use Rattle.unit.proofs.fill.put_word.Tie as tie
+use Rattle.file_check.proofs.fill.put_word.Statement.{statement}
+use Rattle.file_check.proofs.fill.put_word.Tie as tie
 use Rattle.file_measure.proofs.Value.{worded-none, worded-some}
 
 word-byte-requires : tie.Need-word-byte-requires

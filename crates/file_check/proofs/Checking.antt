@@ -23,7 +23,7 @@ use Rattle.file.proofs.Accepted.{Taken, taken}
 use Rattle.file_measure.specs.Measured.{Faultless}
 use Rattle.file_measure.specs.Pass.{Ready}
 use Rattle.file_measure.proofs.Saying.{list-is, house-ready}
-use Rattle.unit.specs.Fill.{FilledIn}
+use Rattle.file_check.specs.Fill.{FilledIn}
 
 -- a list written at the start of a buffer that it fits in
 start-pasted : (d vs : List ℕ) → length vs ≤ length d → pasted d 0 vs ≡ vs ++ drop (length vs) d

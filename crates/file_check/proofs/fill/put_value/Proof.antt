@@ -1,7 +1,7 @@
 -- `fill::put_value` meets its contract. Assumes nothing.
 use borrow.Author.Needs.{needs}
-use Rattle.unit.proofs.fill.put_value.Statement.{statement}
-use Rattle.unit.proofs.fill.put_value.Tie as tie
+use Rattle.file_check.proofs.fill.put_value.Statement.{statement}
+use Rattle.file_check.proofs.fill.put_value.Tie as tie
 use Rattle.file_measure.proofs.Value.{valued-word, valued-written}
 
 put-word-requires : tie.Need-put-word-requires

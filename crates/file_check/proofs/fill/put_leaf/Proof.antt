@@ -1,7 +1,7 @@
 -- `fill::put_leaf` meets its contract. Assumes nothing.
 use borrow.Author.Needs.{needs}
-use Rattle.unit.proofs.fill.put_leaf.Statement.{statement}
-use Rattle.unit.proofs.fill.put_leaf.Tie as tie
+use Rattle.file_check.proofs.fill.put_leaf.Statement.{statement}
+use Rattle.file_check.proofs.fill.put_leaf.Tie as tie
 use mathlib.Core.Path.{refl, sym, ap, _∙_}
 use mathlib.Core.Bool.{false}
 use Rattle.file_walk.specs.Tables.{isGroupIn}

@@ -45,9 +45,9 @@ use Rattle.file_walk.proofs.Turned.{Nested, Enters, Leaves, refused, opened, cl
 use Rattle.file_walk.proofs.Known.{less-is, is-open, close-end, blanks-less, Went, goesOn, known, there, by-close, by-open, opened-here, closed-here}
 use Rattle.image.specs.Image.{header}
 use Rattle.file.specs.Instance.{Kinds}
-use Rattle.unit.specs.declared.fill.Spot.{Spot}
+use Rattle.file_check.specs.declared.fill.Spot.{Spot}
 use Rattle.file_measure.specs.Pass.{Shuts, Passes, violates, holds}
-use Rattle.unit.specs.Fill.{spotAt, Comes}
+use Rattle.file_check.specs.Fill.{spotAt, Comes}
 use Rattle.file_measure.proofs.Leaf.{opens-group, opens-leaf, shuts-group}
 use Rattle.file.proofs.One.{fine-found}
 use Rattle.file_measure.proofs.Going.{Computed, Going, first-found, begun, goes-first, at-most, steps, step-enters, step-leaves, step-ends, goes-in, goes-out, bad-value, ends-in}

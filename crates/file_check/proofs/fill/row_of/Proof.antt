@@ -1,11 +1,11 @@
 -- `fill::row_of` meets its contract. Assumes nothing.
-use Rattle.unit.proofs.fill.row_of.Statement.{statement}
-use Rattle.unit.proofs.fill.row_of.Tie as tie
+use Rattle.file_check.proofs.fill.row_of.Statement.{statement}
+use Rattle.file_check.proofs.fill.row_of.Tie as tie
 use borrow.Author.Needs.{needs}
 use lib.Seq.{slice}
 use Rattle.list.specs.Listing.{Child, child}
 use Rattle.list.specs.Table.{listOf}
-use Rattle.unit.proofs.FillRow.{way, row-first, row-found, row-again, row-nearer}
+use Rattle.file_check.proofs.Around.{way, row-first, row-found, row-again, row-nearer}
 
 abbrev Inv-loop : tie.InvT-loop
 Inv-loop rows pool row last s a b r₀ r = Child (listOf rows pool) row r
