@@ -156,9 +156,9 @@ loop-less-2 c =
     let at-loop = at-wide .before .before in
     let start = at-loop .before .before .before .before .before .before .before .before .before in
     let less =
-        held-less _ _ _ _ (start .pre) _ _ _ _ _ _ (at-loop .loop .inv) _ (at-wide .wide .ensures) (at-if1 .if1 .left) _ (at-cell .cell .ensures) _ _
-        (at-close-to2 .close-to2 .ensures) _ (at-cell2 .cell2 .ensures) _ (at-is-group .is-group .ensures) (at-if2 .if2 .left) _ (at-cell3 .cell3 .ensures) _
-        (c .before .cell4 .ensures) _ (c .value-end .ensures) in
+    held-less _ _ _ _ (start .pre) _ _ _ _ _ _ (at-loop .loop .inv) _ (at-wide .wide .ensures) (at-if1 .if1 .left) _ (at-cell .cell .ensures) _ _
+    (at-close-to2 .close-to2 .ensures) _ (at-cell2 .cell2 .ensures) _ (at-is-group .is-group .ensures) (at-if2 .if2 .left) _ (at-cell3 .cell3 .ensures) _
+    (c .before .cell4 .ensures) _ (c .value-end .ensures) in
     omega (arith, held-in _ _ _ _ (start .pre) _ _ _ _ _ _ (at-loop .loop .inv), less)
 
 loop-again-2 : tie.Need-loop-again-2 Inv-loop μ-loop
