@@ -56,6 +56,13 @@ pub fn all(schema: &str) -> Result<Vec<Contender>, String> {
             counts: <[u8]>::len,
             judge: |image| independent::read(image).code.number() == 0,
         },
+        Contender {
+            name: "independent write",
+            takes: Input::Image,
+            is_unit: false,
+            counts: |image| independent_write(image).unwrap_or(0),
+            judge: |image| independent_write(image).is_some(),
+        },
     ];
     others::add(&mut all, schema)?;
     Ok(all)
@@ -65,6 +72,12 @@ fn independent_check(text: &[u8]) -> bool {
     // An image is never longer than its file.
     let mut image = vec![0; text.len()];
     independent::check(text, &mut image).code.number() == 0
+}
+
+/// The length of the file; none where the image is refused.
+fn independent_write(image: &[u8]) -> Option<usize> {
+    let answer = independent::write(image, &mut vec![0; independent::LIMIT]);
+    (answer.code.number() == 0).then_some(answer.place)
 }
 
 /// The unit, by its C exports (include/kto.h).
