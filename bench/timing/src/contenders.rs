@@ -1,12 +1,6 @@
-//! Who is timed. Each judges a whole file or a whole image, or writes an image as a file, in one call, and says whether it accepts.
+//! Who is timed. Each judges a whole file, or a whole image, in one call, and says whether it accepts.
 
 use crate::files::File;
-use std::cell::RefCell;
-
-// Lent to every call, so that no sample pays for making it.
-thread_local! {
-    static OUT: RefCell<Vec<u8>> = RefCell::new(vec![0; independent::LIMIT]);
-}
 
 /// What a contender is handed of a made file.
 #[derive(Clone, Copy, PartialEq)]
@@ -14,8 +8,6 @@ pub enum Input {
     File,
     Foreign,
     Image,
-    /// An image that is to be written as a file.
-    ToWrite,
 }
 
 pub struct Contender {
@@ -30,15 +22,7 @@ impl Contender {
         match self.takes {
             Input::File => &file.text,
             Input::Foreign => &file.foreign,
-            Input::Image | Input::ToWrite => &file.image,
-        }
-    }
-
-    /// The bytes that it is timed by: what it is handed, or what it writes.
-    pub fn bytes(&self, file: &File) -> usize {
-        match self.takes {
-            Input::ToWrite => file.written,
-            _ => self.input(file).len(),
+            Input::Image => &file.image,
         }
     }
 }
@@ -49,7 +33,6 @@ pub fn all(schema: &str) -> Result<Vec<Contender>, String> {
         Contender { name: "unit check", takes: Input::File, is_unit: true, judge: unit::check },
         Contender { name: "unit UTF-8 and scan", takes: Input::Foreign, is_unit: true, judge: unit::scan },
         Contender { name: "unit read", takes: Input::Image, is_unit: true, judge: unit::read },
-        Contender { name: "unit write", takes: Input::ToWrite, is_unit: true, judge: unit::write },
         Contender { name: "independent check", takes: Input::File, is_unit: false, judge: independent_check },
         Contender {
             name: "independent read",
@@ -57,7 +40,6 @@ pub fn all(schema: &str) -> Result<Vec<Contender>, String> {
             is_unit: false,
             judge: |image| independent::read(image).code.number() == 0,
         },
-        Contender { name: "independent write", takes: Input::ToWrite, is_unit: false, judge: independent_write },
     ];
     others::add(&mut all, schema)?;
     Ok(all)
@@ -69,13 +51,9 @@ fn independent_check(text: &[u8]) -> bool {
     independent::check(text, &mut image).code.number() == 0
 }
 
-fn independent_write(image: &[u8]) -> bool {
-    OUT.with_borrow_mut(|out| independent::write(image, out).code.number() == 0)
-}
-
 /// The unit, by its C exports (include/kto.h).
 mod unit {
-    use super::OUT;
+    use std::cell::RefCell;
 
     extern "C" {
         fn kto_check(
@@ -87,18 +65,15 @@ mod unit {
             place: *mut u64,
         ) -> u64;
         fn kto_read(run: *const u8, run_len: usize, place: *mut u64) -> u64;
-        fn kto_write(
-            run: *const u8,
-            run_len: usize,
-            out: *mut u8,
-            out_len: usize,
-            row: *mut u64,
-            place: *mut u64,
-        ) -> u64;
+    }
+
+    // Lent to every call, so that no sample pays for making it.
+    thread_local! {
+        static IMAGE: RefCell<Vec<u8>> = RefCell::new(vec![0; independent::LIMIT]);
     }
 
     fn code(text: &[u8]) -> u64 {
-        OUT.with_borrow_mut(|image| {
+        IMAGE.with_borrow_mut(|image| {
             let (mut row, mut place) = (0, 0);
             // SAFETY: the lengths are those of the slices, and the two numbers live on this stack.
             unsafe { kto_check(text.as_ptr(), text.len(), image.as_mut_ptr(), image.len(), &mut row, &mut place) }
@@ -118,14 +93,6 @@ mod unit {
         let mut place = 0;
         // SAFETY: as above.
         unsafe { kto_read(image.as_ptr(), image.len(), &mut place) == 0 && place == image.len() as u64 }
-    }
-
-    pub fn write(image: &[u8]) -> bool {
-        OUT.with_borrow_mut(|out| {
-            let (mut row, mut place) = (0, 0);
-            // SAFETY: as above.
-            unsafe { kto_write(image.as_ptr(), image.len(), out.as_mut_ptr(), out.len(), &mut row, &mut place) == 0 }
-        })
     }
 }
 

@@ -12,8 +12,6 @@ pub struct File {
     /// The same file with another name of the root.
     pub foreign: Vec<u8>,
     pub image: Vec<u8>,
-    /// How many bytes the file has that is written from the image.
-    pub written: usize,
 }
 
 /// How a statement is laid out: two blanks for each level and a line for each tag, or no blank at all; with short texts or with full ones.
@@ -66,9 +64,7 @@ fn file(name: String, style: Style, size: usize) -> File {
     let answer = independent::check(&text, &mut image);
     assert_eq!(answer.code.number(), 0, "the made file {name} is refused: {answer:?}");
     image.truncate(answer.place);
-    let answer = independent::write(&image, &mut vec![0; independent::LIMIT]);
-    assert_eq!(answer.code.number(), 0, "the image of {name} is not written: {answer:?}");
-    File { name, text, foreign, image, written: answer.place }
+    File { name, text, foreign, image }
 }
 
 fn statement_with_room(style: Style, entries: usize, size: usize, length: usize) -> usize {

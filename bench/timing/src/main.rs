@@ -46,7 +46,7 @@ fn measure(contenders: &[Contender], files: &[File], rounds: usize) -> Vec<Vec<S
         for (file, row) in files.iter().zip(&mut samples) {
             for (contender, sample) in contenders.iter().zip(row) {
                 let input = contender.input(file);
-                sample.add(clock::megabytes_per_second(contender.bytes(file), || (contender.judge)(input)));
+                sample.add(clock::megabytes_per_second(input.len(), || (contender.judge)(input)));
             }
         }
     }
@@ -55,13 +55,13 @@ fn measure(contenders: &[Contender], files: &[File], rounds: usize) -> Vec<Vec<S
 
 fn print_table(contenders: &[Contender], files: &[File], samples: &[Vec<Sample>], rounds: usize) {
     println!("MB/s (10^6 bytes), median of {rounds} interleaved samples; in brackets how many times as fast the unit's check is\n");
-    print!("| File | Bytes | Image | Written |");
+    print!("| File | Bytes | Image |");
     for contender in contenders {
         print!(" {} |", contender.name);
     }
-    println!("\n|---|---|---|---|{}", "---|".repeat(contenders.len()));
+    println!("\n|---|---|---|{}", "---|".repeat(contenders.len()));
     for (file, row) in files.iter().zip(samples) {
-        print!("| {} | {} | {} | {} |", file.name, file.text.len(), file.image.len(), file.written);
+        print!("| {} | {} | {} |", file.name, file.text.len(), file.image.len());
         let check = row[0].median();
         for (contender, sample) in contenders.iter().zip(row) {
             let median = sample.median();
@@ -76,7 +76,7 @@ fn print_table(contenders: &[Contender], files: &[File], samples: &[Vec<Sample>]
     if !cfg!(others) {
         println!("\nexpat and libxml2 are missing: their development packages are not installed");
     }
-    println!("\nWho reads an image is timed by the image's bytes, who writes it as a file by the file's.");
+    println!("\nWho reads an image is timed by the image's bytes.");
 }
 
 /// The deepest of the unit's calls over all the files.
