@@ -28,7 +28,7 @@ use Rattle.file_walk.specs.Stride.{named, refusedAt, lostAt}
 unfoldable pub spaceIn : List ℕ → List ℕ → List ℕ → Attribute → Bool
 spaceIn t pool s a = named (ascii "xmlns") s (a .name) (a .stop) && same (listOf t pool .space) (slice (a .value) (a .quote) s)
 
--- what stands among the attributes behind one more, which is `xmlns:xsi`, `xsi:schemaLocation`, the namespace; a second namespace is as any other
+-- what stands among some attributes and one more, which is `xmlns:xsi`, `xsi:schemaLocation`, the namespace; a second namespace is as any other
 unfoldable pub noted : Bool → Bool → Bool → Carried → Carried
 noted true l x c = record { space = c .space; prefix = true; location = c .location; other = c .other }
 noted false true x c = record { space = c .space; prefix = c .prefix; location = true; other = c .other }
@@ -44,7 +44,7 @@ notedIn t pool s c a =
 abbrev pub nothing : Carried
 nothing = record { space = false; prefix = false; location = false; other = false }
 
--- behind the next n of them, from o on
+-- after the next n of them, from o on
 unfoldable pub carriedIn : List ℕ → List ℕ → List ℕ → Carried → ℕ → ℕ → Carried
 carriedIn t pool s c zero o = c
 carriedIn t pool s c (suc n) o = carriedIn t pool s (notedIn t pool s c (attributeIn s o)) n (attributeIn s o .end)

@@ -110,7 +110,7 @@ fn allowed(seen: Carried) -> bool
     true
 }
 
-// Whether a tag's attributes, so many behind a place, are such as the root may carry.
+// Whether a tag's attributes, so many from a place on, are such as the root may carry.
 pub(crate) fn root_attributes(
     rows: &[u16],
     pool: &[u8],

@@ -58,7 +58,7 @@ name-ends : (d : ℕ) (n : List ℕ) (ns : List (List ℕ)) (w : List ℕ) → H
 unfolding next
 name-ends d n ns w h = rw (h .is) (go (name d n ns) (h .byte) (h .others) (rw (h .ends) refl) ∙ sym (go (tail 4 [] d n ns) (h .byte) (h .others) refl))
 
--- the mode behind these letters of a name
+-- the mode after these letters of a name
 abbrev modeAfter : Mode → List ℕ → Mode
 modeAfter m [] = m
 modeAfter m (x ∷ xs) = modeAfter (goesTo m x) xs

@@ -69,7 +69,7 @@ takes (y ∷ l) bad = false
 takes (y ∷ l) all = false
 takes (y ∷ l) (more p) = takes l (go-on p y)
 
--- within an attribute's name: in the first name, just behind the colon, in the second name
+-- within an attribute's name: in the first name, just after the colon, in the second name
 pub data Mode : Type 0 where
   early colon late : Mode
 
