@@ -240,9 +240,9 @@ fn broken_xml(random: &mut Random) -> Vec<u8> {
     match random.below(3) {
         0 => file.truncate(random.below(file.len() + 1)),
         1 => {
-            let marks: Vec<usize> = (0..file.len()).filter(|at| b"<>/=\"'&;".contains(&file[*at])).collect();
+            let marks: Vec<usize> = (0..file.len()).filter(|at| b"<>/=\"'&;:".contains(&file[*at])).collect();
             let at = marks[random.below(marks.len())] + random.below(2);
-            let new = random.one_of(&["<", ">", "/", " ", "]]>", "&", "x", "<!--", "\u{1}", "\u{fffe}"]);
+            let new = random.one_of(&["<", ">", "/", " ", "]]>", "&", "x", ":", "<!--", "\u{1}", "\u{fffe}"]);
             file.splice(at..at, new.bytes());
         }
         _ => {

@@ -10,7 +10,8 @@ use crate::writes::image_for_file_of;
 /// An input, and what the independent program says to it.
 pub type Said = (Vec<u8>, Vec<u8>);
 
-/// For `kto`: document 01's whole example first; then every row, nothing, a refusal of each of a few codes, and what is as long as may be and longer.
+/// For `kto`: document 01's whole example first; then every row, nothing, a refusal of each of a few codes, what is as long as may be and
+/// longer, and schema hints.
 pub fn kto() -> Vec<Said> {
     let refused = WHOLE.replace("2024-02-29", "2023-02-29");
     let inputs = vec![
@@ -26,6 +27,8 @@ pub fn kto() -> Vec<Said> {
         filled(Vec::new(), PROGRAM_LIMIT),
         filled(Vec::new(), PROGRAM_LIMIT + 1),
         filled(Vec::new(), 3 * PROGRAM_LIMIT),
+        WHOLE.replace("<Document ", "<Document xmlns:xsi='' xsi:schemaLocation='a b' ").into(),
+        WHOLE.replace("<Document ", "<Document xsi:schemaLocation='a b' ").into(),
     ];
     said(inputs, program)
 }
@@ -112,13 +115,15 @@ mod tests {
     }
 
     #[test]
-    fn the_limit_of_a_file_is_met_from_both_sides() {
+    fn the_limit_of_a_file_is_met_from_both_sides_and_hints_change_no_image() {
         let said = kto();
         assert_eq!(said[2].1, b"refused 3 0 0\n");
         assert_eq!(said[7].1, said[0].1);
         assert_eq!(said[8].1, b"refused 1 0 65536\n");
         assert_eq!(said[9].1, b"refused 3 0 65536\n");
         assert_eq!(said[10].1, said[8].1);
+        assert_eq!(said[12].1, said[0].1);
+        assert_eq!(said[13].1, b"refused 4 1 0\n");
     }
 
     #[test]

@@ -104,7 +104,7 @@ fn opened(tag: &str) -> Option<String> {
         let value = value.trim_start_matches(BLANKS);
         let quote = value.chars().next().filter(|c| "'\"".contains(*c))?;
         let (value, after) = value[1..].split_once(quote)?;
-        if !is_name(attribute) || names.contains(&attribute) || names.len() == 4 || !is_value(value) {
+        if !is_attribute_name(attribute) || names.contains(&attribute) || names.len() == 4 || !is_value(value) {
             return None;
         }
         names.push(attribute);
@@ -116,6 +116,14 @@ fn is_name(name: &str) -> bool {
     let mut characters = name.chars();
     characters.next().is_some_and(|c| c.is_ascii_alphabetic() || c == '_')
         && characters.all(|c| c.is_ascii_alphanumeric() || "._-".contains(c))
+}
+
+/// "one colon between two names"
+fn is_attribute_name(name: &str) -> bool {
+    match name.split_once(':') {
+        Some((first, second)) => is_name(first) && is_name(second),
+        None => is_name(name),
+    }
 }
 
 fn is_text(text: &str) -> bool {
@@ -224,7 +232,7 @@ fn examine(text: &[u8]) {
 #[test]
 fn every_short_text_over_a_small_alphabet() {
     fn extend(text: &mut Vec<u8>) {
-        for byte in b"<>/a= '" {
+        for byte in b"<>/a= ':" {
             text.push(*byte);
             examine(text);
             let viable = !matches!(parse(text), Err(place) if place < text.len());
@@ -240,11 +248,11 @@ fn every_short_text_over_a_small_alphabet() {
 
 #[test]
 fn many_random_sequences_of_telling_pieces() {
-    let pieces: [&[u8]; 40] = [
+    let pieces: [&[u8]; 43] = [
         b"<", b">", b"/", b"a", b"b", b" ", b"=", b"'", b"\"", b"&", b"]", b"]]", b"]]>", b"<a>", b"</a>", b"<a/>",
         b"<b ", b"</b>", b" a=''", b" b=\"x\"", b"&amp;", b"&lt", b"quot;", b"\xc3\xa4", b"\xe2\x82", b"\xac",
         b"\xef\xbf", b"\xbf", b"\xbd", b"\xf0\x9f\x80\x80", b"\x01", b"\x7f", b"?", b"<?",
-        b"<?xml version=\"1.0\" encoding=\"UTF-8\"?>", b"!", b"-", b"1", b"\n", b"<a",
+        b"<?xml version=\"1.0\" encoding=\"UTF-8\"?>", b"!", b"-", b"1", b"\n", b"<a", b":", b" a:b=''", b"b:",
     ];
     let mut random = Random::new(11);
     for _ in 0..20_000 {

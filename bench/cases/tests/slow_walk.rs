@@ -114,8 +114,15 @@ fn row_of(parent: Option<&Row>, part: &Part) -> Option<&'static Row> {
 /// The first violation of a message.
 fn slow_walk(root: &Element) -> Option<(u8, u8, usize)> {
     let mut collected = Collected::default();
-    let only = root.attributes.len() == 1 && root.attributes[0].name == b"xmlns";
-    let good = root.name == b"Document" && only && root.attributes[0].raw == NAMESPACE.as_bytes();
+    let mut carried: Vec<(&[u8], &[u8])> = root.attributes.iter().map(|a| (a.name, a.raw)).collect();
+    carried.sort();
+    let space = match &carried[..] {
+        [(b"xmlns", raw)] => Some(raw),
+        [(b"xmlns", raw), (b"xmlns:xsi", _)] => Some(raw),
+        [(b"xmlns", raw), (b"xmlns:xsi", _), (b"xsi:schemaLocation", _)] => Some(raw),
+        _ => None,
+    };
+    let good = root.name == b"Document" && space.is_some_and(|raw| **raw == *NAMESPACE.as_bytes());
     collected.add(!good, 4, (4, 1, root.at));
     collected.element(find(1), root);
     collected.violations.into_iter().min_by_key(|(moment, rank, _)| (*moment, *rank)).map(|(_, _, answer)| answer)

@@ -16,7 +16,9 @@ fn tidied(row: &Row, draft: &Draft) -> Draft {
             Part::Child(tidied(row, child))
         }
     });
-    Draft { parts: parts.collect(), ..draft.clone() }
+    // Schema hints "belong to no content", and an attribute that stays has no colon.
+    let attributes = draft.attributes.iter().filter(|(name, _)| !name.contains(':')).cloned();
+    Draft { name: draft.name.clone(), attributes: attributes.collect(), parts: parts.collect() }
 }
 
 fn tidied_text(kind: Kind, raw: &str) -> String {

@@ -1,4 +1,5 @@
-//! Document 01, and section 1 of document 02, as a plain program, written from the documents and the settled readings of them.
+//! Document 01, and sections 1 and 2 of document 02, as a plain program, written from the documents and the settled readings
+//! of them.
 //!
 //! The unit in `crates/` is compared with this program. The two share no code, no table and no generated file, so
 //! that a mistake in one is not a mistake in the other. It is therefore written for its reader: each function renders

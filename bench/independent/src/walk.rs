@@ -17,13 +17,20 @@ pub fn walk(root: &Element) -> Result<Content, Answer> {
     group(find(1).expect("the root's row"), root)
 }
 
-/// Code 4: "root not Document, or its only attribute isn't xmlns with [the namespace]". Also for a root with no attribute
-/// or several. The namespace is compared as written: no entity spells a character of it.
+/// "files carry `xmlns:xsi` and `xsi:schemaLocation` on the root"
+const PREFIX: &[u8] = b"xmlns:xsi";
+const LOCATION: &[u8] = b"xsi:schemaLocation";
+
+/// Code 4: "root not Document, or its only attribute isn't xmlns with [the namespace]"; but "the root may carry these two
+/// besides xmlns, with any text", and "an xsi attribute without its `xmlns:xsi` gives code 4". The namespace is compared as
+/// written: no entity spells a character of it.
 fn is_document(root: &Element) -> bool {
-    match &root.attributes[..] {
-        [only] => root.name == b"Document" && only.name == b"xmlns" && only.raw == NAMESPACE.as_bytes(),
-        _ => false,
-    }
+    let carried = |name: &[u8]| root.attributes.iter().find(|attribute| attribute.name == name);
+    let known = |name: &[u8]| name == b"xmlns" || name == PREFIX || name == LOCATION;
+    root.name == b"Document"
+        && root.attributes.iter().all(|attribute| known(attribute.name))
+        && carried(b"xmlns").is_some_and(|space| space.raw == NAMESPACE.as_bytes())
+        && (carried(LOCATION).is_none() || carried(PREFIX).is_some())
 }
 
 /// An element whose row is a group or a choice, after its opening tag was tested.

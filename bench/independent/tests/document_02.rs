@@ -1,5 +1,5 @@
-//! Section 1 of document 02, "Write the statement file", sentence by sentence. What must be written stands here as a person
-//! reads it from the document; nothing of it is computed.
+//! Section 1 of document 02, "Write the statement file", and section 2, "Files with schema hints", sentence by sentence. What
+//! must be written or answered stands here as a person reads it from the document; nothing of it is computed.
 
 mod support;
 
@@ -281,4 +281,165 @@ fn the_program() {
         let long = [&whole[..], &vec![0; LIMIT + more - whole.len()]].concat();
         assert_eq!(write_program(&long), b"refused 1 0 1048576\n");
     }
+}
+
+// ---- Section 2.
+
+/// Code 3's place, or that there is none.
+fn stops(text: &str) -> Option<usize> {
+    independent::house::parse(text.as_bytes()).err()
+}
+
+/// "Attribute names may hold one colon between two names; element names may not."
+#[test]
+fn colons() {
+    for whole in [
+        "<a b:c=''/>", "<a _:_=\"\"/>", "<a b-1.:c_2 = 'x'></a>", "<a b:c='' d='' e:f='' g=''/>",
+        "<a xmlns:xsi='x' xsi:schemaLocation='y z'/>", "<a><b c:d=''/></a>",
+    ] {
+        assert_eq!(stops(whole), None, "{whole}");
+    }
+    let places = [
+        // After the colon, where no name begins.
+        ("<a b:=''/>", 5),
+        ("<a b: c=''/>", 5),
+        ("<a b:1=''/>", 5),
+        ("<a b:-c=''/>", 5),
+        ("<a b:''/>", 5),
+        ("<a b:/>", 5),
+        ("<a b:\u{e4}=''/>", 5),
+        ("<a bc.d:", 8),
+        // At a second colon.
+        ("<a b::c=''/>", 5),
+        ("<a b:c:d=''/>", 6),
+        ("<a b:c:", 6),
+        // At a colon that begins a name, or that a blank parts from one.
+        ("<a :b=''/>", 3),
+        ("<a b='' :c=''/>", 8),
+        ("<a b :c=''/>", 5),
+        // At a colon in an element's name, in either of its tags.
+        ("<a:b/>", 2),
+        ("<:a/>", 1),
+        ("<a:b c=''/>", 2),
+        ("<a><b:c/></a>", 5),
+        ("<a></a:b>", 6),
+        ("<a></:a>", 5),
+    ];
+    for (text, place) in places {
+        assert_eq!(stops(text), Some(place), "{text}");
+    }
+    let text = "<a b:c='' d:e=''/>";
+    for length in 0..text.len() {
+        assert_eq!(stops(&text[..length]), Some(length), "an unfinished text answers its length");
+    }
+}
+
+/// "Duplicates are judged by full names; four attributes stay the limit."
+#[test]
+fn full_names() {
+    for whole in [
+        "<a b='' b:c=''/>", "<a b:c='' b=''/>", "<a b:c='' c=''/>", "<a b:c='' d:c=''/>", "<a b:c='' b:d=''/>",
+        "<a b:c='' b:cc=''/>", "<a b:cc='' b:c=''/>", "<a b:c=''><d b:c=''/></a>", "<a b:c='' d:e='' f:g='' h:i=''/>",
+    ] {
+        assert_eq!(stops(whole), None, "{whole}");
+    }
+    let places = [
+        // After a full name that stands there already: up to there it could still grow.
+        ("<a b:c='' b:c=''/>", 13),
+        ("<a b:c='' b:c =''/>", 13),
+        ("<a b:c='' b:c", 13),
+        ("<a b:c='' d='' b:c=''/>", 18),
+        ("<a b:c='' b:c:d=''/>", 13),
+        ("<a b='' b:=''/>", 10),
+        ("<a b='' b=''/>", 9),
+        // At the first byte of a fifth.
+        ("<a b:c='' d:e='' f:g='' h:i='' j:k=''/>", 31),
+        ("<a b='' c='' d='' e='' f:g=''/>", 23),
+        ("<a b:c='' d='' e='' f='' b:c=''/>", 25),
+    ];
+    for (text, place) in places {
+        assert_eq!(stops(text), Some(place), "{text}");
+    }
+}
+
+/// The whole example with these attributes on its root.
+fn rooted(attributes: &[&str]) -> String {
+    whole_example().replace("<Document xmlns=\"urn:iso:std:iso:20022:tech:xsd:camt.053.001.08\">", {
+        &format!("<Document {}>", attributes.join(" "))
+    })
+}
+
+const SPACE: &str = "xmlns=\"urn:iso:std:iso:20022:tech:xsd:camt.053.001.08\"";
+const PREFIX: &str = "xmlns:xsi=\"http://www.w3.org/2001/XMLSchema-instance\"";
+const LOCATION: &str = "xsi:schemaLocation=\"urn:iso:std:iso:20022:tech:xsd:camt.053.001.08 camt.053.001.08.xsd\"";
+
+/// "The root may carry these two besides xmlns, with any text; they belong to no content."
+#[test]
+fn hints_on_the_root() {
+    for attributes in [
+        &[SPACE, PREFIX, LOCATION][..],
+        &[SPACE, LOCATION, PREFIX],
+        &[PREFIX, SPACE, LOCATION],
+        &[PREFIX, LOCATION, SPACE],
+        &[LOCATION, SPACE, PREFIX],
+        &[LOCATION, PREFIX, SPACE],
+        &[SPACE, PREFIX],
+        &[PREFIX, SPACE],
+        &[SPACE],
+        &[SPACE, "xmlns:xsi=''", "xsi:schemaLocation=''"],
+        &[SPACE, "xmlns:xsi = '&lt;&quot;>'", "xsi:schemaLocation='\n\u{20ac}'"],
+        &["xmlns:xsi='urn:iso:std:iso:20022:tech:xsd:camt.053.001.08'", SPACE],
+    ] {
+        assert_eq!(image(rooted(attributes)), whole_image(), "{attributes:?}");
+        assert_eq!(rewritten(rooted(attributes)), without_zeros(&whole_example()), "no hint is written");
+    }
+}
+
+/// "An xsi attribute without its `xmlns:xsi` gives code 4", and so does every other attribute: these two are all that the root
+/// may carry besides xmlns.
+#[test]
+fn other_attributes_on_the_root() {
+    for attributes in [
+        &[SPACE, LOCATION][..],
+        &[LOCATION, SPACE],
+        &[SPACE, LOCATION, "xmlns:xs=''"],
+        &[SPACE, PREFIX, LOCATION, "a=''"],
+        &[SPACE, "a=''"],
+        &[SPACE, PREFIX, "xsi:noNamespaceSchemaLocation=''"],
+        &[SPACE, PREFIX, "xsi:type=''"],
+        &[SPACE, PREFIX, "schemaLocation=''"],
+        &[SPACE, PREFIX, "xsi:SchemaLocation=''"],
+        &[SPACE, "xmlns:x='http://www.w3.org/2001/XMLSchema-instance'", "x:schemaLocation=''"],
+        &[SPACE, "xmlns:xs=''"],
+        &[SPACE, "xmlns:xsi2=''"],
+        &[SPACE, "xml:lang='de'"],
+        &[SPACE, "xsi=''"],
+        &[PREFIX],
+        &[PREFIX, LOCATION],
+        &["xmlns=''", PREFIX, LOCATION],
+        &["xmlns='urn:iso:std:iso:20022:tech:xsd:camt.053.001.02'", PREFIX, LOCATION],
+    ] {
+        assert_eq!(judge(rooted(attributes)), (4, 1, 0), "{attributes:?}");
+    }
+    let other_root = rooted(&[SPACE, PREFIX]).replace("Document", "Documents");
+    assert_eq!(judge(other_root), (4, 1, 0));
+    let second = rooted(&[SPACE, PREFIX, PREFIX]);
+    assert_eq!(judge(&second), (3, 0, second.rfind("xmlns:xsi").unwrap() + 9), "3 is judged before 4");
+    let fifth = rooted(&[SPACE, PREFIX, LOCATION, "a=''", "b=''"]);
+    assert_eq!(judge(&fifth), (3, 0, place(&fifth, "b=''")));
+}
+
+/// Below the root an attribute with a colon is none "of the type's": code 9.
+#[test]
+fn hints_below_the_root() {
+    for hint in ["xmlns:xsi=''", "xsi:schemaLocation=''", "xmlns:xsi='' xsi:schemaLocation=''", "a:b=''"] {
+        for (name, row) in [("BkToCstmrStmt", 2), ("MsgId", 4), ("Stmt", 6)] {
+            let file = rooted(&[SPACE, PREFIX]).replace(&format!("<{name}>"), &format!("<{name} {hint}>"));
+            assert_eq!(judge(&file), (9, row, place(&file, &format!("<{name} "))), "{hint}");
+        }
+        let file = rooted(&[SPACE, PREFIX]).replace("<Amt ", &format!("<Amt {hint} "));
+        assert_eq!(judge(&file), (9, 19, place(&file, "<Amt ")), "{hint}");
+    }
+    let file = amount_element("<Amt xsi:Ccy=\"EUR\">5.00</Amt>");
+    assert_eq!(judge(&file), (9, 19, place(&file, "<Amt ")));
 }

@@ -31,6 +31,13 @@ fn every_file_gives_its_answer() {
     }
 }
 
+/// Schema hints "belong to no content": the same statements with them have the same image.
+#[test]
+fn hints_change_no_image() {
+    let image = |name: &str| Case::check(LIMIT, fs::read(examples().join(name)).unwrap()).answer().1;
+    assert_eq!(image("schema-hints.xml"), image("several-statements.xml"));
+}
+
 #[test]
 fn every_image_is_written_as_the_file_beside_it() {
     let mut images = 0;

@@ -61,6 +61,20 @@ const FAULTS: &[Fault] = &[
         "house/recogniser.rs", "self.text[start..self.at].ends_with(b\"]]\")",
         "self.text[start..self.at].ends_with(b\"]\")",
     ),
+    // Two colons in an attribute's name.
+    ("house/recogniser.rs", "if self.next() == Some(b':') {", "while self.next() == Some(b':') {"),
+    // Duplicates by what stands before the colon.
+    (
+        "house/recogniser.rs",
+        "earlier.iter().any(|other| other.name == name)",
+        "earlier.iter().any(|other| other.name.split(|b| *b == b':').next() == name.split(|b| *b == b':').next())",
+    ),
+    // A hint without its prefix.
+    ("walk.rs", "(carried(LOCATION).is_none() || carried(PREFIX).is_some())", "true"),
+    // Another prefix on the root.
+    ("walk.rs", "name == PREFIX ||", "name.starts_with(b\"xmlns:\") ||"),
+    // A hint below the root.
+    ("walk.rs", "(_, []) => Ok(None),", "(_, others) if others.iter().all(|other| other.name == PREFIX) => Ok(None),"),
     // U+FFFF taken.
     ("house/characters.rs", "[0xef, 0xbf] => Some((0x80, 0xbd)),", "[0xef, 0xbf] => Some((0x80, 0xbf)),"),
     // A group closed without its required children.

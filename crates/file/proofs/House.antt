@@ -36,9 +36,11 @@ use Rattle.image_reading.proofs.House.{house-accepts-one}
 use Rattle.file.specs.Instance.{houseTypes, houseKinds}
 use Rattle.file.specs.File.{Whole, messageIn, File, imageOf}
 use Rattle.file.specs.Checks.{Checks, Finds}
+use Rattle.file.specs.Hints.{HintsAlone}
 use Rattle.file.proofs.One.{content-one, file-first, answers-one}
 use Rattle.file.proofs.Accepted as general
 use Rattle.file.proofs.Images as images
+use Rattle.file.proofs.Hints as hints
 use Rattle.file.proofs.Short.{NumNames, image-short}
 
 -- what the walk asks of document 01's types
@@ -100,6 +102,11 @@ house-kept = asked-kept house house-asked
 -- a file has one content
 pub one-content : (s : List ℕ) (c e : Content Value) → File houseKinds house s c → File houseKinds house s e → c ≡ e
 one-content = content-one houseKinds spelling house house-well
+
+-- schema hints belong to no content: good files that differ in them alone have one content, and one image
+pub hints-free : (s s′ : List ℕ) (c e : Content Value) (f : File houseKinds house s c) (g : File houseKinds house s′ e) → HintsAlone (f .whole) (g .whole)
+    → (c ≡ e) × (imageOf houseKinds house c ≡ imageOf houseKinds house e)
+hints-free = hints.hints-free houseKinds house spelling house-well
 
 -- in the message of a good file nothing is found
 pub good-fine : (s : List ℕ) (c : Content Value) → File houseKinds house s c → (w : Whole s) → First houseTypes house (messageIn w) Fine

@@ -7,6 +7,8 @@ pub mod Codes
 pub mod Accepted
 -- demand 3 and reading back, for what check writes
 pub mod Images
+-- files that differ in schema hints alone have one content and one image
+pub mod Hints
 -- an image is no longer than its file
 pub mod Short
 -- all of it for document 01's types and list

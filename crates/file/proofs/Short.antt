@@ -1,13 +1,13 @@
 -- An image is no longer than its file, over any types whose values have few bytes and any list whose NUM rows have names of two bytes. Assumes nothing.
 use mathlib.Core.Path.{_≡_, refl, ap}
-use mathlib.Core.Bool.{true, false≢true}
+use mathlib.Core.Bool.{Bool, true, false, cond, false≢true}
 use mathlib.Core.List.{List, [], _∷_, _++_, head-eq-of-cons-eq, nil≢cons}
 use mathlib.Core.Option.{Option}
 use Prim.Native.Nat.{ℕ, zero, suc, _+_, _≤_}
 use native.Mathlib.Omega.{arith}
 use lib.ListN.{length, length-append}
 use Rattle.text.specs.Bytes.{ascii}
-use Rattle.text_characters.specs.Pieces.{less, greater, solidus, equal, spell, resolved, spells, Spells}
+use Rattle.text_characters.specs.Pieces.{less, greater, solidus, equal, spell, resolved, resolvedAll, spells, Spells}
 use Rattle.text_characters.proofs.Spelling.{spells-none}
 use Rattle.list.specs.Listing.{Leaf, ref, iban, ccy, bool, num, amt, date, dtm, txt, enum, Kind, group, choice, leaf, Listing, rowAt}
 use Rattle.list.specs.WellFormed.{LeafOk, KindOk, WellFormed}
@@ -16,7 +16,7 @@ use Rattle.xml.specs.House.{IsName, mark, Attr, attr, attrs, Tag, tag, GoodTag,
 use Rattle.xml.specs.Message.{Attrs, Parts, attrsOf, partsOf, rootAt}
 use Rattle.value.specs.Laws.{extra}
 use Rattle.file_walk.specs.Types.{Spelling}
-use Rattle.file_walk.specs.First.{textOf, currency}
+use Rattle.file_walk.specs.First.{textOf, isHint, unhinted, currency}
 use Rattle.file_walk.specs.Denotes.{plain, LeafAttrs, Spells as Holds, Denotes, Has}
 use Rattle.image.specs.Image.{Item, header, valueBytes, itemBytes, bytes, image}
 use Rattle.image.proofs.Heads.{header-length}
@@ -61,12 +61,17 @@ full-long t i g k =
 
 -- ---- attributes
 
--- a sole attribute of a name
-sole : (as′ : List Attr) (n v : List ℕ) → attrsOf as′ ≡ (n, v) ∷ [] → length n + 3 ≤ length (attrs as′)
+-- besides hints a sole attribute of a name
+sole : (as′ : List Attr) (n v : List ℕ) → unhinted (attrsOf as′) ≡ (n, v) ∷ [] → length n + 3 ≤ length (attrs as′)
 sole [] n v e = absurd (nil≢cons e)
-sole (a ∷ as′) n v e =
-    let h : a .name ≡ n = ap (λ (x : List ℕ × List ℕ). x .0) (head-eq-of-cons-eq e) in
-    omega (arith, attr-long a, length-append (attr a) (attrs as′), ap length h)
+sole (a ∷ as′) n v e = go (isHint (a .name)) e (sole as′ n v)
+  where
+    go : (b : Bool) → cond b (unhinted (attrsOf as′)) ((a .name, resolvedAll (a .value)) ∷ unhinted (attrsOf as′)) ≡ (n, v) ∷ []
+        → (unhinted (attrsOf as′) ≡ (n, v) ∷ [] → length n + 3 ≤ length (attrs as′)) → length n + 3 ≤ length (attrs (a ∷ as′))
+    go true f ih = omega (arith, ih f, length-append (attr a) (attrs as′))
+    go false f ih =
+        let h : a .name ≡ n = ap (λ (x : List ℕ × List ℕ). x .0) (head-eq-of-cons-eq f) in
+        omega (arith, attr-long a, length-append (attr a) (attrs as′), ap length h)
 
 -- ---- a leaf's text
 
@@ -193,7 +198,7 @@ module _ (k : Kinds) (y : Spelling (k .types)) (l : Listing) (wf : WellFormed l)
   root-short over o c one g h = absurd one
   root-short (piece x i) o c one g h = absurd one
   root-short (empty t i) o c one g h =
-      omega (arith, image-many c (h .kids) (h .is), none-end 1 (h .kids) (h .parts), empty-long t i, tag-long t, sole (t .attributes) (ascii "xmlns") (l .space) (h .attrs))
+      omega (arith, image-many c (h .kids) (h .is), none-end 1 (h .kids) (h .parts), empty-long t i, tag-long t, sole (t .attributes) (ascii "xmlns") (l .space) (h .attrs .besides))
   root-short (full t j b i) o c one g h =
       omega (
         arith,
@@ -201,7 +206,7 @@ module _ (k : Kinds) (y : Spelling (k .types)) (l : Listing) (wf : WellFormed l)
         weigh j 15 (o + (length (tag t) + 2)) 1 (h .kids) (g .1) (h .parts),
         full-long t j b i,
         tag-long t,
-        sole (t .attributes) (ascii "xmlns") (l .space) (h .attrs),
+        sole (t .attributes) (ascii "xmlns") (l .space) (h .attrs .besides),
       )
 
   -- an image is no longer than its file

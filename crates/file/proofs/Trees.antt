@@ -15,7 +15,7 @@ use Rattle.text.proofs.Classes.{and-is}
 use Rattle.list.specs.Test.{every, begins}
 use Rattle.list.proofs.Tests.{clash}
 use Rattle.list.proofs.Sound.{every-is, begins-is}
-use Rattle.xml.specs.House.{Quote, mark, GoodValue, Attr, GoodAttr, GoodAttrs, Tag, GoodTag, Content, end, piece, empty, full, cut, Good, OneElement, Tree, GoodTree}
+use Rattle.xml.specs.House.{Quote, mark, GoodValue, IsAttrName, Attr, GoodAttr, GoodAttrs, Tag, GoodTag, Content, end, piece, empty, full, cut, Good, OneElement, Tree, GoodTree}
 
 pub not-is : (b : Bool) → not b ≡ true → b ≡ false
 not-is true e = absurd (false≢true e)
@@ -68,7 +68,7 @@ attr-good a e =
     let s = and-is (every isBlank (a .after)) (valueTest (a .quote) (a .value)) (r .1) in
     record {
       gap = begins-is isBlank isBlank (a .gap) (p .0);
-      name = begins-is isNameStart isNamePart (a .name) (q .0);
+      name = IsAttrName.unprefixed (begins-is isNameStart isNamePart (a .name) (q .0));
       before = every-is isBlank (a .before) (r .0);
       after = every-is isBlank (a .after) (s .0);
       value = value-good (a .quote) (a .value) (s .1);

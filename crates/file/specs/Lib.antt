@@ -5,5 +5,7 @@ pub mod Instance
 pub mod File
 -- what `check` may answer, and what it leaves in the buffer
 pub mod Checks
+-- files that differ in schema hints alone
+pub mod Hints
 -- document 01's starred examples
 pub mod Stars

@@ -21,7 +21,7 @@ use Rattle.list.proofs.Levels.{level-root, level-child, level-bound}
 use Rattle.list.specs.Content.{Content, end, value, node, rows, Good, Meets, ValueOf}
 use Rattle.value.specs.Value.{Value, IsValue, Spelt}
 use Rattle.value.proofs.Classes.{each-all}
-use Rattle.xml.specs.House.{IsName, double, GoodValue, GoodAttr, GoodTag, Content as Tags, end as over, piece, empty, full, render, isChar, begins, behind, cut, Good as Fine, GoodTree}
+use Rattle.xml.specs.House.{IsName, IsAttrName, double, GoodValue, GoodAttr, GoodTag, Content as Tags, end as over, piece, empty, full, render, isChar, begins, behind, cut, Good as Fine, GoodTree}
 use Rattle.value_to_text.specs.Script.{scriptOf, currencyOf}
 use Rattle.value_to_text.specs.Raw.{pieceOf, rawOf}
 use Rattle.file_letter.specs.Letter.{textIn, plainly, attrOf, tagOf, coinOf, wordsIn, treeIn, rootIn, treeOf}
@@ -113,7 +113,7 @@ unfolding isBlank
 blank-32 = refl
 
 good-attr : (n v : List ℕ) → IsName n → Each Quiet v → GoodAttr (attrOf n v)
-good-attr n v i q = record { gap = (blank-32, tt); name = i; before = tt; after = tt; value = quiet-value v q }
+good-attr n v i q = record { gap = (blank-32, tt); name = IsAttrName.unprefixed i; before = tt; after = tt; value = quiet-value v q }
 
 good-tag : (n : List ℕ) → IsName n → GoodTag (tagOf n [])
 good-tag n i = record { name = i; attributes = tt; gap = tt }

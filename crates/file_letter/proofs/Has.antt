@@ -8,7 +8,7 @@ use lib.Dec.{eqb}
 use lib.ListN.{length}
 use borrow.Author.Tests.{eqb-true}
 use Rattle.text.specs.Bytes.{ascii}
-use Rattle.text.specs.Lists.{Each}
+use Rattle.text.specs.Lists.{Each, same}
 use Rattle.text_characters.specs.Pieces.{char, entity, amp, lt, gt, spell, resolved, resolvedAll}
 use Rattle.list.specs.Listing.{Leaf, Kind, group, choice, leaf, Listing, rowAt, Child, isGroup}
 use Rattle.list.specs.WellFormed.{WellFormed}
@@ -134,6 +134,7 @@ module _ (l : Listing) (wf : WellFormed l) where
 
   -- the message of the written tree has the content
   pub letter-has : (c : Content Value) → Meets IsValue l c → Has houseTypes l (messageOf (treeOf l c)) c
+  unfolding same
   letter-has c m =
       let w = rooted c m in
       let kids = w .kids in
@@ -141,7 +142,7 @@ module _ (l : Listing) (wf : WellFormed l) where
       let g : Good IsValue l (node 1 kids end) = subst (Good IsValue l) (w .is) (m .good) in
       record {
         name = refl;
-        attrs = ap (λ (u : List ℕ). (ascii "xmlns", u) ∷ []) (plainly-is (l .space));
+        attrs = record { besides = ap (λ (u : List ℕ). (ascii "xmlns", u) ∷ []) (plainly-is (l .space)); tied = refl };
         alone = refl;
         kids = kids;
         is = refl;

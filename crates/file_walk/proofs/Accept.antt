@@ -7,7 +7,7 @@ use native.Mathlib.Omega.{arith}
 use lib.Dec.{eqb}
 use borrow.Author.Tests.{eq-eqb, not-false}
 use Rattle.answer.specs.Table as table
-use Rattle.text.specs.Bytes.{ascii, isBlank}
+use Rattle.text.specs.Bytes.{isBlank}
 use Rattle.text.specs.Lists.{Each, same}
 use Rattle.list.specs.Listing.{Leaf, Kind, group, choice, leaf, Listing, rowAt, Child, child, isGroup}
 use Rattle.list.specs.WellFormed.{LeafOk, KindOk, WellFormed}
@@ -16,13 +16,13 @@ use Rattle.xml.specs.Message.{Attrs, Parts, none, char, element}
 use Rattle.file_walk.specs.declared.found.Found.{Found}
 use Rattle.file_walk.specs.declared.found.Found.the-variants.{Fine}
 use Rattle.file_walk.specs.Types.{Types, Judge, Decides, Spelling}
-use Rattle.file_walk.specs.First.{First, refuse, firstOf, empty, textOf, only, currency, attrsOk, kindOf, isRoot, childRows, opening, leafEnd, closing, inside, firstViolation}
+use Rattle.file_walk.specs.First.{First, refuse, firstOf, empty, textOf, rootAttrs, currency, attrsOk, kindOf, isRoot, childRows, opening, leafEnd, closing, inside, firstViolation}
 use Rattle.file_walk.specs.Denotes.{plain, OneElement, Spells, Denotes, Has}
 use Rattle.text.proofs.Classes.{and-is}
 use Rattle.list.proofs.Tests.{clash}
 use Rattle.list.proofs.Words.{same-eq, same-of}
-use Rattle.file_walk.proofs.Answers.{or-fine, refuse-no, only-yes, yes-only, group-attrs, attrs-group, kinds}
-use Rattle.file_walk.proofs.Attrs.{leaf-mean}
+use Rattle.file_walk.proofs.Answers.{or-fine, refuse-no, group-attrs, attrs-group, kinds}
+use Rattle.file_walk.proofs.Attrs.{leaf-mean, root-mean}
 use Rattle.list.proofs.Child.{child-found, child-is}
 use Rattle.file_walk.proofs.Tests.{no-child}
 use Rattle.file_walk.proofs.Steps.{Fits, Steps}
@@ -207,12 +207,12 @@ module _ (t : Types) (y : Spelling t) (j : Judge) (d : Decides t j) (l : Listing
       let b = or-fine (inside j l 1 [] i) _ (a .1) in
       let c = or-fine (closing j l (kindOf l 1) 1 o ats (childRows l 1 i) (textOf i)) Fine (b .1) in
       let f = accepts i 1 [] (omega arith) root-group (b .0) in
-      let y = and-is (same (rowAt l 1 .name) n) (only (ascii "xmlns") (l .space) ats) (not-false (isRoot l n ats) (refuse-no (not (isRoot l n ats)) (table.wrongRoot o) (a .0))) in
+      let y = and-is (same (rowAt l 1 .name) n) (rootAttrs (l .space) ats) (not-false (isRoot l n ats) (refuse-no (not (isRoot l n ats)) (table.wrongRoot o) (a .0))) in
       let k = closed j l w (kindOf l 1) 1 o ats (rows (f .content)) (textOf i) root-group refl (f .steps) (f .theirs)
       (subst (λ rs. closing j l (kindOf l 1) 1 o ats rs (textOf i) ≡ Fine) (f .rowed) (c .0)) in (
         node 1 (f .content) end,
         record { root = refl; good = ((group-of t l (kindOf l 1) root-group, k), f .good, tt) },
-        record { name = same-eq (rowAt l 1 .name) n (y .0); attrs = only-yes (ascii "xmlns") (l .space) ats (y .1); alone = one; kids = f .content; is = refl; parts = f .denotes },
+        record { name = same-eq (rowAt l 1 .name) n (y .0); attrs = root-mean (l .space) ats .0 (y .1); alone = one; kids = f .content; is = refl; parts = f .denotes },
       )
 
   -- a content that meets the list, and is the message's: no violation
@@ -225,7 +225,7 @@ module _ (t : Types) (y : Spelling t) (j : Judge) (d : Decides t j) (l : Listing
       let z = closes j l w (kindOf l 1) 1 o ats (rows (h .kids)) (textOf i) root-group refl (g .0 .1) in
       let b = back i 1 [] (h .kids) (h .parts) (g .1) (z .1) in
       let y = subst (λ rs. closing j l (kindOf l 1) 1 o ats rs (textOf i) ≡ Fine) (sym (b .rowed)) (z .0) in
-      rw (same-of (rowAt l 1 .name) n (h .name), yes-only (ascii "xmlns") (l .space) ats (h .attrs), b .passes, y)
+      rw (same-of (rowAt l 1 .name) n (h .name), root-mean (l .space) ats .1 (h .attrs), b .passes, y)
 
 module _ (t : Types) (y : Spelling t) (l : Listing) (w : WellFormed l) where
   -- nothing is found: a content that meets the list, and is the message's

@@ -1,4 +1,4 @@
--- The test of a leaf's attributes says what the relation does. Assumes nothing.
+-- The tests of a leaf's attributes and of the root's say what the relations do. Assumes nothing.
 use mathlib.Core.Path.{_≡_, sym, ap, subst}
 use mathlib.Core.Logic.{_↔_}
 use mathlib.Core.Bool.{true, false≢true}
@@ -11,12 +11,18 @@ use Rattle.list.specs.Listing.{Leaf, ref, iban, ccy, bool, num, amt, date, dtm,
 use Rattle.list.proofs.Words.{same-eq, same-refl}
 use Rattle.xml.specs.Message.{Attrs}
 use Rattle.file_walk.specs.Types.{Types, Judge, Decides}
-use Rattle.file_walk.specs.First.{noAttrs, oneCurrency, leafAttrs}
-use Rattle.file_walk.specs.Denotes.{LeafAttrs}
-use Rattle.file_walk.proofs.Answers.{no-attrs}
+use Rattle.file_walk.specs.First.{only, unhinted, bound, rootAttrs, noAttrs, oneCurrency, leafAttrs}
+use Rattle.file_walk.specs.Denotes.{LeafAttrs, RootAttrs}
+use Rattle.file_walk.proofs.Answers.{only-yes, yes-only, no-attrs}
 
 bare : (ats : Attrs) → (noAttrs ats ≡ true) ↔ (ats ≡ [])
 bare ats = (no-attrs ats, (λ e. ap noAttrs e))
+
+pub root-mean : (space : List ℕ) (ats : Attrs) → (rootAttrs space ats ≡ true) ↔ RootAttrs space ats
+root-mean space ats = (
+  (λ e. let b = and-is (only (ascii "xmlns") space (unhinted ats)) (bound ats) e in record { besides = only-yes (ascii "xmlns") space (unhinted ats) (b .0); tied = b .1 }),
+  (λ g. rw (yes-only (ascii "xmlns") space (unhinted ats) (g .besides), g .tied)),
+)
 
 module _ (t : Types) (j : Judge) (d : Decides t j) where
   one : (ats : Attrs) → (oneCurrency j ats ≡ true) ↔ LeafAttrs t amt ats

@@ -6,44 +6,39 @@ use mathlib.Core.List.{List, [], _∷_, _++_}
 use mathlib.Core.Option.{Option}
 use Prim.Native.Nat.{ℕ, _≤_, _<_}
 use native.Mathlib.Omega.{arith}
-use lib.Dec.{eqb}
 use lib.ListN.{length, length-append}
-use lib.Seq.{slice}
-use borrow.Author.Tests.{eq-eqb, ne-eqb, lt-ltb}
+use borrow.Author.Tests.{lt-ltb}
 use Rattle.answer.specs.declared.Answer.{Answer}
 use Rattle.answer.specs.Table as table
-use Rattle.text.specs.Bytes.{ascii, isUnmarked}
-use Rattle.text.specs.Lists.{All, same}
-use Rattle.text_characters.specs.Pieces.{Piece, Spells}
-use Rattle.text_characters.proofs.Unmarked.{unmarked-same}
+use Rattle.text.specs.Lists.{same}
+use Rattle.text_characters.specs.Pieces.{Piece}
 use Rattle.list.specs.Listing.{Listing, isGroup}
 use Rattle.list.specs.WellFormed.{WellFormed}
 use Rattle.list.specs.Table.{cell, listOf}
 use Rattle.list.specs.Sound.{Sound}
 use Rattle.list.proofs.Rows.{size-is, name-is}
 use Rattle.list.proofs.Tests.{byCases}
-use Rattle.list.proofs.Words.{same-eq, same-of}
 use Rattle.xml.specs.House.{Content, end, piece, empty, full, render, OneElement, declaration, Tree, whole as text, GoodTree}
 use Rattle.xml.specs.Message.{Attrs, partsOf, messageOf, rootAt}
-use Rattle.xml_tags.specs.declared.attribute.Attribute.{Attribute}
 use Rattle.xml_tags.specs.declared.token.Kind.{Kind as Mark}
 use Rattle.xml_tags.specs.declared.token.Kind.the-variants.{Open, Empty, End}
 use Rattle.xml_tags.specs.declared.token.Token.{Token}
 use Rattle.xml_tags.specs.Tokens.{startOf}
-use Rattle.xml_tags.specs.Story.{Event, enter, leave, events, chars, tokenIn, attributeIn, Finds, Tagged, Tells}
+use Rattle.xml_tags.specs.Story.{Event, enter, leave, events, chars, tokenIn, Tagged, Tells}
 use Rattle.xml_tags.proofs.Tokens.{Ahead, token-within}
 use Rattle.xml_tags.proofs.Story.{start-root, start-opens, told}
 use Rattle.file_walk.specs.declared.found.Found.the-variants.{Violation}
 use Rattle.file_walk.specs.declared.step.Here.{Here}
 use Rattle.file_walk.specs.declared.step.Turn.{Turn}
 use Rattle.file_walk.specs.declared.step.Met.the-variants.{Opened}
-use Rattle.file_walk.specs.First.{refuse, orElse, only, kindOf, isRoot, firstViolation}
+use Rattle.file_walk.specs.First.{refuse, orElse, kindOf, isRoot, firstViolation}
 use Rattle.file_walk.specs.Denotes.{OneElement as Single}
 use Rattle.file_walk.specs.Machine.{Speller, judgeOf, before, at, after, fresh, run, walk, emits}
 use Rattle.file_walk.specs.Tables.{freshIn, levels}
-use Rattle.file_walk.specs.Stride.{named, spaceIn, refusedAt}
+use Rattle.file_walk.specs.Stride.{refusedAt}
 use Rattle.file_walk.specs.Begin.{isFirstIn, isRootIn, rootAt as root-in, rootedIn, hollowIn, foundIn, beginBy, beginIn}
-use Rattle.file_walk.proofs.Answers.{iff-same, attrs-group}
+use Rattle.file_walk.proofs.Answers.{attrs-group}
+use Rattle.file_walk.proofs.Carrying.{root-judged}
 use Rattle.file_walk.proofs.Sound.{fresh-in}
 use Rattle.file_walk.proofs.Runs.{closes-empty}
 use Rattle.file_walk.proofs.Machine.{walk-is}
@@ -77,34 +72,18 @@ start-within m g =
     let r = render (m .root) ++ m .after in
     omega (arith, start-root m g, length-append d (m .before ++ r), length-append (m .before) r)
 
--- ---- the root's name and namespace, by the places of its token
-
-same-by : (u s cs : List ℕ) → All isUnmarked u → Spells s cs → same u s ≡ same u cs
-same-by u s cs a w =
-    let f = unmarked-same u s cs a w in
-    iff-same (same u s) (same u cs) (λ e. same-of u cs (sym (f .0 (sym (same-eq u s e))))) (λ e. same-of u s (sym (f .1 (sym (same-eq u cs e)))))
+-- ---- the root's name and attributes, by the places of its token
 
 module _ (t pool s : List ℕ) (sd : Sound t pool) where
   abbrev l : Listing
   l = listOf t pool
 
-  only-by : (o : ℕ) (ats : Attrs) (n : ℕ) → n ≡ length ats → Finds s o ats
-      → (eqb n 1 && (named (ascii "xmlns") s (attributeIn s o .name) (attributeIn s o .stop) && same (l .space) (slice (attributeIn s o .value) (attributeIn s o .quote) s)))
-      ≡ only (ascii "xmlns") (l .space) ats
-  unfolding named
-  only-by o [] n e f = rw (ne-eqb n 1 (λ z. omega arith))
-  only-by o (a ∷ []) n e f =
-      rw (eq-eqb n 1 e) (ap₂ _&&_ (ap (same (ascii "xmlns")) (f .0)) (same-by (l .space) (slice (attributeIn s o .value) (attributeIn s o .quote) s) (a .1) (sd .well .space) (f .1)))
-  only-by o (a ∷ b ∷ ats) n e f = rw (ne-eqb n 1 (λ z. omega arith))
-
-  root-is : (k : Token) (n : List ℕ) (ats : Attrs) → k .less < length s → Tagged s k n ats → isRootIn t pool s (k .less) (k .stop) (k .attributes) (k .first) ≡ isRoot l n ats
-  unfolding isRootIn isFirstIn spaceIn
+  root-is : (k : Token) (n : List ℕ) (ats : Attrs) → k .less < length s → Tagged s k n ats → isRootIn t pool s (k .less) (k .stop) (k .attributes) ≡ isRoot l n ats
+  unfolding isRootIn isFirstIn
   root-is k n ats h g =
       let one : 1 ≤ cell t 0 0 = subst (λ z. 1 ≤ z) (size-is t pool) (omega (arith, sd .well .root .0)) in
       rw (lt-ltb (k .less) (length s) h)
-      (ap₂ _&&_ (ap₂ same (sym (name-is t pool 1 (omega arith) one)) (g .name))
-      (ap (λ (x : Attribute). eqb (k .attributes) 1 && (named (ascii "xmlns") s (x .name) (x .stop) && same (l .space) (slice (x .value) (x .quote) s))) (g .first)
-      ∙ only-by (k .stop) ats (k .attributes) (g .count) (g .attributes)))
+      (ap₂ _&&_ (ap₂ same (sym (name-is t pool 1 (omega arith) one)) (g .name)) (root-judged t pool s sd ats (k .attributes) (k .stop) (g .count) (g .attributes)))
 
 module _ (T : Speller) (t pool : List ℕ) (sd : Sound t pool) (m : Tree) (good : GoodTree m) where
   abbrev s : List ℕ
@@ -140,7 +119,7 @@ module _ (T : Speller) (t pool : List ℕ) (sd : Sound t pool) (m : Tree) (good 
 
   module _ (ps : List Piece) (n : List ℕ) (ats : Attrs) (more : List Event) (is : es ≡ chars (startOf s) ps (enter (k .less) n ats ∷ more)) (g : Tagged s k n ats) (going : k .kind ≢ End) where
     abbrev b : Bool
-    b = isRootIn t pool s (k .less) (k .stop) (k .attributes) (k .first)
+    b = isRootIn t pool s (k .less) (k .stop) (k .attributes)
 
     test-is : b ≡ isRoot list n ats
     test-is = root-is t pool s sd k n ats (omega (arith, ahead .on going, ahead .within)) g

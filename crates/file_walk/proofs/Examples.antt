@@ -11,4 +11,4 @@ use Rattle.file_walk.specs.Example.{anyText, examples}
 
 pub examples-right : Each (λ c. firstViolation anyText house (c .0) ≡ c .1) examples
 unfolding house examples firstViolation inside childRows absent child firstFrom same rowAt isBlank xor
-examples-right = (refl, (refl, (refl, (refl, (refl, (refl, (refl, (refl, (refl, (refl, (refl, (refl, (refl, (refl, (refl, (refl, (refl, (refl, (refl, (refl, (refl, (refl, (refl, (refl, (refl, (refl, tt))))))))))))))))))))))))))
+examples-right = (refl, (refl, (refl, (refl, (refl, (refl, (refl, (refl, (refl, (refl, (refl, (refl, (refl, (refl, (refl, (refl, (refl, (refl, (refl, (refl, (refl, (refl, (refl, (refl, (refl, (refl, (refl, (refl, (refl, (refl, (refl, (refl, tt))))))))))))))))))))))))))))))))

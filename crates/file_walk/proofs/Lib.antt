@@ -5,8 +5,10 @@ pub mod Answers
 pub mod Steps
 -- what it means that the tests of a tag find nothing
 pub mod Tests
--- a leaf's attributes
+-- a leaf's attributes, and the root's
 pub mod Attrs
+-- the root's attributes one after the other
+pub mod Carrying
 -- it does not matter who judges which texts spell a value
 pub mod Judges
 -- a flag for rules

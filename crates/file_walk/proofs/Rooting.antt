@@ -7,7 +7,6 @@ use lib.ListN.{length, drop}
 use borrow.Author.Tests.{lt-ltb, le-ltb}
 use Rattle.answer.specs.declared.Answer.{Answer}
 use Rattle.answer.specs.Table as table
-use Rattle.xml_tags.specs.declared.attribute.Attribute.{Attribute}
 use Rattle.xml_tags.specs.declared.token.Kind.{Kind}
 use Rattle.xml_tags.specs.declared.token.Kind.the-variants.{Open, Empty, Close, End}
 use Rattle.xml_tags.specs.declared.token.Token.{Token}
@@ -17,22 +16,22 @@ use Rattle.file_walk.specs.declared.step.Here.{Here}
 use Rattle.file_walk.specs.declared.step.Turn.{Turn}
 use Rattle.file_walk.specs.declared.step.Met.the-variants.{Opened}
 use Rattle.file_walk.specs.Tables.{freshIn}
-use Rattle.file_walk.specs.Stride.{spaceIn, refusedAt, lostAt}
-use Rattle.file_walk.specs.Begin.{isFirstIn, isRootIn, rootAt, rootedIn, hollowIn, foundIn, beginBy, beginIn}
+use Rattle.file_walk.specs.Stride.{refusedAt, lostAt}
+use Rattle.file_walk.specs.Begin.{nothing, carriedIn, allowed, isFirstIn, isRootIn, rootAt, rootedIn, hollowIn, foundIn, beginBy, beginIn}
 
-module _ (t pool s : List ℕ) (less stop count : ℕ) (a : Attribute) where
-  pub root-past : length s ≤ less → false ≡ isRootIn t pool s less stop count a
+module _ (t pool s : List ℕ) (less stop count : ℕ) where
+  pub root-past : length s ≤ less → false ≡ isRootIn t pool s less stop count
   unfolding isRootIn
   root-past h = rw (le-ltb less (length s) h)
 
   module _ (h : less < length s) (x : Bool) (e : x ≡ isFirstIn t pool s (less + 1) stop) where
-    pub root-name : x ≡ false → false ≡ isRootIn t pool s less stop count a
+    pub root-name : x ≡ false → false ≡ isRootIn t pool s less stop count
     unfolding isRootIn
     root-name f = rw (lt-ltb less (length s) h, sym e ∙ f)
 
-    pub root-space : (y : Bool) → x ≡ true → y ≡ spaceIn t pool s count a → y ≡ isRootIn t pool s less stop count a
+    pub root-carries : (y : Bool) → x ≡ true → y ≡ allowed (carriedIn t pool s nothing count stop) → y ≡ isRootIn t pool s less stop count
     unfolding isRootIn
-    root-space y f g = rw (lt-ltb less (length s) h, sym e ∙ f) g
+    root-carries y f g = rw (lt-ltb less (length s) h, sym e ∙ f) g
 
 module _ (b : Bool) (here : Here) (less : ℕ) where
   pub rooted-yes : b ≡ true → record { met = Opened; here = here; less = less } ≡ rootedIn b here less
@@ -72,7 +71,7 @@ module _ (t pool s : List ℕ) (o : ℕ) (begins : o ≡ startOf s) (k : Token) 
     pub begin-end : (x : Turn) → k .kind ≡ End → x ≡ lostAt root (k .less) → x ≡ beginIn t pool s
     begin-end x e f = by-kind End e x (f ∙ ap (λ z. lostAt z (k .less)) there)
 
-    module _ (b : Bool) (own : b ≡ isRootIn t pool s (k .less) (k .stop) (k .attributes) (k .first)) where
+    module _ (b : Bool) (own : b ≡ isRootIn t pool s (k .less) (k .stop) (k .attributes)) where
       pub begin-open : (x : Turn) → k .kind ≡ Open → x ≡ rootedIn b root (k .less) → x ≡ beginIn t pool s
       begin-open x e f = by-kind Open e x (f ∙ ap₂ (λ y z. rootedIn y z (k .less)) own there)
 

@@ -13,9 +13,9 @@ use borrow.Author.Tests.{eq-eqb, ne-eqb, lt-ltb, le-ltb}
 use Rattle.answer.specs.declared.Answer.{Answer}
 use Rattle.answer.specs.Table as table
 use Rattle.text.specs.Bytes.{ascii, isBlank, isCapital}
-use Rattle.text.specs.Lists.{same, span}
+use Rattle.text.specs.Lists.{span}
 use Rattle.text.proofs.Parts.{part-at, part-room}
-use Rattle.list.specs.Table.{cell, listOf}
+use Rattle.list.specs.Table.{cell}
 use Rattle.list.specs.Lookup.{childAlong}
 use Rattle.xml_tags.specs.declared.attribute.Attribute.{Attribute}
 use Rattle.xml_tags.specs.declared.token.Kind.{Kind}
@@ -32,7 +32,7 @@ use Rattle.file_walk.specs.declared.step.Here.{Here}
 use Rattle.file_walk.specs.declared.step.Turn.{Turn}
 use Rattle.file_walk.specs.declared.step.Met.the-variants.{Opened, Closed}
 use Rattle.file_walk.specs.Tables.{isGroupIn, freshIn, advanceIn, openingIn, groupEndIn, pushed}
-use Rattle.file_walk.specs.Stride.{isCurrency, named, ownIn, spaceIn, inkBefore, textFrom, inkFrom, endIn, refusedAt, lostAt, outer, closedBy, closedIn, rowIn, enteredBy, enteredIn, belowBy, belowIn, vacantBy, vacantIn, inner, numberOf, metIn, leftIn, inkAhead, stepBy, stackBy, stepIn, stackIn}
+use Rattle.file_walk.specs.Stride.{isCurrency, named, ownIn, inkBefore, textFrom, inkFrom, endIn, refusedAt, lostAt, outer, closedBy, closedIn, rowIn, enteredBy, enteredIn, belowBy, belowIn, vacantBy, vacantIn, inner, numberOf, metIn, leftIn, inkAhead, stepBy, stackBy, stepIn, stackIn}
 
 -- ---- a kind by its number
 
@@ -110,20 +110,6 @@ module _ (t s : List ℕ) (r count : ℕ) (a : Attribute) (k : ℕ) (e : k ≡ c
       pub own-value : (y : Bool) → x ≡ true → y ≡ isCurrency (slice (a .value) (a .quote) s) → y ≡ ownIn t s r count a
       unfolding ownIn
       own-value y i j = rw (eq-eqb (cell t r 2) 9 (sym e ∙ h), eq-eqb count 1 f, sym g ∙ i) j
-
-module _ (t pool s : List ℕ) (count : ℕ) (a : Attribute) where
-  pub space-many : (count ≡ 1 → ⊥) → false ≡ spaceIn t pool s count a
-  unfolding spaceIn
-  space-many f = rw (ne-eqb count 1 f)
-
-  module _ (f : count ≡ 1) (x : Bool) (g : x ≡ named (ascii "xmlns") s (a .name) (a .stop)) where
-    pub space-name : x ≡ false → false ≡ spaceIn t pool s count a
-    unfolding spaceIn
-    space-name i = rw (eq-eqb count 1 f, sym g ∙ i)
-
-    pub space-value : (y : Bool) → x ≡ true → y ≡ same (listOf t pool .space) (slice (a .value) (a .quote) s) → y ≡ spaceIn t pool s count a
-    unfolding spaceIn
-    space-value y i j = rw (eq-eqb count 1 f, sym g ∙ i) j
 
 -- ---- a text
 

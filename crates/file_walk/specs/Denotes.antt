@@ -8,7 +8,7 @@ use Rattle.list.specs.Listing.{Leaf, ref, iban, ccy, bool, num, amt, date, dtm,
 use Rattle.list.specs.Content.{Content, end, value, node}
 use Rattle.xml.specs.Message.{Attrs, Parts, none, char, element}
 use Rattle.file_walk.specs.Types.{Types}
-use Rattle.file_walk.specs.First.{textOf, currency}
+use Rattle.file_walk.specs.First.{textOf, unhinted, bound, currency}
 
 -- no element stands in it
 abbrev pub plain : Parts → Bool
@@ -36,6 +36,11 @@ module _ (t : Types) where
   LeafAttrs (txt k) ats = ats ≡ []
   LeafAttrs (enum ws) ats = ats ≡ []
 
+-- of the root: "The root may carry these two besides xmlns, with any text; they belong to no content", and no xsi attribute stands "without its `xmlns:xsi`"
+pub record RootAttrs (space : List ℕ) (ats : Attrs) : Type 0 where
+  pub besides : unhinted ats ≡ (ascii "xmlns", space) ∷ []
+  pub tied : bound ats ≡ true
+
 module _ (t : Types) (l : Listing) where
   -- an element with these attributes and parts spells a leaf's value
   abbrev pub Spells : Kind → Attrs → Parts → t .A → Type 0
@@ -54,10 +59,10 @@ module _ (t : Types) (l : Listing) where
   Denotes p (element o n ats i k) (node r d c) =
       (Child l p r × (rowAt l r .name ≡ n)) × ((isGroup (rowAt l r .kind) ≡ true) × (ats ≡ [])) × Denotes r i d × Denotes p k c
 
-  -- an element as the root: row 1's name, the namespace and no other attribute, nothing behind it
+  -- an element as the root: row 1's name, the namespace and no other attribute but hints, nothing behind it
   pub record Rooted (n : List ℕ) (ats : Attrs) (i k : Parts) (c : Content (t .A)) : Type 0 where
     pub name : rowAt l 1 .name ≡ n
-    pub attrs : ats ≡ (ascii "xmlns", l .space) ∷ []
+    pub attrs : RootAttrs (l .space) ats
     pub alone : k ≡ none
     pub kids : Content (t .A)
     pub is : c ≡ node 1 kids end

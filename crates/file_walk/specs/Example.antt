@@ -79,6 +79,13 @@ examples =
     (document [] none, Violation (wrongRoot 0)) ∷
     (element 7 (ascii "document") space none none, Violation (wrongRoot 7)) ∷
     (document ((ascii "a", []) ∷ space) none, Violation (wrongRoot 0)) ∷
+    -- 4: a hint without its prefix; another prefix; a hint alone
+    (document ((ascii "xsi:schemaLocation", []) ∷ space) none, Violation (wrongRoot 0)) ∷
+    (document ((ascii "xmlns:xs", []) ∷ space) none, Violation (wrongRoot 0)) ∷
+    (document ((ascii "xmlns:xsi", []) ∷ []) none, Violation (wrongRoot 0)) ∷
+    -- hints in any order, with any text, are no violation: what comes next is 11
+    (document ((ascii "xsi:schemaLocation", ascii "a b") ∷ (ascii "xmlns:xsi", []) ∷ space) none, Violation (empty 1 0)) ∷
+    (document ((ascii "xmlns:xsi", ascii "a") ∷ space) none, Violation (empty 1 0)) ∷
     -- 5: no child of its parent; an element in a leaf
     (statement (lf 290 "Oops" "" none), Violation (noChild 6 290)) ∷
     (message (el 110 "Id" (lf 112 "Id" "1" none) none), Violation (noChild 7 112)) ∷
@@ -88,8 +95,9 @@ examples =
     (message (lf 110 "Id" "S1" (lf 115 "Id" "S2" none)), Violation (tooMany 7 115)) ∷
     (message (lf 110 "Id" "S1" (el 120 "Acct" (el 130 "Id" (lf 140 "IBAN" "A" (el 150 "Othr" none none)) none) none)), Violation (tooMany 12 150)) ∷
     (message (lf 110 "Id" "S1" (el 120 "Acct" (el 130 "Id" (el 140 "Othr" (lf 150 "Id" "9" none) (lf 160 "IBAN" "A" none)) none) none)), Violation (tooMany 11 160)) ∷
-    -- 9: an attribute too many; none on an amount; another name; a currency that is none
+    -- 9: an attribute too many, also a hint; none on an amount; another name; a currency that is none
     (message (element 110 (ascii "Id") space none none), Violation (wrongAttributes 7 110)) ∷
+    (message (element 110 (ascii "Id") ((ascii "xmlns:xsi", []) ∷ []) none none), Violation (wrongAttributes 7 110)) ∷
     (message (lf 110 "Id" "S1" (account (balance 200 [] none))), Violation (wrongAttributes 19 240)) ∷
     (message (lf 110 "Id" "S1" (account (balance 200 space none))), Violation (wrongAttributes 19 240)) ∷
     (message (lf 110 "Id" "S1" (account (balance 200 ((ascii "Ccy", []) ∷ []) none))), Violation (wrongAttributes 19 240)) ∷

@@ -1,6 +1,6 @@
 -- The first violation of a message, in document order. Assumes nothing.
 use mathlib.Core.Path.{_≡_}
-use mathlib.Core.Bool.{Bool, true, false, _&&_, _||_, not, xor}
+use mathlib.Core.Bool.{Bool, true, false, cond, _&&_, _||_, not, xor}
 use mathlib.Core.List.{List, [], _∷_}
 use Prim.Native.Nat.{ℕ}
 use lib.Dec.{eqb, ltb}
@@ -55,6 +55,28 @@ only n v [] = false
 only n v (a ∷ []) = same n (a .0) && same v (a .1)
 only n v (a ∷ b ∷ ats) = false
 
+-- one of the attributes has this name
+abbrev pub carries : List ℕ → Attrs → Bool
+carries n [] = false
+carries n (a ∷ ats) = same n (a .0) || carries n ats
+
+-- schema hints: "`xmlns:xsi` and `xsi:schemaLocation` on the root"
+abbrev pub isHint : List ℕ → Bool
+isHint n = same (ascii "xmlns:xsi") n || same (ascii "xsi:schemaLocation") n
+
+-- "they belong to no content": the attributes without them
+abbrev pub unhinted : Attrs → Attrs
+unhinted [] = []
+unhinted (a ∷ ats) = cond (isHint (a .0)) (unhinted ats) (a ∷ unhinted ats)
+
+-- "An xsi attribute without its `xmlns:xsi` gives code 4"
+abbrev pub bound : Attrs → Bool
+bound ats = not (carries (ascii "xsi:schemaLocation") ats) || carries (ascii "xmlns:xsi") ats
+
+-- "The root may carry these two besides xmlns, with any text": without them "its only attribute" is xmlns with the namespace
+abbrev pub rootAttrs : List ℕ → Attrs → Bool
+rootAttrs space ats = only (ascii "xmlns") space (unhinted ats) && bound ats
+
 abbrev pub noAttrs : Attrs → Bool
 noAttrs [] = true
 noAttrs (a ∷ ats) = false
@@ -93,9 +115,9 @@ module _ (l : Listing) where
   abbrev pub kindOf : ℕ → Kind
   kindOf r = rowAt l r .kind
 
-  -- row 1's name, and "its only attribute .. xmlns with" the list's namespace
+  -- row 1's name, and "xmlns with" the list's namespace
   abbrev pub isRoot : List ℕ → Attrs → Bool
-  isRoot n ats = same (rowAt l 1 .name) n && only (ascii "xmlns") (l .space) ats
+  isRoot n ats = same (rowAt l 1 .name) n && rootAttrs (l .space) ats
 
   -- "over its count, or second child in a choice"; seen: the rows of its earlier siblings, the latest first
   abbrev pub over : Kind → List ℕ → ℕ → Bool

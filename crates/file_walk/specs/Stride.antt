@@ -9,7 +9,7 @@ use Rattle.answer.specs.declared.Answer.{Answer}
 use Rattle.answer.specs.Table as table
 use Rattle.text.specs.Bytes.{ascii, isBlank, isCapital}
 use Rattle.text.specs.Lists.{same, span}
-use Rattle.list.specs.Table.{cell, listOf}
+use Rattle.list.specs.Table.{cell}
 use Rattle.list.specs.Lookup.{childAlong}
 use Rattle.xml_tags.specs.declared.attribute.Attribute.{Attribute}
 use Rattle.xml_tags.specs.declared.token.Kind.{Kind}
@@ -41,10 +41,6 @@ ownIn t s r count a =
     cond (eqb (cell t r 2) 9)
     (eqb count 1 && (named (ascii "Ccy") s (a .name) (a .stop) && isCurrency (slice (a .value) (a .quote) s)))
     (eqb count 0)
-
-unfoldable pub spaceIn : List ℕ → List ℕ → List ℕ → ℕ → Attribute → Bool
-spaceIn t pool s count a =
-    eqb count 1 && (named (ascii "xmlns") s (a .name) (a .stop) && same (listOf t pool .space) (slice (a .value) (a .quote) s))
 
 -- ---- a text
 

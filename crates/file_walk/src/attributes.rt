@@ -1,7 +1,6 @@
-// The attributes of a tag: the root's namespace, an amount's currency, none for the rest.
+// The attributes of a tag below the root: an amount's currency, none for the rest.
 
 use list::lookup::cell;
-use list::lookup::is_space;
 use list::table::AMT;
 use list::table::KIND;
 use text::class::is_capital;
@@ -11,11 +10,9 @@ use xml_tags::attribute::Attribute;
 ghost use mathlib.Core.Path.{_≡_};
 ghost use lib.Seq.{slice};
 ghost use Rattle.text.specs.Bytes.{ascii};
-ghost use Rattle.file_walk.specs.Stride.{isCurrency, named, ownIn, spaceIn};
+ghost use Rattle.file_walk.specs.Stride.{isCurrency, named, ownIn};
 
 const CCY: [u8; 3] = *b"Ccy";
-
-const XMLNS: [u8; 5] = *b"xmlns";
 
 // Whether s from a to b is three capitals.
 fn is_currency(s: &[u8], a: usize, b: usize) -> bool
@@ -40,13 +37,6 @@ fn is_ccy(s: &[u8], a: usize, b: usize) -> bool
     same_part(&word, 0, 3, s, a, b)
 }
 
-fn is_xmlns(s: &[u8], a: usize, b: usize) -> bool
-    ensures { λ r. ⌜ r ≡ named (ascii "xmlns") (now (s .entry)) a b ⌝ }
-{
-    let word = XMLNS;
-    same_part(&word, 0, 5, s, a, b)
-}
-
 // Whether a tag's attributes are exactly those of row r's type.
 pub(crate) fn own(rows: &[u16], s: &[u8], r: usize, count: usize, a: Attribute) -> bool
     ensures { λ x. ⌜ x ≡ ownIn (now (rows .entry)) (now (s .entry)) r count a ⌝ }
@@ -61,17 +51,4 @@ pub(crate) fn own(rows: &[u16], s: &[u8], r: usize, count: usize, a: Attribute) 
         return false;
     }
     is_currency(s, a.value, a.quote)
-}
-
-// Whether they are exactly the list's namespace.
-pub(crate) fn space(rows: &[u16], pool: &[u8], s: &[u8], count: usize, a: Attribute) -> bool
-    ensures { λ x. ⌜ x ≡ spaceIn (now (rows .entry)) (now (pool .entry)) (now (s .entry)) count a ⌝ }
-{
-    if count != 1 {
-        return false;
-    }
-    if !is_xmlns(s, a.name, a.stop) {
-        return false;
-    }
-    is_space(rows, pool, s, a.value, a.quote)
 }

@@ -1,6 +1,6 @@
 // Where the walk begins: the root's tag.
 
-use crate::attributes::space;
+use crate::hints::root_attributes;
 use crate::level::fresh;
 use crate::step::Here;
 use crate::step::Met;
@@ -12,7 +12,6 @@ use list::lookup::cell;
 use list::table::NAME;
 use list::table::NAME_END;
 use text::part::same_part;
-use xml_tags::attribute::Attribute;
 use xml_tags::token::Kind;
 use xml_tags::token::opening;
 use xml_tags::token::start;
@@ -26,17 +25,9 @@ fn is_first(rows: &[u16], pool: &[u8], s: &[u8], a: usize, b: usize) -> bool
     same_part(pool, cell(rows, 1, NAME), cell(rows, 1, NAME_END), s, a, b)
 }
 
-// Whether a tag with its `<` at less is the root's: row 1's name, and the namespace as its only attribute.
-fn is_root(
-    rows: &[u16],
-    pool: &[u8],
-    s: &[u8],
-    less: usize,
-    stop: usize,
-    count: usize,
-    a: Attribute,
-) -> bool
-    ensures { λ x. ⌜ x ≡ isRootIn (now (rows .entry)) (now (pool .entry)) (now (s .entry)) less stop count a ⌝ }
+// Whether a tag with its `<` at less is the root's: row 1's name, and attributes that the root may carry.
+fn is_root(rows: &[u16], pool: &[u8], s: &[u8], less: usize, stop: usize, count: usize) -> bool
+    ensures { λ x. ⌜ x ≡ isRootIn (now (rows .entry)) (now (pool .entry)) (now (s .entry)) less stop count ⌝ }
 {
     if s.len() <= less {
         return false;
@@ -44,7 +35,7 @@ fn is_root(
     if !is_first(rows, pool, s, less + 1, stop) {
         return false;
     }
-    space(rows, pool, s, count, a)
+    root_attributes(rows, pool, s, stop, count)
 }
 
 // A tag as the root of a message that goes on behind it.
@@ -85,15 +76,7 @@ pub fn begin(rows: &[u16], pool: &[u8], s: &[u8]) -> Turn
         value: 0,
         quote: 0,
     };
-    let root = is_root(
-        rows,
-        pool,
-        s,
-        less,
-        token.stop,
-        token.attributes,
-        token.first,
-    );
+    let root = is_root(rows, pool, s, less, token.stop, token.attributes);
     let kind = token.kind;
     match kind {
         Kind::Open => rooted(root, here, less),

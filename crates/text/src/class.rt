@@ -1,8 +1,8 @@
-// Bytes by class. Where a span of text runs over a class, a range comes with the bytes it lacks, no two neighbours in one row: such
-// rows become one test of a mask, and a row of neighbours, or a second range, would be one more branch for each byte.
+// Bytes by class. Where a span of text runs over a class, no two neighbours stand in one row: such rows become one test of a mask,
+// and a row of neighbours, or a second range, would be one more branch for each byte.
 
 ghost use mathlib.Core.Path.{_≡_};
-ghost use Rattle.text.specs.Bytes.{isBlank, isCapital, isLetter, isDigit, isNameStart, isNamePart};
+ghost use Rattle.text.specs.Bytes.{isBlank, isCapital, isLetter, isDigit, isNameStart};
 
 pub fn is_blank(b: u8) -> bool
     ensures { λ r. ⌜ r ≡ isBlank b ⌝ }
@@ -49,17 +49,6 @@ pub fn is_name_start(b: u8) -> bool
         65..=90 => true,
         95 => true,
         97..=122 => true,
-        _ => false,
-    }
-}
-
-pub fn is_name_part(b: u8) -> bool
-    ensures { λ r. ⌜ r ≡ isNamePart b ⌝ }
-{
-    match b {
-        47 | 58 | 60 | 62 | 64 | 91 | 93 | 96 => false,
-        59 | 61 | 63 | 92 | 94 => false,
-        45..=122 => true,
         _ => false,
     }
 }

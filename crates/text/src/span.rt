@@ -1,12 +1,11 @@
 // How far a class reaches from a place. A place past the end is its own answer.
 
 use crate::class::is_blank;
-use crate::class::is_name_part;
 ghost use mathlib.Core.Path.{_≡_};
 ghost use Prim.Native.Nat.{_+_};
 ghost use lib.ListN.{drop};
 ghost use Rattle.text.specs.Lists.{span};
-ghost use Rattle.text.specs.Bytes.{isBlank, isNamePart};
+ghost use Rattle.text.specs.Bytes.{isBlank};
 
 // The end of the spaces from a place on, four a turn. It may stop early near the end of the bytes: what is left of the blanks is the same.
 fn spaces_end(s: &[u8], at: usize) -> usize
@@ -63,19 +62,6 @@ pub fn blanks_end(s: &[u8], at: usize) -> usize
     let mut i = spaces_end(s, line_end(s, at));
     while i < s.len() {
         if !is_blank(s[i]) {
-            return i;
-        }
-        i += 1;
-    }
-    i
-}
-
-pub fn name_end(s: &[u8], at: usize) -> usize
-    ensures { λ r. ⌜ r ≡ at + span isNamePart (drop at (now (s .entry))) ⌝ }
-{
-    let mut i = at;
-    while i < s.len() {
-        if !is_name_part(s[i]) {
             return i;
         }
         i += 1;

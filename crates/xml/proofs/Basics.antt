@@ -1,5 +1,5 @@
 -- Blanks, names that differ, and tests. Assumes nothing.
-use mathlib.Core.Path.{_≡_, refl, sym, ap, subst}
+use mathlib.Core.Path.{_≡_, refl, sym, _∙_, ap, subst}
 use mathlib.Core.Logic.{_≢_}
 use mathlib.Core.Bool.{Bool, true, false, _||_, true≢false}
 use mathlib.Core.List.{List, [], _∷_, _++_}
@@ -7,11 +7,11 @@ use Prim.Native.Nat.{ℕ, zero, suc, _+_, _<_}
 use native.Mathlib.Omega.{arith}
 use lib.Dec.{eqb}
 use lib.ListN.{length, length-append}
-use borrow.Author.Tests.{eqb-true}
-use Rattle.text.specs.Bytes.{isBlank, isNameStart, isNamePart}
-use Rattle.text.specs.Lists.{All, same}
+use borrow.Author.Tests.{eqb-true, ne-eqb}
+use Rattle.text.specs.Bytes.{inRange, isBlank, isNameStart, isNamePart}
+use Rattle.text.specs.Lists.{All, Begins, same}
 use Rattle.text.proofs.Parts.{same-eq, same-not}
-use Rattle.xml.specs.House.{Fresh}
+use Rattle.xml.specs.House.{IsName, IsAttrName, Fresh}
 use Rattle.xml.specs.Auto.{member}
 
 -- a blank is one of four bytes
@@ -33,6 +33,69 @@ blank-no-rest x e = by-blank (λ (y : ℕ). isNamePart y ≡ false) x e refl ref
 pub blank-no-start : (x : ℕ) → isBlank x ≡ true → isNameStart x ≡ false
 unfolding isNameStart
 blank-no-start x e = by-blank (λ (y : ℕ). isNameStart y ≡ false) x e refl refl refl refl
+
+-- ---- all that pass a test
+
+pub all-append : (p : ℕ → Bool) (a b : List ℕ) → All p a → All p b → All p (a ++ b)
+all-append p [] b h k = k
+all-append p (x ∷ a) b h k = (h .0, all-append p a b (h .1) k)
+
+pub all-weaken : (p q : ℕ → Bool) → ((x : ℕ) → p x ≡ true → q x ≡ true) → (l : List ℕ) → All p l → All q l
+all-weaken p q f [] h = tt
+all-weaken p q f (x ∷ l) h = (f x (h .0), all-weaken p q f l (h .1))
+
+-- ---- names by their bytes
+
+start-part : (x : ℕ) → isNameStart x ≡ true → isNamePart x ≡ true
+unfolding isNameStart isNamePart
+start-part x = go (inRange 65 90 x) (inRange 97 122 x) (inRange 48 57 x) (eqb x 46) (eqb x 45) (eqb x 95)
+  where
+    go : (a b c d e f : Bool) → (a || b || f) ≡ true → (a || b || c || d || e || f) ≡ true
+    go true b c d e f h = refl
+    go false true c d e f h = refl
+    go false false true d e f h = refl
+    go false false false true e f h = refl
+    go false false false false true f h = refl
+    go false false false false false f h = h
+
+pub name-all : (n : List ℕ) → IsName n → All isNamePart n
+name-all [] i = absurd i
+name-all (x ∷ n) i = (start-part x (i .0), i .1)
+
+-- a part of an attribute's name: of a name, or the colon
+abbrev pub isFullPart : ℕ → Bool
+isFullPart x = isNamePart x || eqb x 58
+
+pub no-colon : (x : ℕ) → isNamePart x ≡ true → eqb x 58 ≡ false
+unfolding isNamePart
+no-colon x e = ne-eqb x 58 (λ z. true≢false (sym e ∙ ap isNamePart z))
+
+part-full : (x : ℕ) → isNamePart x ≡ true → isFullPart x ≡ true
+part-full x e = ap (λ (z : Bool). z || eqb x 58) e
+
+pub start-full : (x : ℕ) → isNameStart x ≡ true → isFullPart x ≡ true
+start-full x e = part-full x (start-part x e)
+
+pub blank-no-full : (x : ℕ) → isBlank x ≡ true → isFullPart x ≡ false
+unfolding isNamePart
+blank-no-full x e = by-blank (λ (y : ℕ). isFullPart y ≡ false) x e refl refl refl refl
+
+-- an attribute's name begins as a name does, and goes on by such parts
+pub name-full : (n : List ℕ) → IsName n → Begins isNameStart isFullPart n
+name-full [] i = i
+name-full (x ∷ n) i = (i .0, all-weaken isNamePart isFullPart part-full n (i .1))
+
+two-full : (p q : List ℕ) → IsName p → IsName q → Begins isNameStart isFullPart (p ++ (58 ∷ q))
+unfolding isNamePart
+two-full [] q i j = absurd i
+two-full (x ∷ p) q i j =
+    (i .0, all-append isFullPart p (58 ∷ q) (all-weaken isNamePart isFullPart part-full p (i .1)) (refl, all-weaken isNamePart isFullPart part-full q (name-all q j)))
+
+pub full-name : (n : List ℕ) → IsAttrName n → Begins isNameStart isFullPart n
+full-name n (IsAttrName.unprefixed i) = name-full n i
+full-name n (IsAttrName.prefixed p q i j e) = subst (Begins isNameStart isFullPart) (sym e) (two-full p q i j)
+
+-- ---- names that differ
 
 -- `member` tells names apart
 pub fresh-member : (n : List ℕ) (ss : List (List ℕ)) → Fresh n ss → member n ss ≡ false
@@ -68,11 +131,6 @@ many (suc k) = 97 ∷ many k
 pub many-length : (k : ℕ) → length (many k) ≡ k
 many-length zero = refl
 many-length (suc k) = ap suc (many-length k)
-
-pub many-rest : (k : ℕ) → All isNamePart (many k)
-unfolding isNamePart
-many-rest zero = tt
-many-rest (suc k) = (refl, many-rest k)
 
 pub grown : (b : List ℕ) (ss : List (List ℕ)) → Fresh (b ++ many (suc (size ss))) ss
 grown b ss = longer (b ++ many (suc (size ss))) ss (omega (arith, length-append b (many (suc (size ss))), many-length (suc (size ss))))

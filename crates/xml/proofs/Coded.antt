@@ -1,22 +1,23 @@
 -- House XML is UTF-8: its names, blanks and marks are ASCII, and its characters are written by their encodings. Assumes nothing.
 use mathlib.Core.Path.{_≡_, refl, sym, ap, subst}
-use mathlib.Core.Bool.{Bool, true, false, _&&_}
+use mathlib.Core.Bool.{Bool, true, false, _&&_, _||_}
 use mathlib.Core.Logic.{inl, inr}
 use mathlib.Core.List.{List, [], _∷_, _++_, append-assoc, append-nil}
 use Prim.Native.Nat.{ℕ, zero, suc, _<_}
 use native.Mathlib.Omega.{arith}
-use lib.Dec.{ltb}
-use borrow.Author.Tests.{ltb-true}
+use lib.Dec.{ltb, eqb}
+use borrow.Author.Tests.{ltb-true, eqb-true}
 use Rattle.text.specs.Bytes.{isNameStart, isNamePart}
-use Rattle.text.specs.Lists.{Each, All}
+use Rattle.text.specs.Lists.{Each, All, Begins}
 use Rattle.text.proofs.Classes.{name-part, name-start, blank, is-in, and-is}
 use Rattle.text_characters.specs.Pieces.{Entity, amp, lt, gt, quot, apos, Piece, spell, spells, GoodPiece, less, greater, solidus, equal}
 use Rattle.text_characters.specs.Pieces as pieces
 use Rattle.text_characters.specs.Utf8.{Scalar, encode, encodeAll, Utf8}
 use Rattle.text_characters.proofs.Decoding.{encode1}
 use Rattle.text_characters.proofs.Resolving.{xml-scalar}
-use Rattle.xml.specs.House.{Blanks, IsName, Quote, mark, GoodValue, Attr, attr, attrs, GoodAttr, GoodAttrs, Tag, tag, GoodTag, render, Good, declaration, Tree, whole, GoodTree, HouseXml}
+use Rattle.xml.specs.House.{Blanks, Quote, mark, GoodValue, Attr, attr, attrs, GoodAttr, GoodAttrs, Tag, tag, GoodTag, render, Good, declaration, Tree, whole, GoodTree, HouseXml}
 use Rattle.xml.specs.House as X
+use Rattle.xml.proofs.Basics.{isFullPart, name-full, full-name}
 
 utf8-none : Utf8 []
 utf8-none = record { chars = []; scalars = tt; is = refl }
@@ -62,11 +63,18 @@ part-low x h = elim (is-in name-part x h) [
 start-low : (x : ℕ) → isNameStart x ≡ true → x < 128
 start-low x h = elim (is-in name-start x h) [ inl (inl e) ↦ omega arith | inl (inr e) ↦ omega arith | inr e ↦ omega arith ]
 
-utf8-parts : (s : List ℕ) → All isNamePart s → Utf8 s
-utf8-parts [] h = utf8-none
-utf8-parts (x ∷ s) h = utf8-ascii x (part-low x (h .0)) (utf8-parts s (h .1))
+full-low : (x : ℕ) → isFullPart x ≡ true → x < 128
+full-low x h = go (isNamePart x) refl h
+  where
+    go : (b : Bool) → isNamePart x ≡ b → (b || eqb x 58) ≡ true → x < 128
+    go true e f = part-low x e
+    go false e f = omega (arith, eqb-true x 58 f)
 
-utf8-name : (s : List ℕ) → IsName s → Utf8 s
+utf8-parts : (s : List ℕ) → All isFullPart s → Utf8 s
+utf8-parts [] h = utf8-none
+utf8-parts (x ∷ s) h = utf8-ascii x (full-low x (h .0)) (utf8-parts s (h .1))
+
+utf8-name : (s : List ℕ) → Begins isNameStart isFullPart s → Utf8 s
 utf8-name [] h = absurd h
 utf8-name (x ∷ s) h = utf8-ascii x (start-low x (h .0)) (utf8-parts s (h .1))
 
@@ -95,7 +103,7 @@ mark-low X.double = omega arith
 
 utf8-attr : (a : Attr) → GoodAttr a → Utf8 (attr a)
 utf8-attr a g =
-    utf8-append (utf8-some (a .gap) (g .gap)) (utf8-append (utf8-name (a .name) (g .name)) (utf8-append (utf8-blanks (a .before) (g .before)) (utf8-ascii equal (omega arith)
+    utf8-append (utf8-some (a .gap) (g .gap)) (utf8-append (utf8-name (a .name) (full-name (a .name) (g .name))) (utf8-append (utf8-blanks (a .before) (g .before)) (utf8-ascii equal (omega arith)
     (utf8-append (utf8-blanks (a .after) (g .after)) (utf8-ascii (mark (a .quote)) (mark-low (a .quote)) (utf8-append (utf8-value (a .quote) (a .value) (g .value)) (utf8-ascii (mark (a .quote)) (mark-low (a .quote)) utf8-none)))))))
 
 utf8-attrs : (n : ℕ) (seen : List (List ℕ)) (more : List Attr) → GoodAttrs n seen more → Utf8 (attrs more)
@@ -104,7 +112,7 @@ utf8-attrs zero seen (a ∷ more) h = absurd h
 utf8-attrs (suc n) seen (a ∷ more) h = utf8-append (utf8-attr a (h .0)) (utf8-attrs n (a .name ∷ seen) more (h .2))
 
 utf8-tag : (t : Tag) → GoodTag t → Utf8 (tag t)
-utf8-tag t g = utf8-append (utf8-name (t .name) (g .name)) (utf8-append (utf8-attrs 4 [] (t .attributes) (g .attributes)) (utf8-blanks (t .gap) (g .gap)))
+utf8-tag t g = utf8-append (utf8-name (t .name) (name-full (t .name) (g .name))) (utf8-append (utf8-attrs 4 [] (t .attributes) (g .attributes)) (utf8-blanks (t .gap) (g .gap)))
 
 utf8-content : (d : ℕ) (x : X.Content) → Good d x → Utf8 (render x)
 utf8-content d X.end h = utf8-none
@@ -114,7 +122,7 @@ utf8-content (suc d) (X.empty t x) h = utf8-ascii less (omega arith) (utf8-appen
 utf8-content zero (X.full t i g x) h = absurd h
 utf8-content (suc d) (X.full t i g x) h =
     utf8-ascii less (omega arith) (utf8-append (utf8-tag t (h .0)) (utf8-ascii greater (omega arith) (utf8-append (utf8-content d i (h .1)) (utf8-ascii less (omega arith) (utf8-ascii solidus (omega arith)
-    (utf8-append (utf8-name (t .name) (h .0 .name)) (utf8-append (utf8-blanks g (h .2)) (utf8-ascii greater (omega arith) (utf8-content (suc d) x (h .3))))))))))
+    (utf8-append (utf8-name (t .name) (name-full (t .name) (h .0 .name))) (utf8-append (utf8-blanks g (h .2)) (utf8-ascii greater (omega arith) (utf8-content (suc d) x (h .3))))))))))
 
 utf8-declared : (d : Bool) → Utf8 (declaration d)
 utf8-declared false = utf8-none

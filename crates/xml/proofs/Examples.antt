@@ -37,6 +37,8 @@ examples =
     record { bytes = ascii "<a>" ++ (244 ∷ 144 ∷ []); place = 4 } ∷
     record { bytes = ascii "<a>" ++ (127 ∷ 194 ∷ 128 ∷ 194 ∷ 159 ∷ 31 ∷ []); place = 8 } ∷
     record { bytes = 239 ∷ 187 ∷ 191 ∷ []; place = 0 } ∷
+    stops "<a b:c=''/>" 11 ∷ stops "<a b:=''/>" 5 ∷ stops "<a :b=''/>" 3 ∷ stops "<a b:c:d=''/>" 6 ∷ stops "<a b:1=''/>" 5 ∷ stops "<a:b/>" 2 ∷ stops "<a b:" 5 ∷
+    stops "<a b:c='' b:c=''/>" 13 ∷ stops "<a b='' b:c='' x:c=''/>" 23 ∷ stops "<a b:c='' d='' e:f='' g='' h:i=''/>" 27 ∷
     record { bytes = deep 16; place = 48 } ∷ record { bytes = deep 17; place = 49 } ∷
     []
 

@@ -1,7 +1,7 @@
 -- The automaton over the rendering of a good tree. Assumes nothing.
-use mathlib.Core.Path.{_≡_, refl, sym, _∙_, ap}
+use mathlib.Core.Path.{_≡_, refl, sym, _∙_, ap, subst}
 use mathlib.Core.Logic.{_≢_}
-use mathlib.Core.Bool.{Bool, true, false, _&&_, true≢false}
+use mathlib.Core.Bool.{Bool, true, false, cond, _&&_, _||_, true≢false}
 use mathlib.Core.List.{List, [], _∷_, _++_, append-assoc, append-nil}
 use Prim.Native.Nat.{ℕ, zero, suc}
 use native.Mathlib.Omega.{arith}
@@ -10,12 +10,12 @@ use borrow.Author.Tests.{eq-eqb, ne-eqb}
 use Rattle.text.specs.Bytes.{isBlank, isNameStart, isNamePart}
 use Rattle.text.specs.Lists.{All}
 use Rattle.text_characters.specs.Pieces.{Piece, char, spell}
-use Rattle.xml.specs.House.{Blanks, SomeBlanks, IsName, Quote, single, double, mark, GoodValue, Attr, GoodAttr, Fresh, GoodAttrs, Tag, GoodTag, Content, end, piece, empty, full, OneElement, declaration}
+use Rattle.xml.specs.House.{Blanks, SomeBlanks, IsName, IsAttrName, Quote, single, double, mark, GoodValue, Attr, GoodAttr, Fresh, GoodAttrs, Tag, GoodTag, Content, end, piece, empty, full, OneElement, declaration}
 use Rattle.xml.proofs.Runs.{cuts, brackets, GoodAfter}
-use Rattle.xml.specs.Auto.{Part, Read, bad, all, more, lead, go-on, takes, At, done, start, first, before, root, name, tail, gap, attr, equals, quote, value, within, slash, content, part, less, close, St, at, member, after, endStep, valueNext, contentNext, next, step, run}
-use Rattle.xml.proofs.Basics.{blank-no-rest, blank-no-start, fresh-member}
+use Rattle.xml.specs.Auto.{Part, Read, bad, all, more, lead, go-on, takes, At, done, start, first, before, root, name, tail, gap, attr, Mode, early, colon, late, grows, goesTo, mayStop, equals, quote, value, within, slash, content, part, less, close, St, at, member, after, endStep, valueNext, contentNext, next, step, run}
+use Rattle.xml.proofs.Basics.{by-blank, blank-no-rest, blank-no-start, no-colon, fresh-member}
 use Rattle.xml.proofs.Pieces.{Seen, s-short, s-long, seen, plain-brackets}
-use Rattle.xml.proofs.Lang.{spellsOn, attrOn, attrsOn, tagOn, endOn, on}
+use Rattle.xml.proofs.Lang.{Goes, spellsOn, attrOn, attrsOn, tagOn, endOn, on}
 
 -- a byte, then the rest
 go : (s : At) {st : St} (x : ℕ) (u : List ℕ) → next s x ≡ st → run (at s) (x ∷ u) ≡ run st u
@@ -58,15 +58,81 @@ name-ends : (d : ℕ) (n : List ℕ) (ns : List (List ℕ)) (w : List ℕ) → H
 unfolding next
 name-ends d n ns w h = rw (h .is) (go (name d n ns) (h .byte) (h .others) (rw (h .ends) refl) ∙ sym (go (tail 4 [] d n ns) (h .byte) (h .others) refl))
 
-attr-run : (xs b : List ℕ) (k : ℕ) (ss : List (List ℕ)) (d : ℕ) (n : List ℕ) (ns : List (List ℕ)) (u : List ℕ) → All isNamePart xs → run (at (attr b k ss d n ns)) (xs ++ u) ≡ run (at (attr (b ++ xs) k ss d n ns)) u
-unfolding next
-attr-run [] b k ss d n ns u a = rw append-nil refl
-attr-run (x ∷ xs) b k ss d n ns u a =
-    go (attr b k ss d n ns) x (xs ++ u) (rw (a .0) refl) ∙ attr-run xs (b ++ (x ∷ [])) k ss d n ns u (a .1) ∙ ap (λ (m : List ℕ). run (at (attr m k ss d n ns)) u) (append-assoc b (x ∷ []) xs)
+-- the mode after these letters of a name
+abbrev modeAfter : Mode → List ℕ → Mode
+modeAfter m [] = m
+modeAfter m (x ∷ xs) = modeAfter (goesTo m x) xs
 
-attr-ends : (b : List ℕ) (k : ℕ) (ss : List (List ℕ)) (d : ℕ) (n : List ℕ) (ns : List (List ℕ)) (w : List ℕ) → Fresh b ss → Head w → run (at (attr b k ss d n ns)) w ≡ run (at (equals k (b ∷ ss) d n ns)) w
+attr-run : (xs : List ℕ) (m : Mode) (b : List ℕ) (k : ℕ) (ss : List (List ℕ)) (d : ℕ) (n : List ℕ) (ns : List (List ℕ)) (u : List ℕ) → Goes m xs → run (at (attr m b k ss d n ns)) (xs ++ u) ≡ run (at (attr (modeAfter m xs) (b ++ xs) k ss d n ns)) u
 unfolding next
-attr-ends b k ss d n ns w f h = rw (h .is) (go (attr b k ss d n ns) (h .byte) (h .others) (rw (h .ends, fresh-member b ss f) refl) ∙ sym (go (equals k (b ∷ ss) d n ns) (h .byte) (h .others) refl))
+attr-run [] m b k ss d n ns u a = rw append-nil refl
+attr-run (x ∷ xs) m b k ss d n ns u a =
+    go (attr m b k ss d n ns) x (xs ++ u) (rw (a .0) refl) ∙ attr-run xs (goesTo m x) (b ++ (x ∷ [])) k ss d n ns u (a .1) ∙ ap (λ (z : List ℕ). run (at (attr (modeAfter (goesTo m x) xs) z k ss d n ns)) u) (append-assoc b (x ∷ []) xs)
+
+may-stop : (xs : List ℕ) (m : Mode) → Goes m xs → mayStop (modeAfter m xs) ≡ true
+may-stop [] m g = g
+may-stop (x ∷ xs) m g = may-stop xs (goesTo m x) (g .1)
+
+-- what follows an attribute's name begins with a byte that is none of one
+record Stops (w : List ℕ) : Type 0 where
+  byte : ℕ
+  others : List ℕ
+  is : w ≡ byte ∷ others
+  ends : (m : Mode) → grows m byte ≡ false
+
+stops-blank : (x : ℕ) → isBlank x ≡ true → (m : Mode) → grows m x ≡ false
+unfolding isNamePart isNameStart
+stops-blank x e early = by-blank (λ (y : ℕ). grows early y ≡ false) x e refl refl refl refl
+stops-blank x e colon = by-blank (λ (y : ℕ). grows colon y ≡ false) x e refl refl refl refl
+stops-blank x e late = by-blank (λ (y : ℕ). grows late y ≡ false) x e refl refl refl refl
+
+stops-equal : (m : Mode) → grows m 61 ≡ false
+unfolding isNamePart isNameStart
+stops-equal early = refl
+stops-equal colon = refl
+stops-equal late = refl
+
+stops-before : (g u : List ℕ) → Blanks g → Stops (g ++ (61 ∷ u))
+stops-before [] u b = record { byte = 61; others = u; is = refl; ends = stops-equal }
+stops-before (x ∷ g) u b = record { byte = x; others = g ++ (61 ∷ u); is = refl; ends = stops-blank x (b .0) }
+
+-- a name as the automaton goes over it
+all-late : (xs : List ℕ) → All isNamePart xs → Goes late xs
+all-late [] a = refl
+all-late (x ∷ xs) a = (a .0, all-late xs (a .1))
+
+all-early : (xs ys : List ℕ) → All isNamePart xs → Goes early ys → Goes early (xs ++ ys)
+all-early [] ys a g = g
+all-early (x ∷ xs) ys a g =
+    (ap (λ (z : Bool). z || eqb x 58) (a .0), subst (λ (m : Mode). Goes m (xs ++ ys)) (sym (ap (λ (z : Bool). cond z colon early) (no-colon x (a .0)))) (all-early xs ys (a .1) g))
+
+name-late : (q : List ℕ) → IsName q → Goes colon q
+name-late [] i = absurd i
+name-late (x ∷ q) i = (i .0, all-late q (i .1))
+
+record Split (n : List ℕ) : Type 0 where
+  head : ℕ
+  tail′ : List ℕ
+  is : n ≡ head ∷ tail′
+  starts : isNameStart head ≡ true
+  goes : Goes early tail′
+
+split-plain : (n : List ℕ) → IsName n → Split n
+split-plain [] i = absurd i
+split-plain (x ∷ n) i = record { head = x; tail′ = n; is = refl; starts = i .0; goes = subst (Goes early) (append-nil n) (all-early n [] (i .1) refl) }
+
+split-two : (p q : List ℕ) → IsName p → IsName q → Split (p ++ (58 ∷ q))
+unfolding isNamePart
+split-two [] q i j = absurd i
+split-two (x ∷ p) q i j = record { head = x; tail′ = p ++ (58 ∷ q); is = refl; starts = i .0; goes = all-early p (58 ∷ q) (i .1) (refl, name-late q j) }
+
+split : (n : List ℕ) → IsAttrName n → Split n
+split n (IsAttrName.unprefixed i) = split-plain n i
+split n (IsAttrName.prefixed p q i j e) = subst Split (sym e) (split-two p q i j)
+
+attr-ends : (m : Mode) (b : List ℕ) (k : ℕ) (ss : List (List ℕ)) (d : ℕ) (n : List ℕ) (ns : List (List ℕ)) (w : List ℕ) → mayStop m ≡ true → Fresh b ss → Stops w → run (at (attr m b k ss d n ns)) w ≡ run (at (equals k (b ∷ ss) d n ns)) w
+unfolding next
+attr-ends m b k ss d n ns w y f h = rw (h .is) (go (attr m b k ss d n ns) (h .byte) (h .others) (rw (h .ends m, y, fresh-member b ss f) refl) ∙ sym (go (equals k (b ∷ ss) d n ns) (h .byte) (h .others) refl))
 
 -- pieces
 apart : (x y : ℕ) → lead x ≢ lead y → eqb x y ≡ false
@@ -129,10 +195,12 @@ module _ (d : ℕ) (n : List ℕ) (ns : List (List ℕ)) where
   tail-gap k ss [] u b = absurd b
   tail-gap k ss (x ∷ g) u b = go (tail k ss d n ns) x (g ++ u) (rw (b .0) refl) ∙ loop (gap k ss d n ns) (gap-loop k ss) g u (b .1)
 
-  gap-name : (k : ℕ) (ss : List (List ℕ)) (m u : List ℕ) → IsName m → run (at (gap (suc k) ss d n ns)) (m ++ u) ≡ run (at (attr m k ss d n ns)) u
+  gap-name : (k : ℕ) (ss : List (List ℕ)) (n′ u : List ℕ) (o : Split n′) → run (at (gap (suc k) ss d n ns)) (n′ ++ u) ≡ run (at (attr (modeAfter early (o .tail′)) n′ k ss d n ns)) u
   unfolding next
-  gap-name k ss [] u i = absurd i
-  gap-name k ss (x ∷ m) u i = go (gap (suc k) ss d n ns) x (m ++ u) (rw (i .0) refl) ∙ attr-run m (x ∷ []) k ss d n ns u (i .1)
+  gap-name k ss n′ u o =
+      ap (λ (z : List ℕ). run (at (gap (suc k) ss d n ns)) (z ++ u)) (o .is)
+      ∙ go (gap (suc k) ss d n ns) (o .head) (o .tail′ ++ u) (rw (o .starts) refl) ∙ attr-run (o .tail′) early (o .head ∷ []) k ss d n ns u (o .goes)
+      ∙ ap (λ (z : List ℕ). run (at (attr (modeAfter early (o .tail′)) z k ss d n ns)) u) (sym (o .is))
 
   equals-run : (k : ℕ) (ss : List (List ℕ)) (g u : List ℕ) → Blanks g → run (at (equals k ss d n ns)) (g ++ (61 ∷ u)) ≡ run (at (quote k ss d n ns)) u
   unfolding next isBlank
@@ -151,8 +219,8 @@ module _ (d : ℕ) (n : List ℕ) (ns : List (List ℕ)) where
   unfolding isNamePart
   attr-one k ss a u g f =
       tail-gap (suc k) ss (a .gap) _ (g .gap)
-      ∙ gap-name k ss (a .name) _ (g .name)
-      ∙ attr-ends (a .name) k ss d n ns _ f (head-blanks (a .before) 61 _ (g .before) refl)
+      ∙ gap-name k ss (a .name) _ (split (a .name) (g .name))
+      ∙ attr-ends (modeAfter early (split (a .name) (g .name) .tail′)) (a .name) k ss d n ns _ (may-stop (split (a .name) (g .name) .tail′) early (split (a .name) (g .name) .goes)) f (stops-before (a .before) _ (g .before))
       ∙ equals-run k (a .name ∷ ss) (a .before) _ (g .before)
       ∙ quote-run k (a .name ∷ ss) (a .quote) (a .after) _ (g .after)
       ∙ value-run (a .quote) k (a .name ∷ ss) d n ns (a .value) u (g .value)

@@ -1,6 +1,7 @@
 -- What each state of the automaton still takes, as renderings of trees. Assumes nothing.
 use mathlib.Core.Path.{_≡_, refl, sym, _∙_, ap, subst}
-use mathlib.Core.Bool.{Bool, true, false, cond, _&&_}
+use mathlib.Core.Bool.{Bool, true, false, cond, _&&_, _||_, false≢true}
+use mathlib.Core.Logic.{_⊎_, inl, inr}
 use mathlib.Core.List.{List, [], _∷_, _++_, append-assoc, append-nil}
 use Prim.Native.Nat.{ℕ, zero, suc, _<_}
 use native.Mathlib.Omega.{arith}
@@ -8,12 +9,12 @@ use lib.Dec.{leb, eqb}
 use borrow.Author.Tests.{eqb-true, eqb-false, eq-eqb}
 use Rattle.text.specs.Bytes.{ascii, isBlank, isNameStart, isNamePart}
 use Rattle.text_characters.specs.Utf8.{encode}
-use Rattle.text.specs.Lists.{All}
+use Rattle.text.specs.Lists.{All, Begins}
 use Rattle.text_characters.specs.Pieces.{Piece, char, spell}
-use Rattle.xml.specs.House.{Blanks, Quote, single, double, mark, GoodValue, Attr, Fresh, GoodAttrs, Tag, GoodTag, Content, end, piece, empty, full, declaration}
+use Rattle.xml.specs.House.{Blanks, Quote, single, double, mark, GoodValue, IsAttrName, Attr, Fresh, GoodAttrs, Tag, GoodTag, Content, end, piece, empty, full, declaration}
 use Rattle.xml.proofs.Runs.{cuts, brackets, GoodAfter}
-use Rattle.xml.specs.Auto.{Part, one, two, three, e0, ed, ef, efbf, f0, f4, ampersand, ampersandA, rest, Read, bad, all, more, toWord, lead, go-on, takes, At, done, start, first, before, root, declare, name, tail, gap, attr, equals, quote, value, within, slash, content, part, less, close, St, dead, at, member, after, tailStep, endStep, gapStep, equalsStep, valueNext, contentNext, push, closeStep, declareNext, next}
-use Rattle.xml.proofs.Basics.{member-fresh, size, many, many-rest, grown}
+use Rattle.xml.specs.Auto.{Part, one, two, three, e0, ed, ef, efbf, f0, f4, ampersand, ampersandA, rest, Read, bad, all, more, toWord, lead, go-on, takes, At, done, start, first, before, root, declare, name, tail, gap, attr, Mode, early, colon, late, grows, goesTo, mayStop, equals, quote, value, within, slash, content, part, less, close, St, dead, at, member, after, tailStep, endStep, gapStep, equalsStep, valueNext, contentNext, push, closeStep, declareNext, next}
+use Rattle.xml.proofs.Basics.{member-fresh, size, many, grown}
 use Rattle.xml.proofs.Pieces.{short, found, plain-not, plain-cuts, plain-brackets}
 
 -- the bytes of a part of a tree, and then u
@@ -89,9 +90,14 @@ pub record EqualsL (k : ℕ) (ss : List (List ℕ)) (E : List ℕ → Type 0) (t
   pub is : t ≡ gap ++ (61 ∷ rest)
   pub then : QuoteL k ss E rest
 
-pub record AttrL (b : List ℕ) (k : ℕ) (ss : List (List ℕ)) (E : List ℕ → Type 0) (t : List ℕ) : Type 0 where
+-- the rest of an attribute's name
+abbrev pub Goes : Mode → List ℕ → Type 0
+Goes m [] = mayStop m ≡ true
+Goes m (x ∷ xs) = (grows m x ≡ true) × Goes (goesTo m x) xs
+
+pub record AttrL (m : Mode) (b : List ℕ) (k : ℕ) (ss : List (List ℕ)) (E : List ℕ → Type 0) (t : List ℕ) : Type 0 where
   pub letters : List ℕ
-  pub are : All isNamePart letters
+  pub are : Goes m letters
   pub fresh : Fresh (b ++ letters) ss
   pub rest : List ℕ
   pub is : t ≡ letters ++ rest
@@ -99,7 +105,7 @@ pub record AttrL (b : List ℕ) (k : ℕ) (ss : List (List ℕ)) (E : List ℕ �
 
 pub data GapL (k : ℕ) (ss : List (List ℕ)) (E : List ℕ → Type 0) (t : List ℕ) : Type 0 where
   g-end : (g : List ℕ) → Blanks g → (u : List ℕ) → t ≡ g ++ u → E u → GapL k ss E t
-  g-attr : (g : List ℕ) → Blanks g → (x : ℕ) → isNameStart x ≡ true → (k′ : ℕ) → k ≡ suc k′ → (u : List ℕ) → t ≡ g ++ (x ∷ u) → AttrL (x ∷ []) k′ ss E u → GapL k ss E t
+  g-attr : (g : List ℕ) → Blanks g → (x : ℕ) → isNameStart x ≡ true → (k′ : ℕ) → k ≡ suc k′ → (u : List ℕ) → t ≡ g ++ (x ∷ u) → AttrL early (x ∷ []) k′ ss E u → GapL k ss E t
 
 pub record NameL (d : ℕ) (n : List ℕ) (ns : List (List ℕ)) (t : List ℕ) : Type 0 where
   pub letters : List ℕ
@@ -167,7 +173,7 @@ L (declare y q) t = (u : List ℕ) × (t ≡ y ∷ (q ++ u)) × BeforeL u
 L (name d n ns) t = NameL d n ns t
 L (tail k ss d n ns) t = TailL k ss (EndL d n ns) t
 L (gap k ss d n ns) t = GapL k ss (EndL d n ns) t
-L (attr b k ss d n ns) t = AttrL b k ss (EndL d n ns) t
+L (attr m b k ss d n ns) t = AttrL m b k ss (EndL d n ns) t
 L (equals k ss d n ns) t = EqualsL k ss (EndL d n ns) t
 L (quote k ss d n ns) t = QuoteL k ss (EndL d n ns) t
 L (value q k ss d n ns) t = ValueL q k ss (EndL d n ns) t
@@ -213,6 +219,48 @@ end-back d n ns x t h =
     pick (eqb x 62) h (λ e g. opens t (put′ (eqb-true x 62 e) refl) (g .is))
     (λ _ g. only x 47 g (λ e g. shuts (g .is .0) (put′ e (g .is .1)) (g .is .2)))
 
+or-left : (a b : Bool) → b ≡ false → (a || b) ≡ true → a ≡ true
+or-left true b e h = refl
+or-left false b e h = absurd (false≢true (sym e ∙ h))
+
+-- the second name, and the first with what follows it
+second-of : (xs : List ℕ) → Goes late xs → All isNamePart xs
+second-of [] g = tt
+second-of (x ∷ xs) g = (g .0, second-of xs (g .1))
+
+pub record Named (xs : List ℕ) : Type 0 where
+  pub letters : List ℕ
+  pub are : All isNamePart letters
+  pub tail′ : List ℕ
+  pub is : xs ≡ letters ++ tail′
+  pub then : (tail′ ≡ []) ⊎ ((q : List ℕ) × Begins isNameStart isNamePart q × (tail′ ≡ 58 ∷ q))
+
+front-of : (xs : List ℕ) → Goes early xs → Named xs
+front-of [] g = record { letters = []; are = tt; tail′ = []; is = refl; then = inl refl }
+front-of (x ∷ xs) g = go (eqb x 58) refl (front-of xs)
+  where
+    part-of : eqb x 58 ≡ false → (isNamePart x || eqb x 58) ≡ true → isNamePart x ≡ true
+    part-of e h = or-left (isNamePart x) (eqb x 58) e h
+
+    behind : (ys : List ℕ) → Goes colon ys → Begins isNameStart isNamePart ys
+    behind [] h = absurd (false≢true h)
+    behind (y ∷ ys) h = (h .0, second-of ys (h .1))
+
+    go : (b : Bool) → eqb x 58 ≡ b → (Goes early xs → Named xs) → Named (x ∷ xs)
+    go true e ih = record { letters = []; are = tt; tail′ = x ∷ xs; is = refl; then = inr (xs, behind xs (subst (λ (m : Mode). Goes m xs) (ap (λ (z : Bool). cond z colon early) e) (g .1)), put′ (eqb-true x 58 e) refl) }
+    go false e ih =
+        let o = ih (subst (λ (m : Mode). Goes m xs) (ap (λ (z : Bool). cond z colon early) e) (g .1)) in
+        record { letters = x ∷ o .letters; are = (part-of e (g .0), o .are); tail′ = o .tail′; is = put x (o .is); then = o .then }
+
+name-of : (y : ℕ) (xs : List ℕ) → isNameStart y ≡ true → Goes early xs → IsAttrName (y ∷ xs)
+name-of y xs s g = go (front-of xs g)
+  where
+    go : Named xs → IsAttrName (y ∷ xs)
+    go o = elim (o .then) [
+      | inl e ↦ IsAttrName.unprefixed (s, subst (All isNamePart) (sym (o .is ∙ ap (λ (z : List ℕ). o .letters ++ z) e ∙ append-nil (o .letters))) (o .are))
+      | inr q ↦ IsAttrName.prefixed (y ∷ o .letters) (q .0) (s, o .are) (q .1) (put y (o .is ∙ ap (λ (z : List ℕ). o .letters ++ z) (q .2)))
+    ]
+
 attach : (k : ℕ) (ss : List (List ℕ)) (E : List ℕ → Type 0) (x : ℕ) (t : List ℕ) → isBlank x ≡ true → GapL k ss E t → TailL k ss E (x ∷ t)
 attach k ss E x t e (g-end g bs u et h) = record { attributes = []; good = tt; gap = x ∷ g; blanks = (e, bs); rest = u; is = put x et; then = h }
 attach k ss E x t e (g-attr g bs y ys k′ ek u et a) =
@@ -223,7 +271,7 @@ attach k ss E x t e (g-attr g bs y ys k′ ek u et a) =
     let one : Attr = record { gap = x ∷ g; name = y ∷ a .letters; before = eq .gap; after = qu .gap; quote = qu .quote; value = va .value } in
     record {
       attributes = one ∷ ta .attributes;
-      good = rw ek (record { gap = (e, bs); name = (ys, a .are); before = eq .blanks; after = qu .blanks; value = va .good }, a .fresh, ta .good);
+      good = rw ek (record { gap = (e, bs); name = name-of y (a .letters) ys (a .are); before = eq .blanks; after = qu .blanks; value = va .good }, a .fresh, ta .good);
       gap = ta .gap;
       blanks = ta .blanks;
       rest = ta .rest;
@@ -261,12 +309,13 @@ equals-back k ss d n ns x t h =
     (λ e g. let o = g .is in record { gap = x ∷ o .gap; blanks = (e, o .blanks); rest = o .rest; is = put x (o .is); then = o .then })
     (λ _ g. only x 61 g (λ e g. record { gap = []; blanks = tt; rest = t; is = put′ e refl; then = g .is }))
 
-attr-back : (b : List ℕ) (k : ℕ) (ss : List (List ℕ)) (d : ℕ) (n : List ℕ) (ns : List (List ℕ)) (x : ℕ) (t : List ℕ) → LS (cond (isNamePart x) (at (attr (b ++ (x ∷ [])) k ss d n ns)) (cond (member b ss) dead (equalsStep k (b ∷ ss) d n ns x))) t → AttrL b k ss (EndL d n ns) (x ∷ t)
-attr-back b k ss d n ns x t h =
-    pick (isNamePart x) h
+attr-back : (m : Mode) (b : List ℕ) (k : ℕ) (ss : List (List ℕ)) (d : ℕ) (n : List ℕ) (ns : List (List ℕ)) (x : ℕ) (t : List ℕ)
+    → LS (cond (grows m x) (at (attr (goesTo m x) (b ++ (x ∷ [])) k ss d n ns)) (cond (mayStop m) (cond (member b ss) dead (equalsStep k (b ∷ ss) d n ns x)) dead)) t → AttrL m b k ss (EndL d n ns) (x ∷ t)
+attr-back m b k ss d n ns x t h =
+    pick (grows m x) h
     (λ e g. let o = g .is in record { letters = x ∷ o .letters; are = (e, o .are); fresh = rw append-assoc at (o .fresh); rest = o .rest; is = put x (o .is); then = rw append-assoc at (o .then) })
-    (λ _ g. pick (member b ss) g (λ _ g. no g)
-    (λ f g. record { letters = []; are = tt; fresh = rw append-nil (member-fresh b ss f); rest = x ∷ t; is = refl; then = rw append-nil (equals-back k (b ∷ ss) d n ns x t g) }))
+    (λ _ g. pick (mayStop m) g (λ y g. pick (member b ss) g (λ _ g. no g)
+    (λ f g. record { letters = []; are = y; fresh = rw append-nil (member-fresh b ss f); rest = x ∷ t; is = refl; then = rw append-nil (equals-back k (b ∷ ss) d n ns x t g) })) (λ _ g. no g))
 
 quote-back : (k : ℕ) (ss : List (List ℕ)) (d : ℕ) (n : List ℕ) (ns : List (List ℕ)) (x : ℕ) (t : List ℕ) → LS (next (quote k ss d n ns) x) t → QuoteL k ss (EndL d n ns) (x ∷ t)
 unfolding next
@@ -432,7 +481,7 @@ back (declare y q) x t h = declare-back y q x t h
 back (name d n ns) x t h = name-back d n ns x t h
 back (tail k ss d n ns) x t h = tail-back k ss d n ns x t h
 back (gap k ss d n ns) x t h = gap-back k ss d n ns x t h
-back (attr b k ss d n ns) x t h = attr-back b k ss d n ns x t h
+back (attr m b k ss d n ns) x t h = attr-back m b k ss d n ns x t h
 back (equals k ss d n ns) x t h = equals-back k ss d n ns x t h
 back (quote k ss d n ns) x t h = quote-back k ss d n ns x t h
 back (value q k ss d n ns) x t h = value-back q k ss d n ns x t h
@@ -466,11 +515,24 @@ quote-live k ss d n ns = let w = value-live double k ss d n ns in (34 ∷ w .0, 
 equals-live : (k : ℕ) (ss : List (List ℕ)) (d : ℕ) (n : List ℕ) (ns : List (List ℕ)) → (u : List ℕ) × EqualsL k ss (EndL d n ns) u
 equals-live k ss d n ns = let w = quote-live k ss d n ns in (61 ∷ w .0, record { gap = []; blanks = tt; rest = w .0; is = refl; then = w .1 })
 
-attr-live : (b : List ℕ) (k : ℕ) (ss : List (List ℕ)) (d : ℕ) (n : List ℕ) (ns : List (List ℕ)) → (u : List ℕ) × AttrL b k ss (EndL d n ns) u
-attr-live b k ss d n ns =
-    let m = many (suc (size ss)) in
-    let w = equals-live k ((b ++ m) ∷ ss) d n ns in
-    (m ++ w .0, record { letters = m; are = many-rest (suc (size ss)); fresh = grown b ss; rest = w .0; is = refl; then = w .1 })
+-- letters that end a name in each mode
+many-back : (k : ℕ) → Goes late (many k)
+unfolding isNamePart
+many-back zero = refl
+many-back (suc k) = (refl, many-back k)
+
+many-goes : (m : Mode) (k : ℕ) → Goes m (many (suc k))
+unfolding isNamePart isNameStart
+many-goes early zero = (refl, refl)
+many-goes early (suc k) = (refl, many-goes early k)
+many-goes colon k = (refl, many-back k)
+many-goes late k = (refl, many-back k)
+
+attr-live : (m : Mode) (b : List ℕ) (k : ℕ) (ss : List (List ℕ)) (d : ℕ) (n : List ℕ) (ns : List (List ℕ)) → (u : List ℕ) × AttrL m b k ss (EndL d n ns) u
+attr-live m b k ss d n ns =
+    let l = many (suc (size ss)) in
+    let w = equals-live k ((b ++ l) ∷ ss) d n ns in
+    (l ++ w .0, record { letters = l; are = many-goes m (size ss); fresh = grown b ss; rest = w .0; is = refl; then = w .1 })
 
 name-live : (d : ℕ) (n : List ℕ) (ns : List (List ℕ)) → (u : List ℕ) × NameL d n ns u
 name-live d n ns = let w = tail-live 4 [] d (n ++ []) ns in (w .0, record { letters = []; are = tt; rest = w .0; is = refl; then = w .1 })
@@ -529,7 +591,7 @@ live (declare y q) = let w = before-live in (y ∷ (q ++ w .0), (w .0, refl, w .
 live (name d n ns) = name-live d n ns
 live (tail k ss d n ns) = tail-live k ss d n ns
 live (gap k ss d n ns) = let w = end-live d n ns in (w .0, g-end [] tt (w .0) refl (w .1))
-live (attr b k ss d n ns) = attr-live b k ss d n ns
+live (attr m b k ss d n ns) = attr-live m b k ss d n ns
 live (equals k ss d n ns) = equals-live k ss d n ns
 live (quote k ss d n ns) = quote-live k ss d n ns
 live (value q k ss d n ns) = value-live q k ss d n ns

@@ -11,12 +11,12 @@ use borrow.Author.Tests.{ltb-true, ltb-false}
 use Rattle.text.specs.Bytes.{isBlank, isNameStart, isNamePart}
 use Rattle.text_characters.specs.Pieces.{XmlChar, tab, line, return, low, middle, high}
 use Rattle.text_characters.specs.Utf8.{encode}
-use Rattle.text.specs.Lists.{All}
+use Rattle.text.specs.Lists.{All, Begins}
 use Rattle.text_characters.specs.Pieces.{Entity, amp, lt, gt, quot, apos, word, Piece, char, entity, spell, GoodPiece}
-use Rattle.xml.specs.House.{Blanks, SomeBlanks, IsName, Quote, single, double, mark, GoodValue, Attr, GoodAttr, GoodAttrs, Tag, GoodTag, Content, end, piece, empty, full, OneElement, declaration, Tree, GoodTree, whole}
+use Rattle.xml.specs.House.{Blanks, SomeBlanks, Quote, single, double, mark, GoodValue, Attr, GoodAttr, GoodAttrs, Tag, GoodTag, Content, end, piece, empty, full, OneElement, declaration, Tree, GoodTree, whole}
 use Rattle.xml.proofs.Runs.{brackets, GoodAfter, to-after}
 use Rattle.xml.specs.Auto.{Part, Read, bad, all, more, lead, go-on, takes}
-use Rattle.xml.proofs.Basics.{blank-no-rest, blank-no-start}
+use Rattle.xml.proofs.Basics.{blank-no-rest, blank-no-start, isFullPart, blank-no-full, full-name}
 use Rattle.xml.proofs.Pieces.{Seen, s-short, s-long, seen}
 use Rattle.xml.proofs.Lang.{spellsOn, attrOn, attrsOn, tagOn, endOn, on}
 use Rattle.xml.proofs.Render.{render-on}
@@ -201,9 +201,9 @@ some-all : (g : List ℕ) → SomeBlanks g → Blanks g
 some-all [] b = absurd b
 some-all (x ∷ g) b = b
 
-stop-name : (m w : List ℕ) → IsName m → Stop isBlank (m ++ w)
-stop-name [] w i = absurd i
-stop-name (x ∷ m) w i = record { byte = x; others = m ++ w; is = refl; ends = start-no-blank x (i .0) }
+stop-name : (p : ℕ → Bool) (m w : List ℕ) → Begins isNameStart p m → Stop isBlank (m ++ w)
+stop-name p [] w i = absurd i
+stop-name p (x ∷ m) w i = record { byte = x; others = m ++ w; is = refl; ends = start-no-blank x (i .0) }
 
 stop-mark : (q : Quote) (w : List ℕ) → Stop isBlank (mark q ∷ w)
 unfolding isBlank
@@ -213,29 +213,30 @@ stop-mark double w = record { byte = 34; others = w; is = refl; ends = refl }
 stop-at : (p : ℕ → Bool) (x : ℕ) (w : List ℕ) → p x ≡ false → Stop p (x ∷ w)
 stop-at p x w e = record { byte = x; others = w; is = refl; ends = e }
 
-stop-blanks : (g : List ℕ) (z : ℕ) (u : List ℕ) → Blanks g → isNamePart z ≡ false → Stop isNamePart (g ++ (z ∷ u))
-stop-blanks [] z u b e = stop-at isNamePart z u e
-stop-blanks (x ∷ g) z u b e = stop-at isNamePart x (g ++ (z ∷ u)) (blank-no-rest x (b .0))
+stop-blanks : (p : ℕ → Bool) → ((x : ℕ) → isBlank x ≡ true → p x ≡ false) → (g : List ℕ) (z : ℕ) (u : List ℕ) → Blanks g → p z ≡ false → Stop p (g ++ (z ∷ u))
+stop-blanks p f [] z u b e = stop-at p z u e
+stop-blanks p f (x ∷ g) z u b e = stop-at p x (g ++ (z ∷ u)) (f x (b .0))
 
 stop-some : (g u : List ℕ) → SomeBlanks g → Stop isNamePart (g ++ u)
 stop-some [] u b = absurd b
 stop-some (x ∷ g) u b = stop-at isNamePart x (g ++ u) (blank-no-rest x (b .0))
 
 stop-attrs : (l : List Attr) (k : ℕ) (ss : List (List ℕ)) (g : List ℕ) (z : ℕ) (u : List ℕ) → GoodAttrs k ss l → Blanks g → isNamePart z ≡ false → Stop isNamePart (attrsOn l (g ++ (z ∷ u)))
-stop-attrs [] k ss g z u h b e = stop-blanks g z u b e
+stop-attrs [] k ss g z u h b e = stop-blanks isNamePart blank-no-rest g z u b e
 stop-attrs (a ∷ l) zero ss g z u h b e = absurd h
 stop-attrs (a ∷ l) (suc k) ss g z u h b e = stop-some (a .gap) _ (h .0 .gap)
 
-name-one : (m n u v : List ℕ) → IsName m → IsName n → Stop isNamePart u → Stop isNamePart v → m ++ u ≡ n ++ v → Same m n u v
-name-one [] n u v i j s t e = absurd i
-name-one (x ∷ m) [] u v i j s t e = absurd j
-name-one (x ∷ m) (y ∷ n) u v i j s t e =
-    let r = spans isNamePart m n u v (i .1) (j .1) s t (tail-eq-of-cons-eq e) in
+-- names, be they a tag's or an attribute's
+name-one : (p : ℕ → Bool) (m n u v : List ℕ) → Begins isNameStart p m → Begins isNameStart p n → Stop p u → Stop p v → m ++ u ≡ n ++ v → Same m n u v
+name-one p [] n u v i j s t e = absurd i
+name-one p (x ∷ m) [] u v i j s t e = absurd j
+name-one p (x ∷ m) (y ∷ n) u v i j s t e =
+    let r = spans p m n u v (i .1) (j .1) s t (tail-eq-of-cons-eq e) in
     record { first = ap₂ _∷_ (head-eq-of-cons-eq e) (r .first); rest = r .rest }
 
-no-name : (z : ℕ) (u m w : List ℕ) → isNameStart z ≡ false → IsName m → z ∷ u ≡ m ++ w → ⊥
-no-name z u [] w f i e = i
-no-name z u (x ∷ m) w f i e = true≢false (sym (i .0) ∙ ap isNameStart (sym (head-eq-of-cons-eq e)) ∙ f)
+no-name : (p : ℕ → Bool) (z : ℕ) (u m w : List ℕ) → isNameStart z ≡ false → Begins isNameStart p m → z ∷ u ≡ m ++ w → ⊥
+no-name p z u [] w f i e = i
+no-name p z u (x ∷ m) w f i e = true≢false (sym (i .0) ∙ ap isNameStart (sym (head-eq-of-cons-eq e)) ∙ f)
 
 mark-one : (q r : Quote) → mark q ≡ mark r → q ≡ r
 mark-one single single e = refl
@@ -250,8 +251,10 @@ attr-is {a} {b} {c} {d} {f} {g} {h} {i} {q} {r} {v} {w} e1 e2 e3 e4 e5 e6 = rw (
 attr-one : (a b : Attr) (u v : List ℕ) → GoodAttr a → GoodAttr b → attrOn a u ≡ attrOn b v → Same a b u v
 unfolding isBlank isNamePart
 attr-one a b u v g h e =
-    let s1 = spans isBlank (a .gap) (b .gap) _ _ (some-all (a .gap) (g .gap)) (some-all (b .gap) (h .gap)) (stop-name (a .name) _ (g .name)) (stop-name (b .name) _ (h .name)) e in
-    let s2 = name-one (a .name) (b .name) _ _ (g .name) (h .name) (stop-blanks (a .before) 61 _ (g .before) refl) (stop-blanks (b .before) 61 _ (h .before) refl) (s1 .rest) in
+    let m = full-name (a .name) (g .name) in
+    let n = full-name (b .name) (h .name) in
+    let s1 = spans isBlank (a .gap) (b .gap) _ _ (some-all (a .gap) (g .gap)) (some-all (b .gap) (h .gap)) (stop-name isFullPart (a .name) _ m) (stop-name isFullPart (b .name) _ n) e in
+    let s2 = name-one isFullPart (a .name) (b .name) _ _ m n (stop-blanks isFullPart blank-no-full (a .before) 61 _ (g .before) refl) (stop-blanks isFullPart blank-no-full (b .before) 61 _ (h .before) refl) (s1 .rest) in
     let s3 = spans isBlank (a .before) (b .before) _ _ (g .before) (h .before) (stop-at isBlank 61 _ refl) (stop-at isBlank 61 _ refl) (s2 .rest) in
     let s4 = spans isBlank (a .after) (b .after) _ _ (g .after) (h .after) (stop-mark (a .quote) _) (stop-mark (b .quote) _) (tail-eq-of-cons-eq (s3 .rest)) in
     let q = mark-one (a .quote) (b .quote) (head-eq-of-cons-eq (s4 .rest)) in
@@ -267,8 +270,8 @@ record Attributes (l m : List Attr) (g h u v : List ℕ) : Type 0 where
 module _ (z y : ℕ) (bz : isBlank z ≡ false) (by : isBlank y ≡ false) (nz : isNameStart z ≡ false) (ny : isNameStart y ≡ false) where
   no-attr : (x : ℕ) (a : Attr) (g u w : List ℕ) → isBlank x ≡ false → isNameStart x ≡ false → GoodAttr a → Blanks g → g ++ (x ∷ u) ≡ attrOn a w → ⊥
   no-attr x a g u w bx nx ga b e =
-      let s = spans isBlank g (a .gap) (x ∷ u) _ b (some-all (a .gap) (ga .gap)) (stop-at isBlank x u bx) (stop-name (a .name) _ (ga .name)) e in
-      no-name x u (a .name) _ nx (ga .name) (s .rest)
+      let s = spans isBlank g (a .gap) (x ∷ u) _ b (some-all (a .gap) (ga .gap)) (stop-at isBlank x u bx) (stop-name isFullPart (a .name) _ (full-name (a .name) (ga .name))) e in
+      no-name isFullPart x u (a .name) _ nx (full-name (a .name) (ga .name)) (s .rest)
 
   attrs-one : (l m : List Attr) (k k′ : ℕ) (ss ss′ : List (List ℕ)) (g h u v : List ℕ) → GoodAttrs k ss l → GoodAttrs k′ ss′ m → Blanks g → Blanks h → attrsOn l (g ++ (z ∷ u)) ≡ attrsOn m (h ++ (y ∷ v)) → Attributes l m g h (z ∷ u) (y ∷ v)
   attrs-one [] [] k k′ ss ss′ g h u v p q b c e = let s = spans isBlank g h (z ∷ u) (y ∷ v) b c (stop-at isBlank z u bz) (stop-at isBlank y v by) e in record { attributes = refl; gap = s .first; rest = s .rest }
@@ -285,7 +288,7 @@ module _ (z y : ℕ) (bz : isBlank z ≡ false) (by : isBlank y ≡ false) (nz :
 
   tag-one : (t s : Tag) (u v : List ℕ) → isNamePart z ≡ false → isNamePart y ≡ false → GoodTag t → GoodTag s → tagOn t (z ∷ u) ≡ tagOn s (y ∷ v) → Same t s (z ∷ u) (y ∷ v)
   tag-one t s u v rz ry g h e =
-      let m = name-one (t .name) (s .name) _ _ (g .name) (h .name) (stop-attrs (t .attributes) 4 [] (t .gap) z u (g .attributes) (g .gap) rz) (stop-attrs (s .attributes) 4 [] (s .gap) y v (h .attributes) (h .gap) ry) e in
+      let m = name-one isNamePart (t .name) (s .name) _ _ (g .name) (h .name) (stop-attrs (t .attributes) 4 [] (t .gap) z u (g .attributes) (g .gap) rz) (stop-attrs (s .attributes) 4 [] (s .gap) y v (h .attributes) (h .gap) ry) e in
       let r = attrs-one (t .attributes) (s .attributes) 4 4 [] [] (t .gap) (s .gap) u v (g .attributes) (h .attributes) (g .gap) (h .gap) (m .rest) in
       record { first = tag-is (m .first) (r .attributes) (r .gap); rest = r .rest }
     where
@@ -306,7 +309,7 @@ unfolding isBlank isNameStart isNamePart
 slash-open t s u v g h e = let r = tag-one 47 62 refl refl refl refl t s u v refl refl g h e in let f : _≡_ {A = ℕ} 47 62 = head-eq-of-cons-eq (r .rest) in omega arith
 
 no-tag : (z : ℕ) (u : List ℕ) (t : Tag) (w : List ℕ) → isNameStart z ≡ false → GoodTag t → z ∷ u ≡ tagOn t w → ⊥
-no-tag z u t w f g e = no-name z u (t .name) _ f (g .name) e
+no-tag z u t w f g e = no-name isNamePart z u (t .name) _ f (g .name) e
 
 -- content up to the end tag
 pub record Both (a b : Content) (g h u v : List ℕ) : Type 0 where

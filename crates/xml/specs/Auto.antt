@@ -69,6 +69,25 @@ takes (y ∷ l) bad = false
 takes (y ∷ l) all = false
 takes (y ∷ l) (more p) = takes l (go-on p y)
 
+-- within an attribute's name: in the first name, just after the colon, in the second name
+pub data Mode : Type 0 where
+  early colon late : Mode
+
+abbrev pub grows : Mode → ℕ → Bool
+grows early x = isNamePart x || eqb x 58
+grows colon x = isNameStart x
+grows late x = isNamePart x
+
+abbrev pub goesTo : Mode → ℕ → Mode
+goesTo early x = cond (eqb x 58) colon early
+goesTo colon x = late
+goesTo late x = late
+
+abbrev pub mayStop : Mode → Bool
+mayStop early = true
+mayStop colon = false
+mayStop late = true
+
 -- The states that some text goes on from. d: levels left below the element; n: its name; ns: the names around it; k: attributes
 -- that may still come; ss: attribute names seen; r: brackets seen
 pub data At : Type 0 where
@@ -77,7 +96,7 @@ pub data At : Type 0 where
   name : ℕ → List ℕ → List (List ℕ) → At
   tail : ℕ → List (List ℕ) → ℕ → List ℕ → List (List ℕ) → At
   gap : ℕ → List (List ℕ) → ℕ → List ℕ → List (List ℕ) → At
-  attr : List ℕ → ℕ → List (List ℕ) → ℕ → List ℕ → List (List ℕ) → At
+  attr : Mode → List ℕ → ℕ → List (List ℕ) → ℕ → List ℕ → List (List ℕ) → At
   equals : ℕ → List (List ℕ) → ℕ → List ℕ → List (List ℕ) → At
   quote : ℕ → List (List ℕ) → ℕ → List ℕ → List (List ℕ) → At
   value : Quote → ℕ → List (List ℕ) → ℕ → List ℕ → List (List ℕ) → At
@@ -108,7 +127,7 @@ tailStep k ss d n ns x = cond (isBlank x) (at (gap k ss d n ns)) (endStep d n ns
 
 abbrev pub gapStep : ℕ → List (List ℕ) → ℕ → List ℕ → List (List ℕ) → ℕ → St
 gapStep zero ss d n ns x = dead
-gapStep (suc k) ss d n ns x = at (attr (x ∷ []) k ss d n ns)
+gapStep (suc k) ss d n ns x = at (attr early (x ∷ []) k ss d n ns)
 
 abbrev pub equalsStep : ℕ → List (List ℕ) → ℕ → List ℕ → List (List ℕ) → ℕ → St
 equalsStep k ss d n ns x = cond (isBlank x) (at (equals k ss d n ns)) (cond (eqb x 61) (at (quote k ss d n ns)) dead)
@@ -147,8 +166,8 @@ next (declare y q) x = cond (eqb x y) (at (declareNext q)) dead
 next (name d n ns) x = cond (isNamePart x) (at (name d (n ++ (x ∷ [])) ns)) (tailStep 4 [] d n ns x)
 next (tail k ss d n ns) x = tailStep k ss d n ns x
 next (gap k ss d n ns) x = cond (isNameStart x) (gapStep k ss d n ns x) (tailStep k ss d n ns x)
-next (attr b k ss d n ns) x =
-    cond (isNamePart x) (at (attr (b ++ (x ∷ [])) k ss d n ns)) (cond (member b ss) dead (equalsStep k (b ∷ ss) d n ns x))
+next (attr m b k ss d n ns) x =
+    cond (grows m x) (at (attr (goesTo m x) (b ++ (x ∷ [])) k ss d n ns)) (cond (mayStop m) (cond (member b ss) dead (equalsStep k (b ∷ ss) d n ns x)) dead)
 next (equals k ss d n ns) x = equalsStep k ss d n ns x
 next (quote k ss d n ns) x =
     cond (isBlank x) (at (quote k ss d n ns))

@@ -20,6 +20,11 @@ SomeBlanks l = Begins isBlank isBlank l
 abbrev pub IsName : List ℕ → Type 0
 IsName l = Begins isNameStart isNamePart l
 
+-- "Attribute names may hold one colon between two names; element names may not"
+pub data IsAttrName (n : List ℕ) : Type 0 where
+  unprefixed : IsName n → IsAttrName n
+  prefixed : (p q : List ℕ) → IsName p → IsName q → n ≡ p ++ (58 ∷ q) → IsAttrName n
+
 -- "either quote"
 pub data Quote : Type 0 where
   single double : Quote
@@ -51,7 +56,7 @@ attrs (a ∷ more) = attr a ++ attrs more
 
 pub record GoodAttr (a : Attr) : Type 0 where
   pub gap : SomeBlanks (a .gap)
-  pub name : IsName (a .name)
+  pub name : IsAttrName (a .name)
   pub before : Blanks (a .before)
   pub after : Blanks (a .after)
   pub value : GoodValue (a .quote) (a .value)

@@ -13,6 +13,10 @@ pub mod Text
 pub mod Attributes
 -- names as places in the text
 pub mod Names
+-- a name as the automaton reads it
+pub mod Grown
+-- an attribute's name, which may hold a colon
+pub mod FullNames
 -- start tags behind their name
 pub mod Tags
 -- elements within elements

@@ -1,15 +1,14 @@
 -- Names as places in the text. Assumes nothing.
 use mathlib.Core.Path.{_≡_, refl, sym, _∙_, ap, ap₂}
-use mathlib.Core.Bool.{Bool, true, false, _||_}
-use mathlib.Core.List.{List, [], _∷_, _++_}
+use mathlib.Core.Bool.{true, false, _||_}
+use mathlib.Core.List.{List, _∷_}
 use Prim.Native.Nat.{ℕ, zero, suc, _+_, _-_, _≤_, _<_, zero-le}
-use native.Mathlib.Numerals.{add-one, sub-one}
+use native.Mathlib.Numerals.{sub-one}
 use native.Mathlib.Decide.{ℕ-discrete}
 use native.Mathlib.Omega.{arith}
-use lib.ListN.{length, getD, set, drop, take, length-set}
-use lib.Seq.{slice, drop-cons, getD-set-same, getD-set-other}
-use Rattle.text.specs.Lists.{same, span}
-use Rattle.text.proofs.Parts.{part-take}
+use lib.ListN.{length, getD, set, length-set}
+use lib.Seq.{slice, getD-set-same, getD-set-other}
+use Rattle.text.specs.Lists.{same}
 use Rattle.xml.specs.Auto.{member}
 use Rattle.xml_scan.specs.Tags.{names, Held}
 
@@ -96,14 +95,3 @@ module _ (x s f t : List ℕ) (n k : ℕ) (o : Seeing x s f t n k) where
 
     pub seeing-less : same x (slice (getD f (k - 1) 0) (getD t (k - 1) 0) s) ≡ false → Seeing x s f t n (k - 1)
     seeing-less e = record { upto = omega (arith, o .upto); so = sym (top ∙ (rw e refl)) ∙ o .so }
-
--- ---- a first byte, and a run behind it
-
-pub slice-run : (p : ℕ → Bool) (s : List ℕ) (b e : ℕ) → b < length s → e ≡ b + 1 + span p (drop (b + 1) s)
-    → (getD s b 0 ∷ []) ++ take (span p (drop (b + 1) s)) (drop (b + 1) s) ≡ slice b e s
-slice-run p s b e h is =
-    sym (ap (λ (k : ℕ). slice b k s) long ∙ part-take b (suc (span p (drop (b + 1) s))) s
-    ∙ ap (take (suc (span p (drop (b + 1) s)))) (drop-cons s b 0 h ∙ ap (λ (k : ℕ). getD s b 0 ∷ drop k s) (sym (add-one b))))
-  where
-    long : e ≡ b + suc (span p (drop (b + 1) s))
-    long = omega arith

@@ -1,5 +1,5 @@
 -- Elements within elements. Assumes nothing.
-use mathlib.Core.Path.{_≡_, refl, sym, _∙_, ap, ap₂, subst}
+use mathlib.Core.Path.{_≡_, refl, sym, _∙_, ap, subst}
 use mathlib.Core.Bool.{true, false, cond}
 use mathlib.Core.Logic.{_≢_}
 use mathlib.Core.List.{List, [], _∷_, _++_}
@@ -25,9 +25,10 @@ use Rattle.xml_scan.specs.declared.tag.Tag.the-variants.{Open, Empty, St
 use Rattle.xml_scan.specs.declared.elements.Step.{Step}
 use Rattle.xml_scan.specs.declared.elements.Step.the-variants.{On, Stopped as Halted}
 use Rattle.xml_scan.proofs.Classes.{above-name}
-use Rattle.xml_scan.proofs.Fate.{fate-end, fate-dead, fate-byte, fate-alike, fate-grow, run-within, run-behind, run-over}
+use Rattle.xml_scan.proofs.Fate.{fate-end, fate-dead, fate-byte, fate-alike, run-within, run-behind, run-over}
 use Rattle.xml_scan.proofs.Passed.{Literal, Spelled, word-spelled}
-use Rattle.xml_scan.proofs.Names.{names-top, names-push, held-push, held-pop, slice-run}
+use Rattle.xml_scan.proofs.Names.{names-top, names-push, held-push, held-pop}
+use Rattle.xml_scan.proofs.Grown.{grown-first, grown-run}
 
 -- ---- the automaton at a byte of a tag
 
@@ -99,9 +100,8 @@ module _ (s : List ℕ) (i n : ℕ) (f t : List ℕ) where
         named a o =
             let d = 16 - (n + 1) in
             let m = names s f t n in
-            fate-byte s i a (name d (getD s i 0 ∷ []) m) h (o .steps h ∙ (rw e refl) ∙ ap (λ (k : ℕ). begun k m (getD s i 0)) left)
-            ∙ fate-grow (above 1) (λ l. name d l m) (name-grow d m) s (getD s i 0 ∷ []) (i + 1)
-            ∙ ap₂ (λ (j : ℕ) (l : List ℕ). fate s j (name d l m)) (sym is) (slice-run (above 1) s i c h is)
+            grown-first (λ l. name d l m) s i a h (o .steps h ∙ (rw e refl) ∙ ap (λ (k : ℕ). begun k m (getD s i 0)) left)
+            ∙ grown-run (λ l. name d l m) s i (above 1) (name-grow d m) (i + 1) c (omega arith) (omega arith) is
             ∙ fate-alike s c (name d (slice i c s) m) (tail 4 [] d (slice i c s) m) refl
             (λ l. name-tail d m (slice i c s) (getD s c 0) (run-behind (above 1) s (i + 1) c is (omega arith) l))
 

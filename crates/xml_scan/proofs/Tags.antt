@@ -1,8 +1,8 @@
 -- Start tags behind their name: attributes, blanks, and `>` or `/>`. Assumes nothing.
-use mathlib.Core.Path.{_≡_, refl, sym, _∙_, ap, ap₂, subst}
+use mathlib.Core.Path.{_≡_, refl, sym, _∙_, ap, subst}
 use mathlib.Core.Bool.{true, false, true≢false}
 use mathlib.Core.Logic.{_≢_}
-use mathlib.Core.List.{List, [], _∷_, _++_}
+use mathlib.Core.List.{List, [], _∷_}
 use Prim.Native.Nat.{ℕ, zero, suc, _+_, _-_, _≤_, _<_}
 use native.Mathlib.Decide.{decLt}
 use native.Mathlib.Omega.{arith}
@@ -13,18 +13,16 @@ use borrow.Author.Tests.{ne-eqb}
 use Rattle.text.specs.Bytes.{isBlank, isNameStart}
 use Rattle.text.specs.Lists.{span}
 use Rattle.text.proofs.Spans.{span-go}
-use Rattle.xml.specs.Auto.{name, tail, gap, attr, equals, slash, content, dead, at, member, after, next}
+use Rattle.xml.specs.Auto.{Mode, grows, mayStop, name, tail, gap, attr, equals, slash, content, dead, at, member, after, next}
 use Rattle.xml.proofs.Basics.{blank-no-start}
-use Rattle.xml_scan.specs.Classes.{above}
 use Rattle.xml_scan.specs.Goes.{fate, GoesEquals}
-use Rattle.xml_scan.specs.Tags.{names, Held, GoesAttribute, GoesEnd, GoesTag}
+use Rattle.xml_scan.specs.Tags.{names, Held, Named, GoesName, GoesAttribute, GoesEnd, GoesTag}
 use Rattle.xml_pieces.specs.declared.Went.{Went}
 use Rattle.xml_pieces.specs.declared.Went.the-variants.{On, Stopped}
 use Rattle.xml_scan.specs.declared.tag.Tag.{Tag}
 use Rattle.xml_scan.specs.declared.tag.Tag.the-variants.{Open, Empty, Stopped as Halted}
-use Rattle.xml_scan.proofs.Classes.{above-name}
-use Rattle.xml_scan.proofs.Fate.{fate-end, fate-dead, fate-byte, fate-alike, fate-grow, run-within, run-behind, run-over, run-first}
-use Rattle.xml_scan.proofs.Names.{names-push, held-push, held-none, slice-run}
+use Rattle.xml_scan.proofs.Fate.{fate-end, fate-dead, fate-byte, fate-alike, run-within, run-behind, run-over, run-first}
+use Rattle.xml_scan.proofs.Names.{names-push, held-push, held-none}
 
 -- a byte that begins a name is no other
 start-other : (y x : ℕ) → isNameStart y ≡ false → isNameStart x ≡ true → x ≢ y
@@ -57,21 +55,14 @@ module _ (k : ℕ) (ss : List (List ℕ)) (d : ℕ) (n : List ℕ) (ns : List (L
   unfolding next
   tail-dead x e f g = rw (e, ne-eqb x 62 f, ne-eqb x 47 g) refl
 
-  gap-name : (x : ℕ) → isNameStart x ≡ true → next (gap (suc k) ss d n ns) x ≡ at (attr (x ∷ []) k ss d n ns)
+  attr-seen : (m : Mode) (b : List ℕ) (x : ℕ) → grows m x ≡ false → mayStop m ≡ true → member b ss ≡ true → next (attr m b k ss d n ns) x ≡ dead
   unfolding next
-  gap-name x e = rw e refl
+  attr-seen m b x e y f = rw (e, y, f) refl
 
-  attr-grow : (b : List ℕ) (x : ℕ) → above 1 x ≡ true → next (attr b k ss d n ns) x ≡ at (attr (b ++ (x ∷ [])) k ss d n ns)
+  attr-fresh : (m : Mode) (b : List ℕ) (x : ℕ) → grows m x ≡ false → mayStop m ≡ true → member b ss ≡ false
+      → next (attr m b k ss d n ns) x ≡ next (equals k (b ∷ ss) d n ns) x
   unfolding next
-  attr-grow b x e = rw (sym (above-name x) ∙ e) refl
-
-  attr-seen : (b : List ℕ) (x : ℕ) → above 1 x ≡ false → member b ss ≡ true → next (attr b k ss d n ns) x ≡ dead
-  unfolding next
-  attr-seen b x e f = rw (sym (above-name x) ∙ e, f) refl
-
-  attr-fresh : (b : List ℕ) (x : ℕ) → above 1 x ≡ false → member b ss ≡ false → next (attr b k ss d n ns) x ≡ next (equals k (b ∷ ss) d n ns) x
-  unfolding next
-  attr-fresh b x e f = rw (sym (above-name x) ∙ e, f) refl
+  attr-fresh m b x e y f = rw (e, y, f) refl
 
 gap-full : (ss : List (List ℕ)) (d : ℕ) (n : List ℕ) (ns : List (List ℕ)) (x : ℕ) → isNameStart x ≡ true → next (gap zero ss d n ns) x ≡ dead
 unfolding next
@@ -139,45 +130,46 @@ module _ (s f t : List ℕ) (n : ℕ) where
         none : 4 - n ≡ 0
         none = omega arith
 
-    module _ (few : n < 4) (c : ℕ) (is : c ≡ b + 1 + span (above 1) (drop (b + 1) s)) where
-      named : (d : ℕ) (m : List ℕ) (ns : List (List ℕ)) → fate s b (gap (4 - n) ss d m ns) ≡ fate s c (attr (slice b c s) (4 - (n + 1)) ss d m ns)
-      named d m ns =
-          ap (λ (k : ℕ). fate s b (gap k ss d m ns)) one-less
-          ∙ fate-byte s b (gap (suc (4 - (n + 1))) ss d m ns) (attr (getD s b 0 ∷ []) (4 - (n + 1)) ss d m ns) h (gap-name (4 - (n + 1)) ss d m ns (getD s b 0) e)
-          ∙ fate-grow (above 1) (λ l. attr l (4 - (n + 1)) ss d m ns) (attr-grow (4 - (n + 1)) ss d m ns) s (getD s b 0 ∷ []) (b + 1)
-          ∙ ap₂ (λ (j : ℕ) (l : List ℕ). fate s j (attr l (4 - (n + 1)) ss d m ns)) (sym is) (slice-run (above 1) s b c h is)
-        where
-          one-less : 4 - n ≡ suc (4 - (n + 1))
-          one-less = omega arith
+    module _ (few : n < 4) (r : Went) (o : GoesName s b r) where
+      one-less : 4 - n ≡ suc (4 - (n + 1))
+      one-less = omega arith
 
-      within : c ≤ length s
-      within = run-within (above 1) s (b + 1) c is (omega arith)
+      -- no name
+      pub attribute-unnamed : (p : ℕ) → r ≡ Stopped p → GoesAttribute s b n f t f t (Stopped p)
+      attribute-unnamed p w =
+          λ d m ns. ap (λ (k : ℕ). fate s b (gap k ss d m ns)) one-less ∙ subst (GoesName s b) w o (4 - (n + 1)) ss d m ns
 
-      behind : c < length s → above 1 (getD s c 0) ≡ false
-      behind l = run-behind (above 1) s (b + 1) c is (omega arith) l
+    module _ (few : n < 4) (r : Went) (o : GoesName s b r) (c : ℕ) (w : r ≡ On c) where
+      its : Named s b c
+      its = subst (GoesName s b) w o
+
+      named : (d : ℕ) (m : List ℕ) (ns : List (List ℕ)) → fate s b (gap (4 - n) ss d m ns) ≡ fate s c (attr (its .mode) (slice b c s) (4 - (n + 1)) ss d m ns)
+      named d m ns = ap (λ (k : ℕ). fate s b (gap k ss d m ns)) (one-less few r o) ∙ its .so (4 - (n + 1)) ss d m ns
 
       -- a name that was seen
       pub attribute-seen : member (slice b c s) ss ≡ true → GoesAttribute s b n f t f t (Stopped c)
       attribute-seen g = λ d m ns. named d m ns ∙ go d m ns (decLt c (length s))
         where
-          go : (d : ℕ) (m : List ℕ) (ns : List (List ℕ)) → Dec (c < length s) → fate s c (attr (slice b c s) (4 - (n + 1)) ss d m ns) ≡ (false, c)
-          go d m ns (yes l) = fate-dead s c (attr (slice b c s) (4 - (n + 1)) ss d m ns) l (attr-seen (4 - (n + 1)) ss d m ns (slice b c s) (getD s c 0) (behind l) g)
-          go d m ns (no l) = fate-end s c (attr (slice b c s) (4 - (n + 1)) ss d m ns) (omega arith) refl
+          go : (d : ℕ) (m : List ℕ) (ns : List (List ℕ)) → Dec (c < length s) → fate s c (attr (its .mode) (slice b c s) (4 - (n + 1)) ss d m ns) ≡ (false, c)
+          go d m ns (yes l) =
+              fate-dead s c (attr (its .mode) (slice b c s) (4 - (n + 1)) ss d m ns) l
+              (attr-seen (4 - (n + 1)) ss d m ns (its .mode) (slice b c s) (getD s c 0) (its .behind l) (its .stops) g)
+          go d m ns (no l) = fate-end s c (attr (its .mode) (slice b c s) (4 - (n + 1)) ss d m ns) (omega arith) refl
 
       module _ (held : Held 4 s f t n) (g : member (slice b c s) ss ≡ false) where
         valued : (d : ℕ) (m : List ℕ) (ns : List (List ℕ)) → fate s b (gap (4 - n) ss d m ns) ≡ fate s c (equals (4 - (n + 1)) (slice b c s ∷ ss) d m ns)
         valued d m ns =
-            named d m ns ∙ fate-alike s c (attr (slice b c s) (4 - (n + 1)) ss d m ns) (equals (4 - (n + 1)) (slice b c s ∷ ss) d m ns) refl
-            (λ l. attr-fresh (4 - (n + 1)) ss d m ns (slice b c s) (getD s c 0) (behind l) g)
+            named d m ns ∙ fate-alike s c (attr (its .mode) (slice b c s) (4 - (n + 1)) ss d m ns) (equals (4 - (n + 1)) (slice b c s ∷ ss) d m ns) refl
+            (λ l. attr-fresh (4 - (n + 1)) ss d m ns (its .mode) (slice b c s) (getD s c 0) (its .behind l) (its .stops) g)
 
         -- a new name, and what comes of the value
-        pub attribute-new : (r : Went) → GoesEquals s c r → GoesAttribute s b n f t (set f n b) (set t n c) r
+        pub attribute-new : (q : Went) → GoesEquals s c q → GoesAttribute s b n f t (set f n b) (set t n c) q
         attribute-new (On j) v =
             let y = v 0 [] 0 [] [] in
             let l = y .0 in (
-              omega (arith, is),
+              omega (arith, its .some),
               y .1,
-              held-push 4 s f t n b c held few (omega (arith, is)) within,
+              held-push 4 s f t n b c held few (omega (arith, its .some)) (its .within),
               λ d m ns. valued d m ns ∙ v (4 - (n + 1)) (slice b c s ∷ ss) d m ns .2
                   ∙ ap (λ (l : List (List ℕ)). fate s j (tail (4 - (n + 1)) l d m ns)) (sym (names-push 4 s f t n b c held few)),
             )

@@ -1,12 +1,12 @@
 -- A mirror: names as places in the text, and what the scanner's functions over tags say of the automaton. Assumes nothing.
 use mathlib.Core.Path.{_≡_}
-use mathlib.Core.Bool.{false, cond}
+use mathlib.Core.Bool.{true, false, cond}
 use mathlib.Core.List.{List, [], _∷_}
 use Prim.Native.Nat.{ℕ, zero, suc, _+_, _-_, _≤_, _<_}
 use lib.ListN.{length, getD}
 use lib.Seq.{slice}
 use Rattle.text.specs.Bytes.{isNameStart}
-use Rattle.xml.specs.Auto.{At, name, tail, gap, content, less, close, St, dead, at, after, next}
+use Rattle.xml.specs.Auto.{Mode, grows, mayStop, At, name, tail, gap, attr, content, less, close, St, dead, at, after, next}
 use Rattle.xml_scan.specs.Classes.{Classed}
 use Rattle.xml_scan.specs.Goes.{mayEnd, fate, Goes}
 use Rattle.xml_pieces.specs.declared.Went.{Went}
@@ -34,6 +34,21 @@ abbrev pub Turns : List ℕ → ℕ → At → At → At → Tag → Type 0
 Turns s i a b c (Open e) = (i < e) × (e ≤ length s) × (fate s i a ≡ fate s e b)
 Turns s i a b c (Empty e) = (i < e) × (e ≤ length s) × (fate s i a ≡ fate s e c)
 Turns s i a b c (Stopped n) = fate s i a ≡ (false, n)
+
+-- an attribute's name from i to e: it may stop there, and it does not go on
+pub record Named (s : List ℕ) (i e : ℕ) : Type 0 where
+  pub some : i < e
+  pub within : e ≤ length s
+  pub mode : Mode
+  pub stops : mayStop mode ≡ true
+  pub behind : e < length s → grows mode (getD s e 0) ≡ false
+  pub so : (k : ℕ) (ss : List (List ℕ)) (d : ℕ) (n : List ℕ) (ns : List (List ℕ))
+      → fate s i (gap (suc k) ss d n ns) ≡ fate s e (attr mode (slice i e s) k ss d n ns)
+
+abbrev pub GoesName : List ℕ → ℕ → Went → Type 0
+GoesName s i (Over e) = Named s i e
+GoesName s i (Cut p) =
+    (k : ℕ) (ss : List (List ℕ)) (d : ℕ) (n : List ℕ) (ns : List (List ℕ)) → fate s i (gap (suc k) ss d n ns) ≡ (false, p)
 
 -- an attribute behind blanks and n others: its name becomes the last of those in the tables
 abbrev pub GoesAttribute : List ℕ → ℕ → ℕ → List ℕ → List ℕ → List ℕ → List ℕ → Went → Type 0

@@ -1,4 +1,5 @@
 // An attribute, whose name is none of those before it.
+use text::class::is_name_start;
 use text::part::same_part;
 use text::span::blanks_end;
 use xml_pieces::Went;
@@ -13,7 +14,7 @@ ghost use Rattle.text.specs.Bytes.{isNameStart};
 ghost use Rattle.xml.specs.Auto.{member};
 ghost use Rattle.xml_scan.specs.Classes.{Classed};
 ghost use Rattle.xml_scan.specs.Goes.{Marked, GoesValue, GoesEquals};
-ghost use Rattle.xml_scan.specs.Tags.{names, Held, GoesAttribute};
+ghost use Rattle.xml_scan.specs.Tags.{names, Held, GoesName, GoesAttribute};
 
 // Over a value and the quote that ends it.
 fn value(s: &[u8], at: usize, quote: u8) -> Went
@@ -73,6 +74,28 @@ fn seen(s: &[u8], from: &[usize; 4], to: &[usize; 4], n: usize, a: usize, e: usi
     false
 }
 
+// Over an attribute's name: "Attribute names may hold one colon between two names". A second colon is left to what follows the name.
+fn full_name(s: &[u8], at: usize, classes: &[u8; 256]) -> Went
+    requires { ⌜ (at < length (now s)) × (isNameStart (getD (now s) at 0) ≡ true) × Classed (now classes) ⌝ }
+    ensures { λ r. ⌜ GoesName (now (s .entry)) at r ⌝ }
+{
+    let colon = run_end(s, at + 1, classes, 1);
+    if s.len() <= colon {
+        return Went::On(colon);
+    }
+    if s[colon] != b':' {
+        return Went::On(colon);
+    }
+    let second = colon + 1;
+    if s.len() <= second {
+        return Went::Stopped(second);
+    }
+    if is_name_start(s[second]) {
+        return Went::On(run_end(s, second + 1, classes, 1));
+    }
+    Went::Stopped(second)
+}
+
 // Over an attribute that begins at a name, behind n others: "At most four attributes", "all names different".
 pub(crate) fn attribute(
     s: &[u8],
@@ -93,11 +116,15 @@ pub(crate) fn attribute(
     if 3 < n {
         return Went::Stopped(at);
     }
-    let e = run_end(s, at + 1, classes, 1);
-    if seen(s, from, to, n, at, e) {
-        return Went::Stopped(e);
+    match full_name(s, at, classes) {
+        Went::Stopped(p) => Went::Stopped(p),
+        Went::On(e) => {
+            if seen(s, from, to, n, at, e) {
+                return Went::Stopped(e);
+            }
+            from[n] = at;
+            to[n] = e;
+            equals(s, e)
+        }
     }
-    from[n] = at;
-    to[n] = e;
-    equals(s, e)
 }

@@ -1,6 +1,6 @@
 -- Attributes, one and all: on any bytes, and of a tree. Assumes nothing.
 use mathlib.Core.Path.{_≡_, refl, sym, _∙_, ap, ap₂}
-use mathlib.Core.Bool.{Bool, true, false, not, cond, _||_, true≢false}
+use mathlib.Core.Bool.{Bool, true, false, not, cond, true≢false}
 use mathlib.Core.List.{List, [], _∷_, _++_, append-assoc}
 use Prim.Native.Nat.{ℕ, zero, suc, _+_, _-_, _≤_, _<_}
 use native.Mathlib.Omega.{arith}
@@ -8,19 +8,19 @@ use lib.Dec.{eqb}
 use lib.ListN.{length, drop, length-drop, length-append}
 use lib.Seq.{drop-append-seam}
 use borrow.Author.Tests.{eqb-false, eq-eqb, ne-eqb}
-use Rattle.text.specs.Bytes.{inRange, isBlank, isNamePart, isNameStart}
-use Rattle.text.specs.Lists.{All, span}
+use Rattle.text.specs.Bytes.{isBlank, isNameStart}
+use Rattle.text.specs.Lists.{All, Begins, span}
 use Rattle.text_characters.specs.Pieces.{Piece, spells}
 use Rattle.text.proofs.Classes.{not-so}
 use Rattle.text.proofs.Spans.{span-le, span-of}
-use Rattle.xml.specs.House.{Blanks, SomeBlanks, IsName, Quote, single, double, mark, GoodValue, Attr, attr, attrs, GoodAttr, GoodAttrs}
-use Rattle.xml.proofs.Basics.{by-blank, blank-no-rest, blank-no-start}
+use Rattle.xml.specs.House.{Blanks, SomeBlanks, Quote, single, double, mark, GoodValue, Attr, attr, attrs, GoodAttr, GoodAttrs}
+use Rattle.xml.proofs.Basics.{by-blank, blank-no-start, all-append, all-weaken, isFullPart, start-full, full-name}
 use Rattle.xml_tags.specs.declared.attribute.Attribute.{Attribute}
 use Rattle.xml_tags.specs.declared.attribute.Passed.{Passed}
 use Rattle.xml_tags.specs.Passing.{but, noQuote, inName, pass}
 use Rattle.xml_tags.specs.Attributes.{nowhere, valueAt, quoteAt, namedAt, attributeAt, isNone, counted, passedFrom, passedAt}
 use Rattle.xml_tags.specs.Places.{nameOf, attributeOf, firstOf}
-use Rattle.xml_tags.proofs.Passing.{all-append, all-weaken, stops, pass-over, pass-any, one-le, blank-stops}
+use Rattle.xml_tags.proofs.Passing.{stops, pass-over, pass-any, one-le, blank-stops, part-in-name}
 use Rattle.xml_tags.proofs.Avoid.{value-avoids}
 
 -- ---- on any bytes: the places stand in order, between o and e
@@ -46,12 +46,12 @@ lies-to o e e′ a q h = rw q at h
 
 named-lies : (z o : ℕ) (l : List ℕ) → z ≤ o → Lies z (o + length l) (namedAt o l)
 unfolding namedAt
-named-lies z o l h = go (eqb (span isNamePart l) 0)
+named-lies z o l h = go (eqb (span inName l) 0)
   where
-    go : (b : Bool) → Lies z (o + length l) (cond b (nowhere o) (pass isNamePart (quoteAt o) o l))
+    go : (b : Bool) → Lies z (o + length l) (cond b (nowhere o) (pass inName (quoteAt o) o l))
     go true = record { gap = h; name = omega arith; equal = omega arith; value = omega arith; quote = omega arith; end = omega arith }
     go false =
-        pass-any isNamePart (quoteAt o) (Lies z (o + length l)) o l
+        pass-any inName (quoteAt o) (Lies z (o + length l)) o l
         (λ n k. pass-any noQuote (valueAt o (o + n)) (Lies z (o + length l)) (o + n) (drop n l)
         (λ m j. lies-to z _ _ _ (omega (arith, length-drop m (drop n l), length-drop n l)) (value-lies z o (o + n) (o + n + m) (drop m (drop n l)) h (omega arith) (omega arith))))
 
@@ -135,51 +135,39 @@ passed-some o l e =
 
 -- ---- names and blanks
 
-start-part : (x : ℕ) → isNameStart x ≡ true → isNamePart x ≡ true
-unfolding isNameStart isNamePart
-start-part x = go (inRange 65 90 x) (inRange 97 122 x) (inRange 48 57 x) (eqb x 46) (eqb x 45) (eqb x 95)
-  where
-    go : (a b c d e f : Bool) → (a || b || f) ≡ true → (a || b || c || d || e || f) ≡ true
-    go true b c d e f h = refl
-    go false true c d e f h = refl
-    go false false true d e f h = refl
-    go false false false true e f h = refl
-    go false false false false true f h = refl
-    go false false false false false f h = h
+-- an attribute's name has a byte, begins with no blank, and goes on to its end
+full-some : (n : List ℕ) → Begins isNameStart isFullPart n → 0 < length n
+full-some [] i = absurd i
+full-some (x ∷ n) i = omega arith
 
-pub name-all : (n : List ℕ) → IsName n → All isNamePart n
-name-all [] i = absurd i
-name-all (x ∷ n) i = (start-part x (i .0), i .1)
+full-ink : (n w : List ℕ) → Begins isNameStart isFullPart n → span isBlank (n ++ w) ≡ 0
+full-ink [] w i = absurd i
+full-ink (x ∷ n) w i = stops isBlank x (n ++ w) (not-so (isBlank x) (λ e. true≢false (sym (i .0) ∙ blank-no-start x e)))
 
-name-ink : (n w : List ℕ) → IsName n → span isBlank (n ++ w) ≡ 0
-name-ink [] w i = absurd i
-name-ink (x ∷ n) w i = stops isBlank x (n ++ w) (not-so (isBlank x) (λ e. true≢false (sym (i .0) ∙ blank-no-start x e)))
-
-pub name-some : (n : List ℕ) → IsName n → 0 < length n
-name-some [] i = absurd i
-name-some (x ∷ n) i = omega arith
+pub full-in : (n : List ℕ) → Begins isNameStart isFullPart n → All inName n
+full-in [] i = tt
+full-in (x ∷ n) i = (part-in-name x (start-full x (i .0)), all-weaken isFullPart inName part-in-name n (i .1))
 
 some-blanks : (g : List ℕ) → SomeBlanks g → Blanks g
 some-blanks [] b = absurd b
 some-blanks (x ∷ g) b = b
 
--- a blank ends a name, be it a tag's or an attribute's
-module _ (p : ℕ → Bool) (f : (x : ℕ) → isBlank x ≡ true → p x ≡ false) where
-  blanks-end-name : (g w : List ℕ) → Blanks g → span p w ≡ 0 → span p (g ++ w) ≡ 0
-  blanks-end-name [] w b e = e
-  blanks-end-name (x ∷ g) w b e = stops p x (g ++ w) (f x (b .0))
+-- a blank ends a name
+blanks-end-name : (g w : List ℕ) → Blanks g → span inName w ≡ 0 → span inName (g ++ w) ≡ 0
+blanks-end-name [] w b e = e
+blanks-end-name (x ∷ g) w b e = stops inName x (g ++ w) (blank-stops x (b .0))
 
-  some-end-name : (g w : List ℕ) → SomeBlanks g → span p (g ++ w) ≡ 0
-  some-end-name [] w b = absurd b
-  some-end-name (x ∷ g) w b = stops p x (g ++ w) (f x (b .0))
+some-end-name : (g w : List ℕ) → SomeBlanks g → span inName (g ++ w) ≡ 0
+some-end-name [] w b = absurd b
+some-end-name (x ∷ g) w b = stops inName x (g ++ w) (blank-stops x (b .0))
 
 -- ---- an attribute of a tree
 
-named-is : (o : ℕ) (n w : List ℕ) → IsName n → span isNamePart w ≡ 0 → namedAt o (n ++ w) ≡ quoteAt o (o + length n) w
+named-is : (o : ℕ) (n w : List ℕ) → Begins isNameStart isFullPart n → span inName w ≡ 0 → namedAt o (n ++ w) ≡ quoteAt o (o + length n) w
 unfolding namedAt
 named-is o n w i e =
-    let a = name-all n i in
-    rw (span-of isNamePart n w a e, ne-eqb (length n) 0 (λ z. omega (arith, name-some n i))) (pass-over isNamePart (quoteAt o) o n w a e)
+    let a = full-in n i in
+    rw (span-of inName n w a e, ne-eqb (length n) 0 (λ z. omega (arith, full-some n i))) (pass-over inName (quoteAt o) o n w a e)
 
 -- behind the name, up to the quote
 blank-no-quote : (x : ℕ) → isBlank x ≡ true → noQuote x ≡ true
@@ -196,9 +184,9 @@ unfolding noQuote
 equals-all b a h k =
     all-append noQuote b (61 ∷ a) (all-weaken isBlank noQuote blank-no-quote b h) (refl, all-weaken isBlank noQuote blank-no-quote a k)
 
-equal-ends : (w : List ℕ) → span isNamePart (61 ∷ w) ≡ 0
-unfolding isNamePart
-equal-ends w = stops isNamePart 61 w refl
+equal-ends : (w : List ℕ) → span inName (61 ∷ w) ≡ 0
+unfolding inName isBlank
+equal-ends w = stops inName 61 w refl
 
 -- an attribute by the place of its value
 abbrev valued : ℕ → ℕ → ℕ → ℕ → Attribute
@@ -218,8 +206,8 @@ pub attribute-is : (o : ℕ) (a : Attr) (w : List ℕ) → GoodAttr a → attrib
 unfolding attributeAt
 attribute-is o a w g =
     ap (attributeAt o) (attr-shape (a .gap) (a .name) (a .before) (a .after) (spells (a .value)) w (mark (a .quote)))
-    ∙ pass-over isBlank namedAt o (a .gap) (a .name ++ (equals ++ value)) (some-blanks (a .gap) (g .gap)) (name-ink (a .name) (equals ++ value) (g .name))
-    ∙ named-is (nameOf o a) (a .name) (equals ++ value) (g .name) (rw append-assoc (blanks-end-name isNamePart blank-no-rest (a .before) _ (g .before) (equal-ends _)))
+    ∙ pass-over isBlank namedAt o (a .gap) (a .name ++ (equals ++ value)) (some-blanks (a .gap) (g .gap)) (full-ink (a .name) (equals ++ value) (full-name (a .name) (g .name)))
+    ∙ named-is (nameOf o a) (a .name) (equals ++ value) (full-name (a .name) (g .name)) (rw append-assoc (blanks-end-name (a .before) _ (g .before) (equal-ends _)))
     ∙ pass-over noQuote (valueAt (nameOf o a) (nameOf o a + length (a .name))) (nameOf o a + length (a .name)) equals value (equals-all (a .before) (a .after) (g .before) (g .after)) (stops noQuote (mark (a .quote)) _ (mark-quote (a .quote)))
     ∙ value-is (nameOf o a) (nameOf o a + length (a .name)) _ (a .quote) (a .value) w (g .value)
     ∙ ap (valued (nameOf o a) (nameOf o a + length (a .name)) (length (spells (a .value)))) (omega (arith, length-append (a .before) (61 ∷ a .after)))
@@ -231,7 +219,7 @@ attribute-is o a w g =
     value = mark (a .quote) ∷ (spells (a .value) ++ (mark (a .quote) ∷ w))
 
 -- blanks, and then no name
-pub attribute-none : (o : ℕ) (g w : List ℕ) → Blanks g → span isBlank w ≡ 0 → span isNamePart w ≡ 0
+pub attribute-none : (o : ℕ) (g w : List ℕ) → Blanks g → span isBlank w ≡ 0 → span inName w ≡ 0
     → attributeAt o (g ++ w) ≡ nowhere (o + length g)
 unfolding attributeAt namedAt
 attribute-none o g w b e f = pass-over isBlank namedAt o g w b e ∙ rw f refl
@@ -246,7 +234,7 @@ pub attribute-end : (o : ℕ) (a : Attr) → attributeOf o a .end ≡ o + length
 attribute-end o a = attr-lengths o (a .gap) (a .name) (a .before) (a .after) (spells (a .value)) (mark (a .quote))
 
 attribute-some : (o : ℕ) (a : Attr) → GoodAttr a → isNone (attributeOf o a) ≡ false
-attribute-some o a g = ne-eqb (nameOf o a + length (a .name)) (nameOf o a) (λ e. omega (arith, name-some (a .name) (g .name)))
+attribute-some o a g = ne-eqb (nameOf o a + length (a .name)) (nameOf o a) (λ e. omega (arith, full-some (a .name) (full-name (a .name) (g .name))))
 
 -- behind an attribute
 attribute-drop : (o : ℕ) (a : Attr) (w : List ℕ) → drop (attributeOf o a .end - o) (attr a ++ w) ≡ w
@@ -254,7 +242,7 @@ attribute-drop o a w =
     let e : attributeOf o a .end - o ≡ length (attr a) = omega (arith, attribute-end o a) in
     rw (e, drop-append-seam (attr a) w)
 
-module _ (g w : List ℕ) (b : Blanks g) (e : span isBlank w ≡ 0) (f : span isNamePart w ≡ 0) where
+module _ (g w : List ℕ) (b : Blanks g) (e : span isBlank w ≡ 0) (f : span inName w ≡ 0) where
   none-from : (o n : ℕ) → passedFrom (suc n) o (g ++ w) ≡ record { count = 0; end = o + length g }
   unfolding passedFrom
   none-from o n = rw (attribute-none o g w b e f, eq-eqb (o + length g) (o + length g) refl)
@@ -286,7 +274,7 @@ module _ (g w : List ℕ) (b : Blanks g) (e : span isBlank w ≡ 0) (f : span is
 
 -- a tag's name does not go on into what stands behind it
 pub attrs-end-name : (g w : List ℕ) → Blanks g → span inName w ≡ 0 → (l : List Attr) → GoodAttrs 4 [] l → span inName (attrs l ++ (g ++ w)) ≡ 0
-attrs-end-name g w b f [] h = blanks-end-name inName blank-stops g w b f
+attrs-end-name g w b f [] h = blanks-end-name g w b f
 attrs-end-name g w b f (a ∷ l) h =
     ap (span inName) (append-assoc (attr a) (attrs l) (g ++ w) ∙ append-assoc (a .gap) _ (attrs l ++ (g ++ w)))
-    ∙ some-end-name inName blank-stops (a .gap) _ (h .0 .gap)
+    ∙ some-end-name (a .gap) _ (h .0 .gap)

@@ -11,8 +11,9 @@ use Rattle.text_characters.specs.Pieces.{less, Entity, amp, lt, gt, quot, apos,
 use Rattle.text.proofs.Classes.{and-is}
 use Rattle.text_characters.proofs.Decoding.{by-length}
 use Rattle.xml.specs.House.{Quote, single, double, mark, GoodValue}
+use Rattle.xml.proofs.Basics.{all-append}
 use Rattle.xml_tags.specs.Passing.{but}
-use Rattle.xml_tags.proofs.Passing.{all-append, but-other}
+use Rattle.xml_tags.proofs.Passing.{but-other}
 
 -- a test of each, computed
 abbrev pub passed : (ℕ → Bool) → List ℕ → Bool

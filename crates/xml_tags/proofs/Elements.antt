@@ -5,7 +5,7 @@ use Prim.Native.Nat.{ℕ, zero, suc, _+_}
 use native.Mathlib.Omega.{arith}
 use lib.ListN.{length, drop, length-append}
 use lib.Seq.{slice}
-use Rattle.text.specs.Bytes.{isBlank, isNamePart}
+use Rattle.text.specs.Bytes.{isBlank}
 use Rattle.text.specs.Lists.{Each, span}
 use Rattle.text_characters.specs.Pieces.{Piece, spell, spells, resolvedAll, GoodPiece, Spells}
 use Rattle.xml.specs.House.{Blanks, IsName, Quote, mark, GoodValue, Attr, attr, attrs, GoodAttrs, Tag, tag, GoodTag, Content, end, piece, empty, full, render}
@@ -14,6 +14,7 @@ use Rattle.xml.proofs.Lang.{endOn}
 use Rattle.xml_tags.specs.declared.attribute.Attribute.{Attribute}
 use Rattle.xml_tags.specs.declared.token.Kind.{Kind}
 use Rattle.xml_tags.specs.declared.token.Kind.the-variants.{Open, Empty, Close}
+use Rattle.xml_tags.specs.Passing.{inName}
 use Rattle.xml_tags.specs.Attributes.{attributeAt}
 use Rattle.xml_tags.specs.Tokens.{bare, tokenAt}
 use Rattle.xml_tags.specs.Places.{nameOf, valueOf, attributeOf, tagOf}
@@ -67,7 +68,7 @@ module _ (s : List ℕ) where
 
   -- ---- tags
 
-  tag-at : (k : Kind) (o : ℕ) (t : Tag) (z : ℕ) (w : List ℕ) → GoodTag t → span isBlank w ≡ 0 → span isNamePart w ≡ 0
+  tag-at : (k : Kind) (o : ℕ) (t : Tag) (z : ℕ) (w : List ℕ) → GoodTag t → span isBlank w ≡ 0 → span inName w ≡ 0
       → drop o s ≡ 60 ∷ (tag t ++ w) → Tagged s (tagOf k o t z) (t .name) (attrsOf (t .attributes))
   tag-at k o t z w g b n e =
       let shape = ap (λ (l : List ℕ). 60 ∷ l) (append-assoc (t .name) (attrs (t .attributes) ++ t .gap) w) in
@@ -110,14 +111,14 @@ module _ (s : List ℕ) where
     pub behind : drop (o + length (render (empty t end))) s ≡ w
 
   pub empty-at : (o : ℕ) (t : Tag) (w : List ℕ) → GoodTag t → drop o s ≡ 60 ∷ (tag t ++ (47 ∷ 62 ∷ w)) → EmptyAt o t w
-  unfolding isBlank isNamePart
+  unfolding isBlank inName
   empty-at o t w g e =
       let n = length-append (tag t) (47 ∷ 62 ∷ []) in
       let m : o + (length (tag t) + 3) ≡ o + length (render (empty t end)) = omega arith in
       let r = ap (tokenAt o) e ∙ token-empty o t w g ∙ ap (tagOf Empty o t) m in
       record {
         token = r;
-        tagged = tag-at Empty o t _ (47 ∷ 62 ∷ w) g (stops isBlank 47 (62 ∷ w) refl) (stops isNamePart 47 (62 ∷ w) refl) e;
+        tagged = tag-at Empty o t _ (47 ∷ 62 ∷ w) g (stops isBlank 47 (62 ∷ w) refl) (stops inName 47 (62 ∷ w) refl) e;
         behind =
             drop-is o _ s (render (empty t end)) w (e ∙ ap (λ (l : List ℕ). 60 ∷ l) (sym (append-assoc (tag t) (47 ∷ 62 ∷ []) w))) refl;
       }
@@ -130,13 +131,13 @@ module _ (s : List ℕ) where
     pub behind : drop (o + (length (tag t) + 2)) s ≡ w
 
   pub open-at : (o : ℕ) (t : Tag) (w : List ℕ) → GoodTag t → drop o s ≡ 60 ∷ (tag t ++ (62 ∷ w)) → OpenAt o t w
-  unfolding isBlank isNamePart
+  unfolding isBlank inName
   open-at o t w g e =
       let n = length-append (tag t) (62 ∷ []) in
       let r = ap (tokenAt o) e ∙ token-open o t w g in
       record {
         token = r;
-        tagged = tag-at Open o t _ (62 ∷ w) g (stops isBlank 62 w refl) (stops isNamePart 62 w refl) e;
+        tagged = tag-at Open o t _ (62 ∷ w) g (stops isBlank 62 w refl) (stops inName 62 w refl) e;
         behind =
             drop-is o (o + (length (tag t) + 2)) s (60 ∷ (tag t ++ (62 ∷ []))) w (e ∙ ap (λ (l : List ℕ). 60 ∷ l) (sym (append-assoc (tag t) (62 ∷ []) w))) (omega arith);
       }

@@ -11,21 +11,12 @@ use lib.Seq.{drop-append-seam, drop-append-add, drop-drop, drop-cons, length-tak
 use borrow.Author.Tests.{eq-eqb, ne-eqb}
 use Rattle.text.specs.Bytes.{isBlank, isNamePart}
 use Rattle.text.specs.Lists.{All, span}
-use Rattle.text_characters.specs.Pieces.{solidus, greater}
+use Rattle.text_characters.specs.Pieces.{solidus, equal, greater}
 use Rattle.text.proofs.Classes as classes
 use Rattle.text.proofs.Classes.{Named, only, _or_}
 use Rattle.text.proofs.Spans.{span-of, span-le, span-all, span-stop, span-go, span-append}
+use Rattle.xml.proofs.Basics.{all-weaken, isFullPart}
 use Rattle.xml_tags.specs.Passing.{but, noQuote, inName, pass, one, headIs, behind}
-
--- ---- all that pass a test
-
-pub all-append : (p : ℕ → Bool) (a b : List ℕ) → All p a → All p b → All p (a ++ b)
-all-append p [] b h k = k
-all-append p (x ∷ a) b h k = (h .0, all-append p a b (h .1) k)
-
-pub all-weaken : (p q : ℕ → Bool) → ((x : ℕ) → p x ≡ true → q x ≡ true) → (l : List ℕ) → All p l → All q l
-all-weaken p q f [] h = tt
-all-weaken p q f (x ∷ l) h = (f x (h .0), all-weaken p q f l (h .1))
 
 -- ---- a byte that stops
 
@@ -131,7 +122,7 @@ no-quote x a b = rw (ne-eqb x 34 a, ne-eqb x 39 b)
 -- ---- a name in a tag
 
 -- the bytes that end it
-pub name-stop : Named (λ (x : ℕ). isBlank x || eqb x solidus || eqb x greater) (only 32 or only 9 or only 10 or only 13 or only 47 or only 62)
+pub name-stop : Named (λ (x : ℕ). isBlank x || eqb x solidus || eqb x equal || eqb x greater) (only 32 or only 9 or only 10 or only 13 or only 47 or only 61 or only 62)
 unfolding isBlank
 name-stop = record { is = λ x. refl }
 
@@ -140,8 +131,8 @@ unfolding inName
 blank-stops x e = rw e
 
 -- it goes on over all that a good name has
-pub part-in-name : (x : ℕ) → isNamePart x ≡ true → inName x ≡ true
+pub part-in-name : (x : ℕ) → isFullPart x ≡ true → inName x ≡ true
 unfolding inName isNamePart
 part-in-name x e =
-    let other : (k : ℕ) → isNamePart k ≡ false → x ≡ k → ⊥ = λ k f q. true≢false (sym e ∙ ap isNamePart q ∙ f) in
-    ap not (sym (classes.no name-stop (((((other 32 refl, other 9 refl), other 10 refl), other 13 refl), other 47 refl), other 62 refl)))
+    let other : (k : ℕ) → isFullPart k ≡ false → x ≡ k → ⊥ = λ k f q. true≢false (sym e ∙ ap isFullPart q ∙ f) in
+    ap not (sym (classes.no name-stop ((((((other 32 refl, other 9 refl), other 10 refl), other 13 refl), other 47 refl), other 61 refl), other 62 refl)))

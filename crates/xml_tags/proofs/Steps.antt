@@ -9,7 +9,7 @@ use lib.Dec.{eqb}
 use lib.ListN.{length, getD, drop, length-drop, drop-of-length-le}
 use lib.Seq.{drop-drop, drop-cons}
 use borrow.Author.Tests.{eqb-true, eq-eqb, ne-eqb}
-use Rattle.text.specs.Bytes.{isBlank, isNamePart}
+use Rattle.text.specs.Bytes.{isBlank}
 use Rattle.text.specs.Lists.{span}
 use Rattle.text_characters.specs.Pieces.{less, greater}
 use Rattle.text.proofs.Spans.{span-stop}
@@ -22,8 +22,8 @@ use Rattle.xml_tags.specs.Tokens.{bare, shutAt, tailAt, tagAt, openAt, t
 use Rattle.xml_tags.proofs.Passing.{but-by, wider-at, pass-at, past-go, head-at, head-in}
 use Rattle.xml_tags.proofs.Attributes.{attribute-lies, some-end, passed-none, passed-some, passed-between}
 
-greater-ends : isNamePart 62 ≡ false
-unfolding isNamePart
+greater-ends : inName 62 ≡ false
+unfolding inName isBlank
 greater-ends = refl
 
 module _ (s : List ℕ) where
@@ -37,21 +37,21 @@ module _ (s : List ℕ) where
 
   -- ---- an attribute
 
-  module _ (at name stop : ℕ) (n : name ≡ at + span isBlank (drop at s)) (p : stop ≡ name + span isNamePart (drop name s)) where
+  module _ (at name stop : ℕ) (n : name ≡ at + span isBlank (drop at s)) (p : stop ≡ name + span inName (drop name s)) where
     pub attribute-nowhere : stop ≡ name → nowhere name ≡ attributeAt at (drop at s)
     unfolding attributeAt namedAt
     attribute-nowhere e =
-        let z : span isNamePart (drop name s) ≡ 0 = omega arith in
+        let z : span inName (drop name s) ≡ 0 = omega arith in
         sym (pass-at isBlank namedAt s at name n ∙ rw z refl)
 
     pub attribute-valued : (mark : ℕ) → (stop ≡ name → ⊥) → mark ≡ stop + span noQuote (drop stop s)
         → valueAt name stop mark (drop mark s) ≡ attributeAt at (drop at s)
     unfolding attributeAt namedAt
     attribute-valued mark e q =
-        let z = ne-eqb (span isNamePart (drop name s)) 0 (λ w. e (omega arith)) in
+        let z = ne-eqb (span inName (drop name s)) 0 (λ w. e (omega arith)) in
         sym
         (pass-at isBlank namedAt s at name n
-        ∙ rw z (pass-at isNamePart (quoteAt name) s name stop p)
+        ∙ rw z (pass-at inName (quoteAt name) s name stop p)
         ∙ pass-at noQuote (valueAt name stop) s stop mark q)
 
   pub value-nowhere : (a b mark : ℕ) → length s ≤ mark
@@ -175,7 +175,7 @@ module _ (s : List ℕ) where
   unfolding isBlank
   tail-greater o stop a h e =
       let i = head-in 62 s stop h in
-      let n = attribute-nowhere stop stop stop (greater-stays isBlank stop h refl) (greater-stays isNamePart stop h greater-ends) refl in
+      let n = attribute-nowhere stop stop stop (greater-stays isBlank stop h refl) (greater-stays inName stop h greater-ends) refl in
       shut-open o stop 0 a stop (stop + 1) (sym (head-at 47 s stop i) ∙ ap (λ (z : ℕ). eqb z 47) (greater-there stop h)) (past-go s stop i)
       ∙ ap (λ (x : Attribute). shutAt o stop 0 x stop (drop stop s)) e
       ∙ tail-none o stop (nowhere stop) n refl

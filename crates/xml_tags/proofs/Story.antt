@@ -10,13 +10,14 @@ use Rattle.text.specs.Lists.{Each}
 use Rattle.text_characters.specs.Pieces.{less, Piece, spell, spells, resolved, GoodPiece}
 use Rattle.xml.specs.House.{Blanks, IsName, attrs, Tag, tag, GoodTag, Content, end, piece, empty, full, render, Good, OneElement, declaration, Tree, whole, GoodTree}
 use Rattle.xml.specs.Message.{Attrs, attrsOf, partsOf, rootAt, messageOf}
+use Rattle.xml.proofs.Basics.{all-weaken}
 use Rattle.xml.proofs.Lang.{endOn}
 use Rattle.xml_tags.specs.declared.token.Kind.the-variants.{Open, Empty, Close}
 use Rattle.xml_tags.specs.declared.token.Token.{Token}
 use Rattle.xml_tags.specs.Passing.{but}
 use Rattle.xml_tags.specs.Tokens.{tagAt, openAt, tokenAt, startOf}
 use Rattle.xml_tags.specs.Story.{Event, char, enter, leave, events, chars, Text, tokenIn, Tagged, Tells, enters, passes, leaves, ends}
-use Rattle.xml_tags.proofs.Passing.{all-weaken, but-by, stops, pass-none}
+use Rattle.xml_tags.proofs.Passing.{but-by, stops, pass-none}
 use Rattle.xml_tags.proofs.Slices.{drop-is}
 use Rattle.xml_tags.proofs.Tokens.{token-end}
 use Rattle.xml_tags.proofs.Start.{start-is, name-not}

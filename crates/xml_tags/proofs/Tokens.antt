@@ -13,6 +13,7 @@ use Rattle.text.specs.Bytes.{isBlank, isNamePart, isNameStart}
 use Rattle.text.specs.Lists.{All, Each, span}
 use Rattle.text_characters.specs.Pieces.{less, greater, solidus, Piece, spells, GoodPiece}
 use Rattle.xml.specs.House.{Blanks, IsName, attrs, Tag, tag, GoodTag}
+use Rattle.xml.proofs.Basics.{all-append, all-weaken, name-all, name-full}
 use Rattle.xml_tags.specs.declared.attribute.Attribute.{Attribute}
 use Rattle.xml_tags.specs.declared.token.Kind.the-variants.{Open, Empty, Close, End}
 use Rattle.xml_tags.specs.declared.token.Token.{Token}
@@ -20,9 +21,9 @@ use Rattle.xml_tags.specs.Passing.{but, inName, pass, one, headIs, behin
 use Rattle.xml_tags.specs.Attributes.{attributeAt, passedAt}
 use Rattle.xml_tags.specs.Tokens.{bare, shutAt, tailAt, tagAt, tokenAt}
 use Rattle.xml_tags.specs.Places.{firstOf, tagOf}
-use Rattle.xml_tags.proofs.Passing.{all-append, all-weaken, but-by, stops, span-wider, pass-over, pass-skip, pass-none, pass-any, one-le, part-in-name}
+use Rattle.xml_tags.proofs.Passing.{but-by, stops, pass-over, pass-skip, pass-none, pass-any, one-le}
 use Rattle.xml_tags.proofs.Avoid.{text-avoids}
-use Rattle.xml_tags.proofs.Attributes.{name-all, passed-between, passed-is, first-is, attrs-end-name}
+use Rattle.xml_tags.proofs.Attributes.{full-in, passed-between, passed-is, first-is, attrs-end-name}
 
 -- ---- on any bytes: a token ends within them, and behind its `<` if there is one
 
@@ -102,7 +103,7 @@ name-no-solidus [] w i = absurd i
 name-no-solidus (x ∷ n) w i = ne-eqb x solidus (λ e. true≢false (sym (i .0) ∙ ap isNameStart e))
 
 -- behind the name: attributes, blanks, and then w
-tail-is : (o e : ℕ) (t : Tag) (w : List ℕ) → GoodTag t → span isBlank w ≡ 0 → span isNamePart w ≡ 0
+tail-is : (o e : ℕ) (t : Tag) (w : List ℕ) → GoodTag t → span isBlank w ≡ 0 → span inName w ≡ 0
     → tailAt o e (attrs (t .attributes) ++ (t .gap ++ w)) ≡ shutAt o e (length (t .attributes)) (firstOf e (t .attributes) (t .gap)) (e + length (attrs (t .attributes)) + length (t .gap)) w
 unfolding tailAt
 tail-is o e t w g b n =
@@ -117,8 +118,8 @@ tag-is o t w g b n =
     less-stops o (tag t ++ w)
     ∙ ap (λ (l : List ℕ). tagAt o (60 ∷ l)) shape
     ∙ ap (λ (z : Bool). cond z (bare Close o (behind greater (o + 1) (t .name ++ rest))) (pass inName (tailAt o) (o + 1) (t .name ++ rest))) (name-no-solidus (t .name) rest (g .name))
-    ∙ pass-over inName (tailAt o) (o + 1) (t .name) rest (all-weaken isNamePart inName part-in-name (t .name) (name-all (t .name) (g .name))) (attrs-end-name (t .gap) w (g .gap) n (t .attributes) (g .attributes))
-    ∙ tail-is o (o + 1 + length (t .name)) t w g b (omega (arith, span-wider isNamePart inName part-in-name w))
+    ∙ pass-over inName (tailAt o) (o + 1) (t .name) rest (full-in (t .name) (name-full (t .name) (g .name))) (attrs-end-name (t .gap) w (g .gap) n (t .attributes) (g .attributes))
+    ∙ tail-is o (o + 1 + length (t .name)) t w g b n
     ∙ ap (λ (z : ℕ). shutAt o (o + 1 + length (t .name)) (length (t .attributes)) (firstOf (o + 1 + length (t .name)) (t .attributes) (t .gap)) z w)
     (omega (arith, length-append (t .name) (attrs (t .attributes) ++ t .gap), length-append (attrs (t .attributes)) (t .gap)))
   where

@@ -4,11 +4,11 @@ use mathlib.Core.List.{List, [], _∷_}
 use Prim.Native.Nat.{ℕ, zero, suc, _+_, _-_}
 use lib.Dec.{eqb}
 use lib.ListN.{length, drop}
-use Rattle.text.specs.Bytes.{isBlank, isNamePart}
+use Rattle.text.specs.Bytes.{isBlank}
 use Rattle.text.specs.Lists.{span}
 use Rattle.xml_tags.specs.declared.attribute.Attribute.{Attribute}
 use Rattle.xml_tags.specs.declared.attribute.Passed.{Passed}
-use Rattle.xml_tags.specs.Passing.{but, noQuote, pass, one}
+use Rattle.xml_tags.specs.Passing.{but, noQuote, inName, pass, one}
 
 -- no attribute
 abbrev pub nowhere : ℕ → Attribute
@@ -32,7 +32,7 @@ quoteAt a o l = pass noQuote (valueAt a o) o l
 
 -- the name, if there is one, is at o
 unfoldable pub namedAt : ℕ → List ℕ → Attribute
-namedAt o l = cond (eqb (span isNamePart l) 0) (nowhere o) (pass isNamePart (quoteAt o) o l)
+namedAt o l = cond (eqb (span inName l) 0) (nowhere o) (pass inName (quoteAt o) o l)
 
 unfoldable pub attributeAt : ℕ → List ℕ → Attribute
 attributeAt o l = pass isBlank namedAt o l

@@ -6,7 +6,7 @@ use lib.Dec.{eqb}
 use lib.ListN.{drop}
 use Rattle.text.specs.Bytes.{isBlank}
 use Rattle.text.specs.Lists.{span}
-use Rattle.text_characters.specs.Pieces.{apostrophe, quotation, solidus, greater}
+use Rattle.text_characters.specs.Pieces.{apostrophe, quotation, solidus, equal, greater}
 
 -- any byte but this
 abbrev pub but : ℕ → ℕ → Bool
@@ -16,9 +16,9 @@ but b x = not (eqb x b)
 unfoldable pub noQuote : ℕ → Bool
 noQuote x = not (eqb x quotation || eqb x apostrophe)
 
--- a name in a tag goes up to the first blank, `/` or `>`
+-- a name in a tag, be it the tag's or an attribute's, goes up to the first blank, `/`, `=` or `>`
 unfoldable pub inName : ℕ → Bool
-inName x = not (isBlank x || eqb x solidus || eqb x greater)
+inName x = not (isBlank x || eqb x solidus || eqb x equal || eqb x greater)
 
 -- from o, over all bytes that pass the test, and then f
 unfoldable pub pass : {A : Type 0} → (ℕ → Bool) → (ℕ → List ℕ → A) → ℕ → List ℕ → A

@@ -1,10 +1,10 @@
 // Attributes of a tag, by their places.
 
+use crate::pass::name_end;
 use crate::pass::past;
 use crate::pass::until;
 use crate::pass::until_quote;
 use text::span::blanks_end;
-use text::span::name_end;
 ghost use mathlib.Core.Path.{_≡_};
 ghost use lib.ListN.{drop};
 ghost use Rattle.xml_tags.specs.Attributes.{nowhere, attributeAt, passedAt};

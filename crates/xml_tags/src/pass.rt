@@ -50,8 +50,8 @@ fn until_near(s: &[u8], at: usize, b: u8) -> usize
     i
 }
 
-// The end of a tag's name that goes on from a place.
-pub(crate) fn tag_name_end(s: &[u8], at: usize) -> usize
+// The end of a name that goes on from a place, be it a tag's or an attribute's.
+pub(crate) fn name_end(s: &[u8], at: usize) -> usize
     ensures { λ r. ⌜ r ≡ at + span inName (drop at (now (s .entry))) ⌝ }
 {
     let mut i = at;
@@ -70,7 +70,7 @@ fn in_name(b: u8) -> bool
 {
     match b {
         9 | 13 | 32 | 47 | 62 => false,
-        10 => false,
+        10 | 61 => false,
         _ => true,
     }
 }

@@ -1,8 +1,8 @@
 // Texts and tags of a message that is known to be good, by no more of their places than its image needs.
 
 use crate::pass::byte_is;
+use crate::pass::name_end;
 use crate::pass::past;
-use crate::pass::tag_name_end;
 use crate::pass::until;
 use crate::token::opening;
 ghost use mathlib.Core.Path.{_≡_};
@@ -34,7 +34,7 @@ pub fn tag_at(s: &[u8], less: usize) -> Tag
             quote: less,
         };
     }
-    let stop = tag_name_end(s, less + 1);
+    let stop = name_end(s, less + 1);
     if byte_is(s, stop, b'>') {
         let end = stop + 1;
         return Tag {

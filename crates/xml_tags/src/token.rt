@@ -4,8 +4,8 @@ use crate::attribute::Attribute;
 use crate::attribute::attribute_at;
 use crate::attribute::attributes_at;
 use crate::pass::byte_is;
+use crate::pass::name_end;
 use crate::pass::past;
-use crate::pass::tag_name_end;
 use crate::pass::until;
 use text::span::blanks_end;
 ghost use mathlib.Core.Path.{_≡_};
@@ -103,7 +103,7 @@ pub fn next(s: &[u8], at: usize) -> Token
         return Token::bare(Kind::Close, less, end);
     }
     // Nearly all names have a `>` behind them: of these no more is asked.
-    let stop = tag_name_end(s, name);
+    let stop = name_end(s, name);
     if byte_is(s, stop, b'>') {
         let end = stop + 1;
         let first = Attribute::nowhere(stop);
@@ -126,7 +126,7 @@ pub fn opening(s: &[u8], less: usize) -> Token
     if s.len() <= less {
         return Token::bare(Kind::End, less, less);
     }
-    tail(s, less, tag_name_end(s, less + 1))
+    tail(s, less, name_end(s, less + 1))
 }
 
 // Whether s begins as a declaration does.

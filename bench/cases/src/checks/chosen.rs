@@ -15,6 +15,7 @@ pub fn fixed_set() -> Vec<Case> {
     let mut files: Vec<Vec<u8>> = Vec::new();
     files.extend(SHORT.iter().map(|text| text.as_bytes().to_vec()));
     files.extend(styles().into_iter().map(String::into_bytes));
+    files.extend(on_the_root());
     files.extend(REPLACED_IN_WHOLE.iter().map(|pairs| replaced(WHOLE, pairs)));
     files.extend(REPLACED_IN_EVERY_ROW.iter().map(|pairs| replaced(EVERY_ROW, pairs)));
     files.extend(not_utf8());
@@ -58,6 +59,59 @@ const SHORT: &[&str] = &[
     "<Document xmlns=\"urn:iso:std:iso:20022:tech:xsd:camt.053.001.08\"><BkToCstmrStmt/><BkToCstmrStmt/></Document>",
     "<Document xmlns=\"urn:iso:std:iso:20022:tech:xsd:camt.053.001.08\"><Document/></Document>",
 ];
+
+/// Schema hints on the root of document 01's whole example: "The root may carry these two besides xmlns, with any text".
+fn on_the_root() -> Vec<Vec<u8>> {
+    let space = "xmlns=\"urn:iso:std:iso:20022:tech:xsd:camt.053.001.08\"";
+    let (prefix, location) = ("xmlns:xsi='http://www.w3.org/2001/XMLSchema-instance'", "xsi:schemaLocation='a b.xsd'");
+    let roots: Vec<Vec<&str>> = vec![
+        // Each order of the three, and of two.
+        vec![space, prefix, location],
+        vec![space, location, prefix],
+        vec![prefix, space, location],
+        vec![prefix, location, space],
+        vec![location, space, prefix],
+        vec![location, prefix, space],
+        vec![space, prefix],
+        vec![prefix, space],
+        // Any text.
+        vec![space, "xmlns:xsi=''", "xsi:schemaLocation=\"\""],
+        vec![space, "xmlns:xsi = '&lt;&amp;&quot; €'", "xsi:schemaLocation='\n'"],
+        vec![space, "xmlns:xsi='urn:iso:std:iso:20022:tech:xsd:camt.053.001.08'"],
+        // "An xsi attribute without its `xmlns:xsi` gives code 4."
+        vec![space, location],
+        vec![location, space],
+        vec![space, location, "xmlns:xs=''"],
+        vec![space, location, "xmlns:schemaLocation=''"],
+        // No others: 4.
+        vec![space, prefix, location, "a=''"],
+        vec![space, prefix, "xsi:noNamespaceSchemaLocation=''"],
+        vec![space, prefix, "xsi:type=''"],
+        vec![space, prefix, "xsi:schemaLocations=''"],
+        vec![space, prefix, "xsi:schemaLocatio=''"],
+        vec![space, prefix, "schemaLocation=''"],
+        vec![space, "xmlns:x=''", "x:schemaLocation=''"],
+        vec![space, "xmlns:xs=''"],
+        vec![space, "xmlns:xsi2=''"],
+        vec![space, "xmlns:XSI=''"],
+        vec![space, "xsi:xmlns=''"],
+        vec![space, "xml:lang='de'"],
+        vec![space, "xsi=''"],
+        // Without xmlns, or with another namespace: 4.
+        vec![prefix],
+        vec![prefix, location],
+        vec!["xmlns=''", prefix, location],
+        vec!["xmlns='urn:iso:std:iso:20022:tech:xsd:camt.053.001.02'", prefix],
+        vec!["xmlns:xsi=\"urn:iso:std:iso:20022:tech:xsd:camt.053.001.08\""],
+        // House XML first: a full name twice, a fifth attribute, two colons.
+        vec![space, prefix, prefix],
+        vec![space, prefix, location, location],
+        vec![space, prefix, location, "a=''", "b=''"],
+        vec![space, "xmlns:xsi:a=''"],
+        vec![space, "xmlns:=''"],
+    ];
+    roots.iter().map(|root| replaced(WHOLE, &[(space, &root.join(" "))])).collect()
+}
 
 /// The same contents in other styles.
 fn styles() -> Vec<String> {
@@ -146,6 +200,18 @@ const REPLACED_IN_WHOLE: &[Replaced] = &[
     &[("<MsgId>", "<MsgId a=''>")],
     &[("<MsgId>M1", "<MsgId xmlns='urn:iso:std:iso:20022:tech:xsd:camt.053.001.08'>")],
     &[("<Stmt>", "<Stmt Ccy='EUR'>x")],
+    // 9, a schema hint below the root.
+    &[("<BkToCstmrStmt>", "<BkToCstmrStmt xmlns:xsi=''>")],
+    &[("<BkToCstmrStmt>", "<BkToCstmrStmt xsi:schemaLocation=''>")],
+    &[("<Document ", "<Document xmlns:xsi='' "), ("<BkToCstmrStmt>", "<BkToCstmrStmt xsi:schemaLocation=''>")],
+    &[("<MsgId>", "<MsgId xmlns:xsi='' xsi:schemaLocation=''>")],
+    &[("<Amt Ccy=\"EUR\">", "<Amt xmlns:xsi='' Ccy='EUR'>")],
+    &[("<Amt Ccy=\"EUR\">", "<Amt Ccy='EUR' xsi:schemaLocation=''>")],
+    &[("<Amt Ccy=\"EUR\">", "<Amt xsi:Ccy='EUR'>")],
+    &[("<Amt Ccy=\"EUR\">", "<Amt Ccy:a='EUR'>")],
+    // 3, a colon in an element's name.
+    &[("<GrpHdr>", "<a:GrpHdr>")],
+    &[("</GrpHdr>", "</a:GrpHdr>")],
     &[("<Amt Ccy=\"EUR\">", "<Amt>")],
     &[("<Amt Ccy=\"EUR\">", "<Amt Ccy='EUR'>")],
     &[("<Amt Ccy=\"EUR\">", "<Amt Ccy='EUR' a=''>")],

@@ -3,6 +3,7 @@
 use independent::list::{find, Kind, Row, NAMESPACE, ROWS};
 
 use super::draft::{Draft, Part, Path};
+use super::made::hint;
 use crate::random::Random;
 use crate::values;
 
@@ -24,7 +25,7 @@ pub fn damage(draft: &mut Draft, random: &mut Random) {
         10 | 11 => bad_value(draft, &paths, random),
         12..=14 => break_rule(draft, &paths, random),
         15 => second_choice(draft, &paths, random),
-        16 if random.once_in(3) => root(draft, random),
+        16 if random.once_in(2) => root(draft, random),
         _ => leave_out_required(draft, &paths, random),
     }
 }
@@ -83,7 +84,7 @@ fn move_in(draft: &mut Draft, paths: &[Path], path: &Path, random: &mut Random) 
 
 /// Code 9, at the root 4.
 fn attributes(element: &mut Draft, random: &mut Random) {
-    let name = random.one_of(&["Ccy", "xmlns", "a", "ccy"]);
+    let name = random.one_of(&["Ccy", "xmlns", "a", "ccy", "a:b", "xmlns:xsi", "xsi:schemaLocation", "xsi:type"]);
     let raw = random.one_of(&["EUR", "", NAMESPACE, "&amp;"]);
     if element.attributes.iter().all(|(other, _)| other != name) {
         element.attributes.push((name.to_string(), raw.to_string()));
@@ -98,8 +99,8 @@ fn amount_attributes(draft: &mut Draft, paths: &[Path], random: &mut Random) {
     let attributes = &mut draft.at(&path).attributes;
     match random.below(5) {
         0 => attributes.clear(),
-        1 => attributes.push(("a".to_string(), "EUR".to_string())),
-        2 => attributes.iter_mut().for_each(|attribute| attribute.0 = "ccy".to_string()),
+        1 => attributes.push((random.one_of(&["a", "xmlns:xsi"]).to_string(), "EUR".to_string())),
+        2 => attributes.iter_mut().for_each(|attribute| attribute.0 = random.one_of(&["ccy", "a:Ccy"]).to_string()),
         _ => {
             let raw = random.one_of(&["", "EU", "EURO", "eur", " EUR", "EUR ", "E&amp;R", "ÄUR", "EU1", "€"]);
             attributes.iter_mut().for_each(|attribute| attribute.1 = raw.to_string());
@@ -165,13 +166,26 @@ fn second_choice(draft: &mut Draft, paths: &[Path], random: &mut Random) {
     parts.insert(random.below(parts.len() + 1), Part::Child(other));
 }
 
-/// Code 4.
+/// Code 4, but for a hint that the root may carry, or may be without.
 fn root(draft: &mut Draft, random: &mut Random) {
-    match random.below(5) {
+    match random.below(9) {
         0 => draft.name = random.one_of(&["document", "Documen", "Documents", "BkToCstmrStmt"]).to_string(),
         1 => draft.attributes.clear(),
         2 => draft.attributes.push(("a".to_string(), "b".to_string())),
-        3 => draft.attributes.iter_mut().for_each(|attribute| attribute.0 = "XMLNS".to_string()),
+        3 => rename_attribute(draft, "XMLNS", random),
+        4 if !draft.attributes.is_empty() => drop(draft.attributes.remove(random.below(draft.attributes.len()))),
+        5 => other_hint("xsi:schemaLocation", draft, random),
+        6 => {
+            let near = ["xmlns:xs", "xmlns:x", "xsi:type", "xsi:noNamespaceSchemaLocation", "xsi", "schemaLocation"];
+            let name = random.one_of(&near).to_string();
+            other_hint(&name, draft, random);
+        }
+        7 => {
+            let near =
+                ["xmlns:XSI", "xmlns:xsi2", "x:schemaLocation", "xsi:schemalocation", "xsi:schemaLocation.", "xmlns"];
+            let name = random.one_of(&near).to_string();
+            rename_attribute(draft, &name, random);
+        }
         _ => {
             let others = [
                 "urn:iso:std:iso:20022:tech:xsd:camt.053.001.02",
@@ -183,6 +197,21 @@ fn root(draft: &mut Draft, random: &mut Random) {
             let raw = random.one_of(&others);
             draft.attributes.iter_mut().for_each(|attribute| attribute.1 = raw.to_string());
         }
+    }
+}
+
+/// One attribute gets this name, if no other has it.
+fn rename_attribute(element: &mut Draft, name: &str, random: &mut Random) {
+    if element.attributes.iter().all(|(other, _)| other != name) && !element.attributes.is_empty() {
+        let index = random.below(element.attributes.len());
+        element.attributes[index].0 = name.to_string();
+    }
+}
+
+/// An attribute of this name besides the others, if none of them has it.
+fn other_hint(name: &str, root: &mut Draft, random: &mut Random) {
+    if root.attributes.iter().all(|(other, _)| other != name) {
+        hint(name, root, random);
     }
 }
 

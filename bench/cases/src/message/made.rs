@@ -20,7 +20,21 @@ pub enum Size {
 /// A message that meets the list.
 pub fn valid(random: &mut Random, size: Size) -> Draft {
     let root = find(1).expect("the root's row");
-    group(root, random, size).attribute("xmlns", NAMESPACE)
+    let mut draft = group(root, random, size).attribute("xmlns", NAMESPACE);
+    if random.once_in(4) {
+        hint("xmlns:xsi", &mut draft, random);
+        if random.once_in(2) {
+            hint("xsi:schemaLocation", &mut draft, random);
+        }
+    }
+    draft
+}
+
+/// Puts a schema hint before, between or after the attributes of a root, "with any text".
+pub fn hint(name: &str, root: &mut Draft, random: &mut Random) {
+    let texts = ["http://www.w3.org/2001/XMLSchema-instance", "", "a b", " ", "&lt;xsi&gt;", "ä€", NAMESPACE, ":"];
+    let attribute = (name.to_string(), random.one_of(&texts).to_string());
+    root.attributes.insert(random.below(root.attributes.len() + 1), attribute);
 }
 
 fn element(row: &Row, random: &mut Random, size: Size) -> Draft {

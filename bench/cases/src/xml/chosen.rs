@@ -1,10 +1,10 @@
 //! Hand-chosen texts, by the readings they try.
 
-/// A text with a declaration, all five entities, both quotes, four attributes, nesting, characters of two, three and four
-/// bytes, `]]`, empty tags and blanks wherever they may stand. Every prefix of it is a case.
+/// A text with a declaration, all five entities, both quotes, four attributes, a colon in the name of one, nesting, characters
+/// of two, three and four bytes, `]]`, empty tags and blanks wherever they may stand. Every prefix of it is a case.
 pub const RICH: &str = concat!(
     "<?xml version=\"1.0\" encoding=\"UTF-8\"?>\r\n",
-    "<a-1 x = \"it's &amp; ]]> €\" _y='\"&apos;ß' z.=''\tw\n=\n'>' >",
+    "<a-1 x = \"it's &amp; ]]> €\" _y:z_9.='\"&apos;ß' z.=''\tw\n=\n'>' >",
     "<b>]]&gt;&lt;&quot;ä𝄞</b ><b/><c\t/>]] ]><d><d>5</d></d>\u{fffd}",
     "</a-1\n>\n "
 );
@@ -12,7 +12,7 @@ pub const RICH: &str = concat!(
 /// Every hand-chosen text.
 pub fn chosen() -> Vec<Vec<u8>> {
     let mut texts: Vec<Vec<u8>> = Vec::new();
-    for group in [STARTS, NAMES, TAGS, ATTRIBUTES, END_TAGS, TEXTS, ENTITIES, AFTER] {
+    for group in [STARTS, NAMES, TAGS, ATTRIBUTES, COLONS, END_TAGS, TEXTS, ENTITIES, AFTER] {
         texts.extend(group.iter().map(|text| text.as_bytes().to_vec()));
     }
     texts.extend(BYTES.iter().map(|text| text.to_vec()));
@@ -83,6 +83,83 @@ const ATTRIBUTES: &[&str] = &[
     "<a b=\"\" c=\"\" d=\"\" e=\"\" b=\"\"/>", "<a b=\"\" b=\"\"/>", "<a b=\"\" b =\"\"/>", "<a b=\"\" bb=\"\"/>",
     "<a bb=\"\" b=\"\"/>", "<a b=\"\" c=\"\" b=\"\"/>", "<a b=\"\" c=\"\" d=\"\" c=\"\"/>", "<a b=\"\" B=\"\"/>",
     "<a b=\"\" b", "<a b=\"\" b ", "<a b=\"\" b/", "<a a=\"\"/>", "<a b=\"\"><c b=\"\"/></a>", "<a></a b=\"\">",
+];
+
+/// "Attribute names may hold one colon between two names; element names may not." "Duplicates are judged by full names; four
+/// attributes stay the limit."
+const COLONS: &[&str] = &[
+    // One colon between two names.
+    "<a b:c=''/>",
+    "<a _:_=\"\"/>",
+    "<a B-1.:c_2 = 'x'></a>",
+    "<a b:c='' d='' e:f='' g=''/>",
+    "<a xmlns:xsi='x' xsi:schemaLocation='y z'/>",
+    "<a><b c:d='&lt;'/></a>",
+    // No name after it.
+    "<a b:=''/>",
+    "<a b: c=''/>",
+    "<a b:\t=''/>",
+    "<a b:1=''/>",
+    "<a b:-c=''/>",
+    "<a b:.c=''/>",
+    "<a b:''/>",
+    "<a b:\"\"/>",
+    "<a b:/>",
+    "<a b:>",
+    "<a b:<",
+    "<a b:&amp;=''/>",
+    "<a b:ä=''/>",
+    "<a b:\u{1}",
+    "<a b:",
+    // A second one.
+    "<a b::c=''/>",
+    "<a b:c:d=''/>",
+    "<a b:c:",
+    "<a b:c:=''/>",
+    "<a b:c :d=''/>",
+    // No name before it; blanks before it.
+    "<a :b=''/>",
+    "<a :",
+    "<a ::",
+    "<a:b=''/>",
+    "<a b :c=''/>",
+    "<a b: :c=''/>",
+    "<a b=:''/>",
+    // In an element's name, and in an end tag.
+    "<a:b c=''/>",
+    "<a:b:c/>",
+    "<a:",
+    "<a><b:c/></a>",
+    "<a><:b/></a>",
+    "<a></a:b>",
+    "<a></:a>",
+    "<a></a:>",
+    "<a b:c=''></a:b>",
+    "<a b:c=''></b:c>",
+    // Full names: the same, and others that begin or end alike.
+    "<a b:c='' b:c=''/>",
+    "<a b:c='' b:c =''/>",
+    "<a b:c='' b:c",
+    "<a b:c='' b:c:",
+    "<a b:c='' b:cc=''/>",
+    "<a b:cc='' b:c=''/>",
+    "<a b:c='' b:d=''/>",
+    "<a b:c='' d:c=''/>",
+    "<a b='' b:c=''/>",
+    "<a b:c='' b=''/>",
+    "<a b='' b:b=''/>",
+    "<a b:c='' c=''/>",
+    "<a b='' b:",
+    "<a b='' b:=''/>",
+    "<a b='' c='' d='' b:c=''/>",
+    "<a b='' c:d='' e='' c:d=''/>",
+    "<a b:c=''><d b:c=''/></a>",
+    // Four, and a fifth.
+    "<a b:c='' d:e='' f:g='' h:i=''/>",
+    "<a b:c='' d:e='' f:g='' h:i='' j:k=''/>",
+    "<a b:c='' d='' e='' f='' b:c=''/>",
+    "<a xmlns='' xmlns:xsi='' xsi:schemaLocation='' b='' c=''/>",
+    "<a b='' c='' d='' e='' :f=''/>",
 ];
 
 /// An end tag stops at the first byte that differs from the open name.

@@ -37,7 +37,7 @@ fn element(random: &mut Random, level: usize, text: &mut String) {
 fn attributes(random: &mut Random, text: &mut String) {
     let mut names: Vec<String> = Vec::new();
     for _ in 0..random.below(9).saturating_sub(4) {
-        let name = name(random);
+        let name = attribute_name(random);
         if names.contains(&name) {
             continue;
         }
@@ -70,6 +70,15 @@ fn name(random: &mut Random) -> String {
     format!("{first}{}", random.characters("ab_Z09.-", rest))
 }
 
+/// A name, or two with a colon between them.
+fn attribute_name(random: &mut Random) -> String {
+    let first = name(random);
+    if random.once_in(3) {
+        return format!("{first}:{}", name(random));
+    }
+    first
+}
+
 /// At least so many blanks, mostly few.
 fn blanks(random: &mut Random, least: usize) -> String {
     let more = if random.once_in(3) { random.below(3) } else { 0 };
@@ -83,7 +92,7 @@ const TELLING: &[u8] =
 /// Pieces that mean something when they stand in the wrong place.
 const TELLING_PIECES: &[&str] = &[
     "]]>", "<!--", "-->", "<![CDATA[", "<?", "?>", "&#65;", "&amp;", "&am", "</", "/>", "<a>", "<a ", "\u{ffff}",
-    "\u{feff}", " a=\"\"", " a='' a=''", " b='1' c='2' d='3' e='4' f='5'",
+    "\u{feff}", " a=\"\"", " a='' a=''", " b='1' c='2' d='3' e='4' f='5'", ":a", " a:b=''", " a:b='' a:b=''",
 ];
 
 /// Changes a text in one place: a byte or a piece put in, left out, replaced, doubled, swapped, or the end cut off.

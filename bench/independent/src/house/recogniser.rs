@@ -104,12 +104,12 @@ impl<'a> Recogniser<'a> {
         }
     }
 
-    /// One attribute: "all names different, blanks allowed around `=`, either quote".
+    /// One attribute: "all names different, blanks allowed around `=`, either quote"; "Duplicates are judged by full names".
     ///
     /// While the name grows it can still become different from the others (there are at most three), so it is only where
-    /// it ends, at the first byte that is no part of a name, that an equal name can't go on.
+    /// it ends, at the first byte that is no part of it, that an equal name can't go on.
     fn attribute(&mut self, earlier: &[Attribute<'a>]) -> Taken<Attribute<'a>> {
-        let name = self.name()?;
+        let name = self.attribute_name()?;
         if earlier.iter().any(|other| other.name == name) {
             return Err(Stuck);
         }
@@ -223,7 +223,8 @@ impl<'a> Recogniser<'a> {
         Ok(())
     }
 
-    /// "A name is a letter or `_`, then letters, digits, `.`, `-`, `_`": as long as it goes.
+    /// "A name is a letter or `_`, then letters, digits, `.`, `-`, `_`": as long as it goes. It is all of an element's name,
+    /// which may hold no colon.
     fn name(&mut self) -> Taken<&'a [u8]> {
         let start = self.at;
         if !self.next().is_some_and(is_name_start) {
@@ -231,6 +232,20 @@ impl<'a> Recogniser<'a> {
         }
         while self.next().is_some_and(is_name_rest) {
             self.at += 1;
+        }
+        Ok(&self.text[start..self.at])
+    }
+
+    /// "Attribute names may hold one colon between two names".
+    ///
+    /// After a name the colon is taken, as another name can follow; then one must. A second colon is not taken: it is no
+    /// part of a name, and neither `=` nor a blank.
+    fn attribute_name(&mut self) -> Taken<&'a [u8]> {
+        let start = self.at;
+        self.name()?;
+        if self.next() == Some(b':') {
+            self.at += 1;
+            self.name()?;
         }
         Ok(&self.text[start..self.at])
     }

@@ -3,29 +3,32 @@ use borrow.Author.Needs.{needs}
 use Rattle.xml_scan.proofs.attribute.attribute.Statement.{statement}
 use Rattle.xml_scan.proofs.attribute.attribute.Tie as tie
 use mathlib.Core.Path.{sym, _∙_}
-use Prim.Native.Nat.{_+_}
 use native.Mathlib.Omega.{arith}
-use Rattle.xml_scan.specs.Classes.{above}
-use Rattle.xml_scan.proofs.Classes.{run-is}
-use Rattle.xml_scan.proofs.Fate.{run-within}
-use Rattle.xml_scan.proofs.Tags.{attribute-full, attribute-seen, attribute-new}
+use Rattle.xml_scan.proofs.Tags.{attribute-full, attribute-unnamed, attribute-seen, attribute-new}
+use Rattle.xml_scan.proofs.FullNames.{name-within}
 
 returns : tie.Need-returns
 returns c =
     attribute-full _ _ _ _ _ (c .before .before .pre .0) (c .before .before .pre .1) (c .if1 .taken)
 
-add-run-end : tie.Need-add-run-end
-add-run-end c = search needs
+full-name-requires : tie.Need-full-name-requires
+full-name-requires c κs = search needs
 
-run-end-requires : tie.Need-run-end-requires
-run-end-requires c κs = search needs
+enum-known-p : tie.Need-enum-known-p
+enum-known-p c = search needs
+
+enum-known-e : tie.Need-enum-known-e
+enum-known-e c = search needs
 
 seen-requires : tie.Need-seen-requires
 seen-requires c κs = search needs
 
 returns-2 : tie.Need-returns-2
 returns-2 c =
-    attribute-seen _ _ _ _ _ (c .before .before .before .before .before .before .before .pre .0) (c .before .before .before .before .before .before .before .pre .1) (omega arith) _ (run-is _ (c .before .before .before .before .before .before .before .pre .3) 1 (c .before .before .before .before .before .before .before .args .s .now) (c .before .before .before .before .before .before .before .args .at + 1) _ (c .before .before .before .before .run-end .ensures)) (sym (c .before .seen .ensures) ∙ c .if2 .taken)
+    attribute-seen _ _ _ _ _ (c .before .before .before .before .before .before .before .before .before .before .pre .0)
+    (c .before .before .before .before .before .before .before .before .before .before .pre .1) (omega arith)
+    (c .before .before .before .before .before .before .before .full-name .result) (c .before .before .before .before .before .before .before .full-name .ensures) _
+    (c .before .before .before .before .before .e .given .1) (sym (c .before .seen .ensures) ∙ c .if2 .taken)
 
 mul-from : tie.Need-mul-from
 mul-from c = search needs
@@ -41,19 +44,30 @@ element-write-to c = search needs
 
 equals-requires : tie.Need-equals-requires
 equals-requires c κs =
-    run-within (above 1) _ _ _ (run-is _ (c .before .before .before .before .before .before .before .pre .3) 1 (c .before .before .before .before .before .before .before .args .s .now) (c .before .before .before .before .before .before .before .args .at + 1) _ (c .before .before .before .before .run-end .ensures)) (omega arith)
+    name-within _ _ (c .before .before .before .before .before .before .before .full-name .result) (c .before .before .before .before .before .before .before .full-name .ensures) _
+    (c .before .before .before .before .before .e .given .1)
 
 returns-3 : tie.Need-returns-3
 returns-3 c =
-    attribute-new _ _ _ _ _ (c .before .before .before .before .before .before .before .before .pre .0) (c .before .before .before .before .before .before .before .before .pre .1) (omega arith) _ (run-is _ (c .before .before .before .before .before .before .before .before .pre .3) 1 (c .before .before .before .before .before .before .before .before .args .s .now) (c .before .before .before .before .before .before .before .before .args .at + 1) _ (c .before .before .before .before .before .run-end .ensures)) (c .before .before .before .before .before .before .before .before .pre .2) (sym (c .before .before .seen .ensures) ∙ c .before .if2 .left) (c .equals .result) (c .equals .ensures)
+    attribute-unnamed _ _ _ _ _ (c .before .before .before .before .before .before .pre .0) (c .before .before .before .before .before .before .pre .1) (omega arith)
+    (c .before .before .before .full-name .result) (c .before .before .before .full-name .ensures) _ (c .before .p .given .1)
+
+returns-4 : tie.Need-returns-4
+returns-4 c =
+    attribute-new _ _ _ _ _ (c .before .before .before .before .before .before .before .before .before .before .before .pre .0)
+    (c .before .before .before .before .before .before .before .before .before .before .before .pre .1) (omega arith)
+    (c .before .before .before .before .before .before .before .before .full-name .result) (c .before .before .before .before .before .before .before .before .full-name .ensures) _
+    (c .before .before .before .before .before .before .e .given .1) (c .before .before .before .before .before .before .before .before .before .before .before .pre .2)
+    (sym (c .before .before .seen .ensures) ∙ c .before .if2 .left) (c .equals .result) (c .equals .ensures)
 
 pub attribute-spec : {M : Type 1} → statement M
 attribute-spec =
     tie.close
     (tie.spec
     returns
-    add-run-end
-    run-end-requires
+    full-name-requires
+    enum-known-p
+    enum-known-e
     seen-requires
     returns-2
     mul-from
@@ -61,4 +75,5 @@ attribute-spec =
     mul-to
     element-write-to
     equals-requires
-    returns-3)
+    returns-3
+    returns-4)

@@ -15,7 +15,7 @@ returns c = ap not (yes-key name-stop (9 ∷ 13 ∷ 32 ∷ 47 ∷ 62 ∷ []) ref
 
 returns-2 : tie.Need-returns-2
 unfolding inName
-returns-2 c = ap not (yes-key name-stop (10 ∷ []) refl (c .match .keys2))
+returns-2 c = ap not (yes-key name-stop (10 ∷ 61 ∷ []) refl (c .match .keys2))
 
 returns-3 : tie.Need-returns-3
 unfolding inName
@@ -24,7 +24,7 @@ returns-3 c =
     let k = r .0 .1 in
     ap not
     (no name-stop
-    (((((λ e. k (inr (inr (inl e))), λ e. k (inl e)), λ e. r .1 e), λ e. k (inr (inl e))), λ e. k (inr (inr (inr (inl e))))), λ e. k (inr (inr (inr (inr e))))))
+    ((((((λ e. k (inr (inr (inl e))), λ e. k (inl e)), λ e. r .1 (inl e)), λ e. k (inr (inl e))), λ e. k (inr (inr (inr (inl e))))), λ e. r .1 (inr e)), λ e. k (inr (inr (inr (inr e))))))
 
 pub in-name-spec : {M : Type 1} → statement M
 in-name-spec = tie.close (tie.spec returns returns-2 returns-3)

@@ -13,22 +13,22 @@ returns : tie.Need-returns
 returns c =
     ap tagOf (open-end _ _ (c .if1 .taken))
 
-add-tag-name-end : tie.Need-add-tag-name-end
-add-tag-name-end c = search needs
+add-name-end : tie.Need-add-name-end
+add-name-end c = search needs
 
-tag-name-end-requires : tie.Need-tag-name-end-requires
-tag-name-end-requires c κs = search needs
+name-end-requires : tie.Need-name-end-requires
+name-end-requires c κs = search needs
 
 byte-is-requires : tie.Need-byte-is-requires
 byte-is-requires c κs = search needs
 
 add-end : tie.Need-add-end
 add-end c =
-    omega (arith, head-in 62 (now (c .before .before .before .before .before .args .s)) (c .before .before .tag-name-end .result) (sym (c .before .byte-is .ensures) ∙ c .if2 .taken))
+    omega (arith, head-in 62 (now (c .before .before .before .before .before .args .s)) (c .before .before .name-end .result) (sym (c .before .byte-is .ensures) ∙ c .if2 .taken))
 
 returns-2 : tie.Need-returns-2
 returns-2 c =
-    ap tagOf (tail-greater _ _ _ _ (sym (c .before .byte-is .ensures) ∙ c .if2 .taken) refl ∙ open-tail _ _ _ (c .before .before .before .if1 .left) (c .before .before .tag-name-end .ensures))
+    ap tagOf (tail-greater _ _ _ _ (sym (c .before .byte-is .ensures) ∙ c .if2 .taken) refl ∙ open-tail _ _ _ (c .before .before .before .if1 .left) (c .before .before .name-end .ensures))
 
 opening-requires : tie.Need-opening-requires
 opening-requires c κs = search needs
@@ -42,8 +42,8 @@ tag-at-spec =
     tie.close
     (tie.spec
     returns
-    add-tag-name-end
-    tag-name-end-requires
+    add-name-end
+    name-end-requires
     byte-is-requires
     add-end
     returns-2

@@ -38,8 +38,8 @@ returns-2 c =
     c .bare2 .ensures
     ∙ next-close _ _ _ (b .before .before .until .ensures) (b .before .if1 .left) _ _ (sym (b .byte-is .ensures) ∙ u .before .if2 .taken) (u .until2 .ensures) (c .before .past .ensures)
 
-tag-name-end-requires : tie.Need-tag-name-end-requires
-tag-name-end-requires c κs = search needs
+name-end-requires : tie.Need-name-end-requires
+name-end-requires c κs = search needs
 
 byte-is-requires-2 : tie.Need-byte-is-requires-2
 byte-is-requires-2 c κs = search needs
@@ -49,7 +49,7 @@ add-end c =
     let g = c .before in
     let l = g .before in
     let a = l .before .before .before .before .before .before .args in
-    omega (arith, head-in 62 (a .s .now) (l .tag-name-end .result) (sym (g .byte-is2 .ensures) ∙ c .if3 .taken))
+    omega (arith, head-in 62 (a .s .now) (l .name-end .result) (sym (g .byte-is2 .ensures) ∙ c .if3 .taken))
 
 nowhere-requires : tie.Need-nowhere-requires
 nowhere-requires c κs = search needs
@@ -59,7 +59,7 @@ returns-3 c =
     let g = c .before .before in
     let l = g .before in
     let b = l .before .before in
-    next-plain _ _ _ (b .before .before .until .ensures) (b .before .if1 .left) _ (sym (b .byte-is .ensures) ∙ l .before .if2 .left) (l .tag-name-end .ensures) _ (sym (g .byte-is2 .ensures) ∙ c .before .if3 .taken) (c .nowhere .ensures)
+    next-plain _ _ _ (b .before .before .until .ensures) (b .before .if1 .left) _ (sym (b .byte-is .ensures) ∙ l .before .if2 .left) (l .name-end .ensures) _ (sym (g .byte-is2 .ensures) ∙ c .before .if3 .taken) (c .nowhere .ensures)
 
 tail-requires : tie.Need-tail-requires
 tail-requires c κs = search needs
@@ -69,7 +69,7 @@ returns-4 c =
     let l = c .before .before .before in
     let b = l .before .before in
     c .tail .ensures
-    ∙ next-open _ _ _ (b .before .before .until .ensures) (b .before .if1 .left) _ (sym (b .byte-is .ensures) ∙ l .before .if2 .left) (l .tag-name-end .ensures)
+    ∙ next-open _ _ _ (b .before .before .until .ensures) (b .before .if1 .left) _ (sym (b .byte-is .ensures) ∙ l .before .if2 .left) (l .name-end .ensures)
 
 pub next-spec : {M : Type 1} → statement M
 next-spec =
@@ -84,7 +84,7 @@ next-spec =
     past-requires
     bare-requires-2
     returns-2
-    tag-name-end-requires
+    name-end-requires
     byte-is-requires-2
     add-end
     nowhere-requires

@@ -1,7 +1,7 @@
--- `attributes::is_xmlns` meets its contract. Assumes nothing.
+-- `hints::is_location` meets its contract. Assumes nothing.
 use borrow.Author.Needs.{needs}
-use Rattle.file_walk.proofs.attributes.is_xmlns.Statement.{statement}
-use Rattle.file_walk.proofs.attributes.is_xmlns.Tie as tie
+use Rattle.file_walk.proofs.hints.is_location.Statement.{statement}
+use Rattle.file_walk.proofs.hints.is_location.Tie as tie
 use Rattle.file_walk.specs.Stride.{named}
 
 slice-aggregate-same-part : tie.Need-slice-aggregate-same-part
@@ -15,5 +15,5 @@ unfolding named
 returns c =
     c .same-part .ensures
 
-pub is-xmlns-spec : {M : Type 1} → statement M
-is-xmlns-spec = tie.close (tie.spec slice-aggregate-same-part same-part-requires returns)
+pub is-location-spec : {M : Type 1} → statement M
+is-location-spec = tie.close (tie.spec slice-aggregate-same-part same-part-requires returns)

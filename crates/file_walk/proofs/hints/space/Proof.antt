@@ -1,13 +1,12 @@
--- `attributes::space` meets its contract. Assumes nothing.
+-- `hints::space` meets its contract. Assumes nothing.
 use borrow.Author.Needs.{needs}
-use Rattle.file_walk.proofs.attributes.space.Statement.{statement}
-use Rattle.file_walk.proofs.attributes.space.Tie as tie
+use Rattle.file_walk.proofs.hints.space.Statement.{statement}
+use Rattle.file_walk.proofs.hints.space.Tie as tie
 use borrow.Author.Tests.{not-true, not-false}
-use Rattle.file_walk.proofs.Strides.{space-many, space-name, space-value}
+use Rattle.file_walk.proofs.Carrying.{space-name, space-value}
 
 returns : tie.Need-returns
-returns c =
-    space-many _ _ _ _ _ (c .if1 .taken)
+returns c = search needs
 
 is-xmlns-requires : tie.Need-is-xmlns-requires
 is-xmlns-requires c κs = search needs

@@ -1,4 +1,4 @@
--- `pass::tag_name_end` meets its contract: what is still to come from `i` makes up the answer from `at`. Assumes nothing.
+-- `pass::name_end` meets its contract: what is still to come from `i` makes up the answer from `at`. Assumes nothing.
 use mathlib.Core.Path.{_≡_, refl}
 use Prim.Native.Nat.{_+_, _-_}
 use lib.ListN.{length, drop}
@@ -6,8 +6,8 @@ use borrow.Author.Needs.{needs}
 use Rattle.text.specs.Lists.{span}
 use Rattle.text.proofs.Spans.{span-over, span-found, span-again}
 use Rattle.xml_tags.specs.Passing.{inName}
-use Rattle.xml_tags.proofs.pass.tag_name_end.Statement.{statement}
-use Rattle.xml_tags.proofs.pass.tag_name_end.Tie as tie
+use Rattle.xml_tags.proofs.pass.name_end.Statement.{statement}
+use Rattle.xml_tags.proofs.pass.name_end.Tie as tie
 
 abbrev Inv-loop : tie.InvT-loop
 Inv-loop s at i₀ i = i + span inName (drop i s) ≡ at + span inName (drop at s)
@@ -43,8 +43,8 @@ loop-again c =
 returns-2 : tie.Need-returns-2 Inv-loop μ-loop
 returns-2 c = span-over inName _ _ _ (c .before .loop .inv) (c .loop-test .left)
 
-pub tag-name-end-spec : {M : Type 1} → statement M
-tag-name-end-spec =
+pub name-end-spec : {M : Type 1} → statement M
+name-end-spec =
     tie.close
     (tie.spec
     Inv-loop
