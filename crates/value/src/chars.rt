@@ -10,17 +10,40 @@ ghost use lib.Dec.{eqb};
 ghost use lib.ListN.{drop};
 ghost use Rattle.text.specs.Lists.{span};
 ghost use Rattle.value.specs.Text.{isTxt, isRef, notSpace};
+ghost use Rattle.value.specs.Pages.{lowWord, wordOf};
 ghost use Rattle.value.specs.Texts.{classOf, textOf, Spelled, widthOf, quietTxt, quietRef, quietOf};
 
-fn is_txt(c: u32) -> bool
+// The words of the first four pages. To the compiler such a `match` is a table of four words; with the euro's page among its keys it would be a jump.
+fn low_word(page: u32) -> u64
+    ensures { λ r. ⌜ r ≡ lowWord page ⌝ }
+{
+    match page {
+        0 => 0xFFFFFFFF00000000,
+        1 => 0x7FFFFFFEFFFFFFFF,
+        2 => 0x0001008000000000,
+        3 => 0x1040001090400010,
+        _ => 0,
+    }
+}
+
+// The word of the page of 64 code points that c is on: a bit for each.
+fn word(c: u32) -> u64
+    ensures { λ r. ⌜ r ≡ wordOf c ⌝ }
+{
+    if c < 256 {
+        return low_word(c / 64);
+    }
+    if c / 64 == 130 {
+        return 0x0000100000000000;
+    }
+    0
+}
+
+// Whether a character may stand in a text: one look at a bit.
+pub fn is_txt(c: u32) -> bool
     ensures { λ r. ⌜ r ≡ isTxt c ⌝ }
 {
-    match c {
-        32..=95 => true,
-        97..=126 => true,
-        0xA7 | 0xB0 | 0xC4 | 0xD6 | 0xDC | 0xDF | 0xE4 | 0xF6 | 0xFC | 0x20AC => true,
-        _ => false,
-    }
+    (word(c) >> (c % 64)) % 2 == 1
 }
 
 fn is_ref(c: u32) -> bool

@@ -1,0 +1,28 @@
+-- `chars::low_word` meets its contract. Assumes nothing.
+use native.Mathlib.Omega.{arith}
+use Rattle.value.specs.Pages.{lowWord}
+use Rattle.value.proofs.Pages.{low-past}
+use Rattle.value.proofs.chars.low_word.Statement.{statement}
+use Rattle.value.proofs.chars.low_word.Tie as tie
+
+returns : tie.Need-returns
+unfolding lowWord
+returns c = rw (c .match .keys1)
+
+returns-2 : tie.Need-returns-2
+unfolding lowWord
+returns-2 c = rw (c .match .keys2)
+
+returns-3 : tie.Need-returns-3
+unfolding lowWord
+returns-3 c = rw (c .match .keys3)
+
+returns-4 : tie.Need-returns-4
+unfolding lowWord
+returns-4 c = rw (c .match .keys4)
+
+returns-5 : tie.Need-returns-5
+returns-5 c = low-past _ (omega arith)
+
+pub low-word-spec : {M : Type 1} → statement M
+low-word-spec = tie.close (tie.spec returns returns-2 returns-3 returns-4 returns-5)
