@@ -9,15 +9,12 @@ use Rattle.value.proofs.chars.is_txt.Tie as tie
 word-requires : tie.Need-word-requires
 word-requires c κs = search needs
 
-cast-result : tie.Need-cast-result
-cast-result c = search needs
-
-shr-result : tie.Need-shr-result
-shr-result c = search needs
+has-bit-requires : tie.Need-has-bit-requires
+has-bit-requires c κs = search needs
 
 returns : tie.Need-returns
 unfolding looked
-returns c = rw (c .word .ensures) (lookup-txt _)
+returns c = c .has-bit .ensures ∙ rw (c .before .word .ensures) (lookup-txt _)
 
 pub is-txt-spec : {M : Type 1} → statement M
-is-txt-spec = tie.close (tie.spec word-requires cast-result shr-result returns)
+is-txt-spec = tie.close (tie.spec word-requires has-bit-requires returns)
