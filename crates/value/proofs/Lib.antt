@@ -31,6 +31,8 @@ pub mod Months
 pub mod Fronts
 -- the classes of references and texts
 pub mod Named
+-- the lookup of a text's characters is their class
+pub mod Pages
 -- references and texts, character by character
 pub mod Texting
 -- the bytes of the characters of a raw text

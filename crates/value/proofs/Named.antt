@@ -1,11 +1,6 @@
 -- The classes of REF, TXT and IBAN, as classes. Assumes nothing.
-use mathlib.Core.Path.{_≡_, refl}
-use mathlib.Core.Bool.{true, false}
-use mathlib.Core.List.{[], _∷_}
-use mathlib.Core.Logic.{inl, inr, ⊎-elim}
-use Prim.Native.Nat.{ℕ, _≤_}
-use types.Run.{OneOf}
-use Rattle.text.proofs.Classes.{Named, only, from, _or_, no}
+use mathlib.Core.Path.{refl}
+use Rattle.text.proofs.Classes.{Named, only, from, _or_}
 use Rattle.text.specs.Bytes.{isLetter, isDigit}
 use Rattle.value.specs.Code.{isLetterOrDigit}
 use Rattle.value.specs.Text.{isTxt, isRef}
@@ -30,14 +25,3 @@ quiet-writing = record { is = λ x. refl }
 pub quiet-reference : Named quietRef (only 32 or from 39 41 or from 43 46 or from 48 58 or only 63 or from 65 90 or from 97 122)
 unfolding quietRef
 quiet-reference = record { is = λ x. refl }
-
--- the ten beyond ASCII
-pub writing-listed : (x : ℕ) → OneOf (0xA7 ∷ 0xB0 ∷ 0xC4 ∷ 0xD6 ∷ 0xDC ∷ 0xDF ∷ 0xE4 ∷ 0xF6 ∷ 0xFC ∷ 0x20AC ∷ []) x → true ≡ isTxt x
-unfolding isTxt
-writing-listed x o =
-    ⊎-elim (λ e. rw e) (⊎-elim (λ e. rw e) (⊎-elim (λ e. rw e) (⊎-elim (λ e. rw e) (⊎-elim (λ e. rw e) (⊎-elim (λ e. rw e) (⊎-elim (λ e. rw e) (⊎-elim (λ e. rw e) (⊎-elim (λ e. rw e) (λ e. rw e))))))))) o
-
-pub writing-not : (x : ℕ) → (OneOf (0xA7 ∷ 0xB0 ∷ 0xC4 ∷ 0xD6 ∷ 0xDC ∷ 0xDF ∷ 0xE4 ∷ 0xF6 ∷ 0xFC ∷ 0x20AC ∷ []) x → ⊥) → (32 ≤ x → x ≤ 95 → ⊥) → (97 ≤ x → x ≤ 126 → ⊥) → false ≡ isTxt x
-writing-not x o a b =
-    no writing
-    (((((((((((a, b), λ e. o (inl e)), λ e. o (inr (inl e))), λ e. o (inr (inr (inl e)))), λ e. o (inr (inr (inr (inl e))))), λ e. o (inr (inr (inr (inr (inl e)))))), λ e. o (inr (inr (inr (inr (inr (inl e))))))), λ e. o (inr (inr (inr (inr (inr (inr (inl e)))))))), λ e. o (inr (inr (inr (inr (inr (inr (inr (inl e))))))))), λ e. o (inr (inr (inr (inr (inr (inr (inr (inr (inl e)))))))))), λ e. o (inr (inr (inr (inr (inr (inr (inr (inr (inr e))))))))))

@@ -19,6 +19,8 @@ pub mod Judged
 pub mod Kind
 -- a mirror: references and texts in one pass
 pub mod Texts
+-- a mirror: the characters of texts, looked up
+pub mod Pages
 -- a mirror: blanks at both ends
 pub mod Trim
 -- a mirror: digits at the front of a text

@@ -5,22 +5,56 @@ use crate::judged::Judged;
 use text_characters::piece::next_char;
 ghost use mathlib.Core.Path.{_≡_};
 ghost use mathlib.Core.Bool.{cond, _&&_, _||_};
-ghost use Prim.Native.Nat.{_+_};
+ghost use Prim.Native.Nat.{_+_, _%_};
 ghost use lib.Dec.{eqb};
 ghost use lib.ListN.{drop};
 ghost use Rattle.text.specs.Lists.{span};
 ghost use Rattle.value.specs.Text.{isTxt, isRef, notSpace};
+ghost use Rattle.value.specs.Pages.{bitOf, wordIn, words, wordOf, quietWords};
 ghost use Rattle.value.specs.Texts.{classOf, textOf, Spelled, widthOf, quietTxt, quietRef, quietOf};
 
-fn is_txt(c: u32) -> bool
+// The word of the page from U+0040 on: all but the backtick and the last, U+007F.
+const LETTERS: u64 = 0x7FFFFFFEFFFFFFFF;
+
+// Whether the bit of a code point is 1 in the word of its page.
+fn has_bit(word: u64, c: u32) -> bool
+    ensures { λ r. ⌜ r ≡ bitOf word (c % 64) ⌝ }
+{
+    (word >> (c % 64)) % 2 == 1
+}
+
+// The words of the first four pages, of 64 code points each. To the compiler such a `match` is a table; with the euro's page among its keys it
+// would be a jump.
+fn low_word(page: u32) -> u64
+    ensures { λ r. ⌜ r ≡ wordIn words page ⌝ }
+{
+    match page {
+        0 => 0xFFFFFFFF00000000,
+        1 => LETTERS,
+        2 => 0x0001008000000000,
+        3 => 0x1040001090400010,
+        _ => 0,
+    }
+}
+
+// The word of the page that a code point is on.
+fn word(c: u32) -> u64
+    ensures { λ r. ⌜ r ≡ wordOf c ⌝ }
+{
+    if c < 256 {
+        return low_word(c / 64);
+    }
+    if c / 64 == 130 {
+        return 0x0000100000000000;
+    }
+    0
+}
+
+// Whether a character may stand in a text.
+pub fn is_txt(c: u32) -> bool
     ensures { λ r. ⌜ r ≡ isTxt c ⌝ }
 {
-    match c {
-        32..=95 => true,
-        97..=126 => true,
-        0xA7 | 0xB0 | 0xC4 | 0xD6 | 0xDC | 0xDF | 0xE4 | 0xF6 | 0xFC | 0x20AC => true,
-        _ => false,
-    }
+    has_bit(word(c), c)
 }
 
 fn is_ref(c: u32) -> bool
@@ -84,15 +118,24 @@ fn slash_behind(strict: bool, code: u32, run: usize) -> bool
     false
 }
 
-// A byte that a text may have and that stands for itself.
+// The words of the bytes that a text may have and that stand for themselves; those of a byte's last two pages are here to make it a table.
+fn quiet_word(page: u32) -> u64
+    ensures { λ r. ⌜ r ≡ wordIn quietWords page ⌝ }
+{
+    match page {
+        0 => 0xEFFFFFBF00000000,
+        1 => LETTERS,
+        2 => 0,
+        3 => 0,
+        _ => 0,
+    }
+}
+
 fn is_quiet_txt(b: u8) -> bool
     ensures { λ r. ⌜ r ≡ quietTxt b ⌝ }
 {
-    match b {
-        38 | 60 | 96 => false,
-        32..=126 => true,
-        _ => false,
-    }
+    let c = b as u32;
+    has_bit(quiet_word(c / 64), c)
 }
 
 // A byte that a reference may have and that stands for itself; a slash must be looked at.

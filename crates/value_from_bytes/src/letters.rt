@@ -3,12 +3,13 @@
 use text::class::is_digit;
 use text::class::is_letter;
 use text_characters::utf8::decode;
+use value::chars::is_txt;
 ghost use mathlib.Core.Path.{_≡_};
 ghost use mathlib.Core.Bool.{true, _&&_};
-ghost use Prim.Native.Nat.{_+_, _≤_, _<_};
+ghost use Prim.Native.Nat.{_+_};
 ghost use lib.ListN.{drop};
 ghost use Rattle.text.specs.Lists.{span};
-ghost use Rattle.value.specs.Text.{isTxt, isRef, notSpace};
+ghost use Rattle.value.specs.Text.{isRef, notSpace};
 ghost use Rattle.value_from_bytes.specs.Tests.{every, some, apart};
 ghost use Rattle.value_from_bytes.specs.Judges.{isWord, isReference, isAsciiTxt, txtLen, isWriting};
 
@@ -110,37 +111,6 @@ fn ascii_end(b: &[u8], at: usize) -> usize
         i += 1;
     }
     i
-}
-
-fn is_low_txt(c: u32) -> bool
-    requires { ⌜ c < 128 ⌝ }
-    ensures { λ r. ⌜ r ≡ isTxt c ⌝ }
-{
-    match c {
-        32..=95 => true,
-        97..=126 => true,
-        _ => false,
-    }
-}
-
-fn is_high_txt(c: u32) -> bool
-    requires { ⌜ 128 ≤ c ⌝ }
-    ensures { λ r. ⌜ r ≡ isTxt c ⌝ }
-{
-    match c {
-        0xA7 | 0xB0 | 0xC4 | 0xD6 | 0xDC | 0xDF | 0xE4 | 0xF6 | 0xFC | 0x20AC => true,
-        _ => false,
-    }
-}
-
-// In two halves, so that ASCII is not asked for the ten characters beyond it.
-fn is_txt(c: u32) -> bool
-    ensures { λ r. ⌜ r ≡ isTxt c ⌝ }
-{
-    if c < 128 {
-        return is_low_txt(c);
-    }
-    is_high_txt(c)
 }
 
 // How many bytes the character of a text has that begins at a place; 0 where none does. `decode` finds the code 0 there, which no text has.

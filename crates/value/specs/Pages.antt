@@ -1,0 +1,32 @@
+-- A mirror: the characters of TXTk looked up, as bits of words, a word for each page of 64 code points. Assumes nothing.
+use mathlib.Core.Bool.{Bool, cond}
+use mathlib.Core.List.{List, [], _∷_}
+use Prim.Native.Nat.{ℕ, _/_, _%_, _^_}
+use lib.Dec.{eqb, ltb}
+use lib.ListN.{getD}
+
+-- whether bit k of a word is 1
+unfoldable pub bitOf : ℕ → ℕ → Bool
+bitOf w k = eqb (w / 2 ^ k % 2) 1
+
+-- the word of a page
+unfoldable pub wordIn : List ℕ → ℕ → ℕ
+wordIn ws p = getD ws p 0
+
+-- the first four pages: bit k of a page's word is 1 where the page's k-th code point, from 0, is a character of a text
+abbrev pub words : List ℕ
+words = 0xFFFFFFFF00000000 ∷ 0x7FFFFFFEFFFFFFFF ∷ 0x0001008000000000 ∷ 0x1040001090400010 ∷ []
+
+-- beyond them the euro's page alone has a word that is not 0
+unfoldable pub wordOf : ℕ → ℕ
+wordOf c = cond (ltb c 256) (wordIn words (c / 64)) (cond (eqb (c / 64) 130) 0x0000100000000000 0)
+
+unfoldable pub looked : ℕ → Bool
+looked c = bitOf (wordOf c) (c % 64)
+
+-- the same of bytes that stand for themselves: ASCII, and neither `&` nor `<`
+abbrev pub quietWords : List ℕ
+quietWords = 0xEFFFFFBF00000000 ∷ 0x7FFFFFFEFFFFFFFF ∷ 0 ∷ 0 ∷ []
+
+unfoldable pub quietLooked : ℕ → Bool
+quietLooked x = bitOf (wordIn quietWords (x / 64)) (x % 64)
