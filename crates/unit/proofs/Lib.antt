@@ -5,6 +5,8 @@ pub mod Checking
 pub mod Exporting
 -- an answer of a pick and its part
 pub mod Picking
+-- one item of an image
+pub mod Standing
 -- what the programs need of check's answers
 pub mod Programs
 -- where the pass that writes stands, and what each turn adds
