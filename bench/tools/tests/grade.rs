@@ -38,7 +38,7 @@ fn grade_says_what_is_wrong_where() {
     let (status, text) = grade(&["damaged/12-bad-value.xml"]);
     let expected = "\
 judged by the independent program, not by the unit
-damaged/12-bad-value.xml: refused 12, value breaks its type, row 30 Document/BkToCstmrStmt/Stmt/Ntry/BookgDt/Dt, byte 20076, \
+damaged/12-bad-value.xml: refused 12 BAD_VALUE, value breaks its type, row 30 Document/BkToCstmrStmt/Stmt/Ntry/BookgDt/Dt, byte 20076, \
                     line 786, column 11
               <Dt>2024-02-30</Dt>
               ^
@@ -81,7 +81,7 @@ fn images_are_kept_and_shown() {
     fs::write(&joined, [&images[0][..], &images[1][..500]].concat()).unwrap();
     let (status, tree) = grade(&["show", joined.to_str().unwrap()]);
     assert_eq!(status, Some(1));
-    assert!(tree.contains("image 2 at byte 3948: refused 17, no whole image"), "{tree}");
+    assert!(tree.contains("image 2 at byte 3948: refused 17 BROKEN_IMAGE, no whole image"), "{tree}");
 }
 
 #[test]
@@ -136,7 +136,7 @@ fn one_object_for_each_file() {
     assert_eq!(said.lines().count(), 25);
     assert!(said.lines().all(|line| line.starts_with("{\"file\":\"") && line.ends_with('}')), "{said}");
     assert!(
-        said.contains("{\"file\":\"./rent-account.xml\",\"code\":0,\"name\":\"accepted\",\"row\":0,\"place\":3948}")
+        said.contains("{\"file\":\"./rent-account.xml\",\"code\":0,\"name\":\"ACCEPTED\",\"meaning\":\"accepted\",\"row\":0,\"place\":3948}")
     );
     let refused = said.lines().find(|line| line.contains("12-bad-value")).unwrap();
     assert_eq!(between(refused, "\"code\":", ",\"name\""), "12");

@@ -34,8 +34,8 @@ abbrev pub wrongRoot : ℕ → Answer
 wrongRoot p = answer 4 1 p
 
 -- "not a child of its parent .. parent .. its `<`"
-abbrev pub noChild : ℕ → ℕ → Answer
-noChild r p = answer 5 r p
+abbrev pub notAChild : ℕ → ℕ → Answer
+notAChild r p = answer 5 r p
 
 -- "later sibling already seen .. own .. its `<`"
 abbrev pub outOfOrder : ℕ → ℕ → Answer

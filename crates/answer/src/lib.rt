@@ -8,7 +8,7 @@ ghost use Rattle.answer.specs.Table.{
   notUtf8,
   notHouseXml,
   wrongRoot,
-  noChild,
+  notAChild,
   outOfOrder,
   tooMany,
   absent,
@@ -42,7 +42,7 @@ impl Answer {
 
     pub const WRONG_ROOT: u8 = 4;
 
-    pub const NO_CHILD: u8 = 5;
+    pub const NOT_A_CHILD: u8 = 5;
 
     pub const OUT_OF_ORDER: u8 = 6;
 
@@ -138,11 +138,11 @@ impl Answer {
     }
 
     // The row is the parent's: what stands there has none.
-    pub fn no_child(parent: usize, place: usize) -> Self
-        ensures { λ r. ⌜ r ≡ noChild parent place ⌝ }
+    pub fn not_a_child(parent: usize, place: usize) -> Self
+        ensures { λ r. ⌜ r ≡ notAChild parent place ⌝ }
     {
         Self {
-            code: Self::NO_CHILD,
+            code: Self::NOT_A_CHILD,
             row: parent,
             place: place,
         }

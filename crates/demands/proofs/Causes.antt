@@ -96,9 +96,9 @@ module _ (j : Judge) (d : Decides houseTypes j) (p : ℕ) (m : Parts) where
   opening-means : (q : ℕ) (seen : List ℕ) (r : ℕ) (ats : Attrs) (o : ℕ) → ((AttrsOf (rowAt house r .kind) ats → ⊥) → BadAttributes p m r o) → Means (Cause p m) (opening j house q seen r ats o)
   opening-means q seen r ats o h =
       first (Cause p m)
-      (refuse (eqb r 0) (table.noChild q o) ∷ refuse (not (isChoice (kindOf house q)) && passed r seen) (table.outOfOrder r o)
+      (refuse (eqb r 0) (table.notAChild q o) ∷ refuse (not (isChoice (kindOf house q)) && passed r seen) (table.outOfOrder r o)
       ∷ refuse (over house (kindOf house q) seen r) (table.tooMany r o) ∷ refuse (not (attrsOk j (kindOf house r) ats)) (table.wrongAttributes r o) ∷ []) (
-        other (eqb r 0) (table.noChild q o) refl,
+        other (eqb r 0) (table.notAChild q o) refl,
         (
           other (not (isChoice (kindOf house q)) && passed r seen) (table.outOfOrder r o) refl,
           (other (over house (kindOf house q) seen r) (table.tooMany r o) refl, (refused (Cause p m) (not (attrsOk j (kindOf house r) ats)) (table.wrongAttributes r o) bad, tt)),

@@ -39,7 +39,7 @@ later b a g h i = test-coded b a g (omega arith, i, λ e. absurd (omega arith))
 module _ (j : Judge) (l : Listing) where
   opening-coded : (p : ℕ) (seen : List ℕ) (r : ℕ) (ats : Attrs) (o : ℕ) → Coded (opening j l p seen r ats o)
   opening-coded p seen r ats o =
-      later (eqb r 0) (table.noChild p o) _ (omega arith) (omega arith)
+      later (eqb r 0) (table.notAChild p o) _ (omega arith) (omega arith)
       (later (not (isChoice (kindOf l p)) && passed r seen) (table.outOfOrder r o) _ (omega arith) (omega arith)
       (later (over l (kindOf l p) seen r) (table.tooMany r o) _ (omega arith) (omega arith)
       (later (not (attrsOk j (kindOf l r) ats)) (table.wrongAttributes r o) Fine (omega arith) (omega arith) tt)))

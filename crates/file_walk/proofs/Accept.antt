@@ -51,8 +51,8 @@ module _ (t : Types) (y : Spelling t) (j : Judge) (d : Decides t j) (l : Listing
   leaf-plain (char o x k) p seen f h e z =
       leaf-plain k p seen f h e (or-fine (inside j l p seen k) Fine (or-fine (refuse (isGroup (kindOf l p) && not (isBlank x)) (table.textInGroup p o)) _ z .1) .0)
   leaf-plain (element o n ats i k) p seen f h e z =
-      let a = or-fine (refuse (eqb (child l p n) 0) (table.noChild p o)) _ (or-fine (opening j l p seen (child l p n) ats o) _ z .0) in
-      clash (eqb (child l p n) 0) (eq-eqb (child l p n) 0 (no-child l p n w f h e)) (refuse-no (eqb (child l p n) 0) (table.noChild p o) (a .0))
+      let a = or-fine (refuse (eqb (child l p n) 0) (table.notAChild p o)) _ (or-fine (opening j l p seen (child l p n) ats o) _ z .0) in
+      clash (eqb (child l p n) 0) (eq-eqb (child l p n) 0 (no-child l p n w f h e)) (refuse-no (eqb (child l p n) 0) (table.notAChild p o) (a .0))
 
   -- what no violation among p's parts comes to
   record Clean (p : ℕ) (seen : List ℕ) (i : Parts) : Type 0 where

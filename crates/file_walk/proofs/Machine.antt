@@ -110,12 +110,12 @@ module _ (T : Speller) (l : Listing) where
   over-latest (leaf k) p r seen pos c a e = refl
 
   open-same : (kp kr : Kind) (p last r o : ℕ) (seen : List ℕ) (ats : Attrs) → Each (Child l p) seen → Each (λ x. x ≤ latest seen) seen → last ≡ latest seen
-      → firstOf (refuse (eqb r 0) (table.noChild p o) ∷ refuse (not (isChoice kp) && ltb r last) (table.outOfOrder r o) ∷ refuse (again l kp last r) (table.tooMany r o) ∷ refuse (not (attrsOk j kr ats)) (table.wrongAttributes r o) ∷ [])
-      ≡ firstOf (refuse (eqb r 0) (table.noChild p o) ∷ refuse (not (isChoice kp) && passed r seen) (table.outOfOrder r o) ∷ refuse (over l kp seen r) (table.tooMany r o) ∷ refuse (not (attrsOk j kr ats)) (table.wrongAttributes r o) ∷ [])
+      → firstOf (refuse (eqb r 0) (table.notAChild p o) ∷ refuse (not (isChoice kp) && ltb r last) (table.outOfOrder r o) ∷ refuse (again l kp last r) (table.tooMany r o) ∷ refuse (not (attrsOk j kr ats)) (table.wrongAttributes r o) ∷ [])
+      ≡ firstOf (refuse (eqb r 0) (table.notAChild p o) ∷ refuse (not (isChoice kp) && passed r seen) (table.outOfOrder r o) ∷ refuse (over l kp seen r) (table.tooMany r o) ∷ refuse (not (attrsOk j kr ats)) (table.wrongAttributes r o) ∷ [])
   open-same kp kr p last r o seen ats c a e =
       rw (e, passed-latest r seen a)
-      (or-when (refuse (eqb r 0) (table.noChild p o)) _ _ (λ z. or-when (refuse (not (isChoice kp) && passed r seen) (table.outOfOrder r o)) _ _ (λ y.
-      ap (λ b. orElse (refuse b (table.tooMany r o)) (orElse (refuse (not (attrsOk j kr ats)) (table.wrongAttributes r o)) Fine)) (over-latest kp p r seen (pos (refuse-no (eqb r 0) (table.noChild p o) z)) c a (refuse-no (not (isChoice kp) && passed r seen) (table.outOfOrder r o) y)))))
+      (or-when (refuse (eqb r 0) (table.notAChild p o)) _ _ (λ z. or-when (refuse (not (isChoice kp) && passed r seen) (table.outOfOrder r o)) _ _ (λ y.
+      ap (λ b. orElse (refuse b (table.tooMany r o)) (orElse (refuse (not (attrsOk j kr ats)) (table.wrongAttributes r o)) Fine)) (over-latest kp p r seen (pos (refuse-no (eqb r 0) (table.notAChild p o) z)) c a (refuse-no (not (isChoice kp) && passed r seen) (table.outOfOrder r o) y)))))
     where
       pos : eqb r 0 ≡ false → 0 < r
       pos z = elim (decLt 0 r) [ yes h ↦ h | no h ↦ absurd (eqb-false r 0 z (omega arith)) ]

@@ -51,9 +51,9 @@ module _ (t : List ℕ) (lv : Level) where
 
   -- x is the answer that is handed on
   module _ (r : ℕ) (own : Bool) (o : ℕ) (x : Answer) where
-    pub says-no-child : r ≡ 0 → x ≡ table.noChild (lv .row) o → Violation x ≡ openingIn t lv r own o
+    pub says-not-a-child : r ≡ 0 → x ≡ table.notAChild (lv .row) o → Violation x ≡ openingIn t lv r own o
     unfolding openingIn
-    says-no-child e f = rw (eq-eqb r 0 e) (ap Violation f)
+    says-not-a-child e f = rw (eq-eqb r 0 e) (ap Violation f)
 
     module _ (a : r ≡ 0 → ⊥) where
       pub says-out-of-order : (y : Bool) → y ≡ passedIn t lv r → y ≡ true → x ≡ table.outOfOrder r o → Violation x ≡ openingIn t lv r own o

@@ -52,15 +52,15 @@ module _ (j : Judge) (l : Listing) where
     -- the tests of an opening tag, its parent's kind and its own being kp and kr
     abbrev tests : Found
     tests = firstOf (
-        refuse (eqb r 0) (table.noChild p o) ∷ refuse (not (isChoice kp) && passed r seen) (table.outOfOrder r o) ∷ refuse (over l kp seen r) (table.tooMany r o) ∷ refuse (not (attrsOk j kr ats)) (table.wrongAttributes r o) ∷ [])
+        refuse (eqb r 0) (table.notAChild p o) ∷ refuse (not (isChoice kp) && passed r seen) (table.outOfOrder r o) ∷ refuse (over l kp seen r) (table.tooMany r o) ∷ refuse (not (attrsOk j kr ats)) (table.wrongAttributes r o) ∷ [])
 
     pub opened : isGroup kp ≡ true → tests ≡ Fine → Opened j l kp kr seen r ats
     opened g e =
-        let a = or-fine (refuse (eqb r 0) (table.noChild p o)) _ e in
+        let a = or-fine (refuse (eqb r 0) (table.notAChild p o)) _ e in
         let b = or-fine (refuse (not (isChoice kp) && passed r seen) (table.outOfOrder r o)) _ (a .1) in
         let c = or-fine (refuse (over l kp seen r) (table.tooMany r o)) _ (b .1) in
         let d = or-fine (refuse (not (attrsOk j kr ats)) (table.wrongAttributes r o)) _ (c .1) in
-        let z = eqb-false r 0 (refuse-no (eqb r 0) (table.noChild p o) (a .0)) in
+        let z = eqb-false r 0 (refuse-no (eqb r 0) (table.notAChild p o) (a .0)) in
         record {
           row = elim (decLt 0 r) [ yes h ↦ h | no h ↦ absurd (z (omega arith)) ];
           fits = fits-of kp seen r g (refuse-no (not (isChoice kp) && passed r seen) (table.outOfOrder r o) (b .0)) (refuse-no (over l kp seen r) (table.tooMany r o) (c .0));

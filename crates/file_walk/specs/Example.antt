@@ -3,7 +3,7 @@ use mathlib.Core.Bool.{false, not}
 use mathlib.Core.List.{List, [], _∷_}
 use Prim.Native.Nat.{ℕ, suc}
 use Prim.Native.String.{String}
-use Rattle.answer.specs.Table.{wrongRoot, noChild, outOfOrder, tooMany, absent, wrongAttributes, textInGroup, empty, badValue, ruleBroken}
+use Rattle.answer.specs.Table.{wrongRoot, notAChild, outOfOrder, tooMany, absent, wrongAttributes, textInGroup, empty, badValue, ruleBroken}
 use Rattle.text.specs.Bytes.{ascii}
 use Rattle.list.specs.Listing.{ref, iban, ccy, bool, num, amt, date, dtm, txt, enum}
 use Rattle.xml.specs.Message.{Attrs, Parts, none, char, element}
@@ -87,8 +87,8 @@ examples =
     (document ((ascii "xsi:schemaLocation", ascii "a b") ∷ (ascii "xmlns:xsi", []) ∷ space) none, Violation (empty 1 0)) ∷
     (document ((ascii "xmlns:xsi", ascii "a") ∷ space) none, Violation (empty 1 0)) ∷
     -- 5: no child of its parent; an element in a leaf
-    (statement (lf 290 "Oops" "" none), Violation (noChild 6 290)) ∷
-    (message (el 110 "Id" (lf 112 "Id" "1" none) none), Violation (noChild 7 112)) ∷
+    (statement (lf 290 "Oops" "" none), Violation (notAChild 6 290)) ∷
+    (message (el 110 "Id" (lf 112 "Id" "1" none) none), Violation (notAChild 7 112)) ∷
     -- 6: also a row that comes again behind a later sibling
     (statement (lf 290 "Id" "S2" none), Violation (outOfOrder 7 290)) ∷
     -- 7: over its count; second child in a choice, whichever it is

@@ -140,7 +140,7 @@ module _ (judge : Judge) (l : Listing) where
   -- being r (0: "not a child of its parent")
   abbrev pub opening : ℕ → List ℕ → ℕ → Attrs → ℕ → Found
   opening p seen r ats o = firstOf (
-      refuse (eqb r 0) (table.noChild p o) ∷
+      refuse (eqb r 0) (table.notAChild p o) ∷
       refuse (not (isChoice (kindOf l p)) && passed r seen) (table.outOfOrder r o) ∷
       refuse (over l (kindOf l p) seen r) (table.tooMany r o) ∷
       refuse (not (attrsOk judge (kindOf l r) ats)) (table.wrongAttributes r o) ∷ [])

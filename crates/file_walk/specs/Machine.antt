@@ -78,7 +78,7 @@ module _ (l : Listing) where
 module _ (T : Speller) (l : Listing) where
   unfoldable pub openTest : Level → ℕ → Attrs → ℕ → Found
   openTest lv r ats o = firstOf (
-      refuse (eqb r 0) (table.noChild (lv .row) o) ∷
+      refuse (eqb r 0) (table.notAChild (lv .row) o) ∷
       refuse (not (isChoice (kindOf l (lv .row))) && ltb r (lv .last)) (table.outOfOrder r o) ∷
       refuse (again l (kindOf l (lv .row)) (lv .last) r) (table.tooMany r o) ∷
       refuse (not (attrsOk (judgeOf T) (kindOf l r) ats)) (table.wrongAttributes r o) ∷ [])

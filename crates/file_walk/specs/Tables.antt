@@ -40,7 +40,7 @@ module _ (t : List ℕ) where
 
   unfoldable pub openingIn : Level → ℕ → Bool → ℕ → Found
   openingIn lv r own o = firstOf (
-      refuse (eqb r 0) (table.noChild (lv .row) o) ∷
+      refuse (eqb r 0) (table.notAChild (lv .row) o) ∷
       refuse (passedIn lv r) (table.outOfOrder r o) ∷
       refuse (againIn lv r) (table.tooMany r o) ∷
       refuse (not own) (table.wrongAttributes r o) ∷ [])

@@ -50,7 +50,7 @@ pub(crate) fn opening(rows: &[u16], lv: Level, r: usize, own: bool, place: usize
     ensures { λ x. ⌜ x ≡ openingIn (now (rows .entry)) lv r own place ⌝ }
 {
     if r == 0 {
-        return Found::Violation(Answer::no_child(lv.row, place));
+        return Found::Violation(Answer::not_a_child(lv.row, place));
     }
     if passed(rows, lv, r) {
         return Found::Violation(Answer::out_of_order(r, place));

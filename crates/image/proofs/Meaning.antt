@@ -124,7 +124,7 @@ module _ (t pool : List ℕ) (so : Sound t pool) (s : List ℕ) where
   pub body-some : (from : ℕ) → (a : Answer) × Tells values l (drop from s) from a
   body-some from = let o = behind-some t (itemEnd t s) s values lawful l (so .well) (lines t pool so) ending from in (o .0, body-means from (o .0) (o .1))
 
-  head-is : (r : ℕ) (f : Leaf) → 0 < r → r ≤ size l → rowAt l r .kind ≡ leaf f → headOf t r ≡ lengthBytes f
+  pub head-is : (r : ℕ) (f : Leaf) → 0 < r → r ≤ size l → rowAt l r .kind ≡ leaf f → headOf t r ≡ lengthBytes f
   unfolding headOf
   head-is r f a b e = head-code (cell t r 3) (wordsIn t pool r) f (cell t r 2) (sym (row r a b) ∙ e)
 

@@ -11,7 +11,7 @@ ghost use Rattle.image.specs.Ends.{itemEnd};
 ghost use Rattle.image.specs.Run.{Comes, headOf, hunt, Finds, Answered, Handed};
 
 // How many bytes stand before a value's own: the two of a text's length.
-fn head(rows: &[u16], r: usize) -> usize
+pub fn head(rows: &[u16], r: usize) -> usize
     ensures { λ n. ⌜ n ≡ headOf (now (rows .entry)) r ⌝ }
 {
     if cell(rows, r, KIND) <= 5 {

@@ -3,5 +3,7 @@
 pub mod Exporting
 -- an answer of a pick and its part
 pub mod Picking
+-- one item of an image
+pub mod Standing
 -- what the programs need of check's answers
 pub mod Programs

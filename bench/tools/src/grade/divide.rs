@@ -5,7 +5,7 @@ use std::io;
 use cases::feed::Case;
 use independent::LIMIT;
 
-use super::report::code_name;
+use super::names::code_in_words;
 use crate::unit::{Line, Unit};
 
 /// An image in a run.
@@ -21,12 +21,12 @@ pub fn divide(unit: &Unit, run: &[u8], mut take: impl FnMut(Part) -> io::Result<
     let mut start = 0;
     let mut number = 1;
     loop {
-        // Bytes behind the first image don't matter, so a long run is shown to the unit in parts.
+        // Bytes after the first image don't matter, so a long run is shown to the unit in parts.
         let rest = &run[start..(start + LIMIT).min(run.len())];
         let Line { code, place, .. } = unit.ask(&Case::read(rest))?;
         if code != 0 {
-            let (name, byte) = (code_name(code), start + place);
-            return Ok(Err(format!("image {number} at byte {start}: refused {code}, {name}, byte {byte}")));
+            let (code, byte) = (code_in_words(code), start + place);
+            return Ok(Err(format!("image {number} at byte {start}: refused {code}, byte {byte}")));
         }
         let bytes = rest.get(..place).filter(|bytes| !bytes.is_empty());
         let bytes = bytes.ok_or_else(|| io::Error::other(format!("an image of {place} bytes at byte {start}")))?;

@@ -3,7 +3,8 @@
 
 use std::fmt::Write;
 
-use super::report::{code_name, Outcome, Refusal, Report, Tally};
+use super::names::{code_in_words, code_meaning, code_name};
+use super::report::{Outcome, Refusal, Report, Tally};
 use super::spot::Spot;
 
 /// The page of the files judged so far.
@@ -47,13 +48,13 @@ impl Page {
     /// A line for each code that came up; of refused files also their share of all that were refused, as a bar.
     fn summary(&self) -> String {
         let rows = self.tally.codes.iter().map(|(code, count)| {
-            let name = escaped(code_name(*code));
+            let (name, meaning) = (code_name(*code), escaped(code_meaning(*code)));
             let bar = match code {
                 0 => String::new(),
                 _ => format!("<i style=\"width:{}%\"></i>", 100 * count / self.tally.refused()),
             };
             format!(
-                "<tr><td class=\"n\">{code}</td><td><a href=\"#code-{code}\">{name}</a></td><td class=\"n\">{count}</td>\
+                "<tr><td class=\"n\">{code}</td><td><a href=\"#code-{code}\">{name}</a></td><td>{meaning}</td><td class=\"n\">{count}</td>\
                  <td class=\"bar\">{bar}</td></tr>\n",
             )
         });
@@ -61,7 +62,7 @@ impl Page {
         match rows.is_empty() {
             true => String::new(),
             false => format!(
-                "<table>\n<thead><tr><th class=\"n\">Code</th><th>Meaning</th><th class=\"n\">Files</th>\
+                "<table>\n<thead><tr><th class=\"n\">Code</th><th>Name</th><th>Meaning</th><th class=\"n\">Files</th>\
                  <th>Of those refused</th></tr></thead>\n<tbody>\n{rows}</tbody>\n</table>\n"
             ),
         }
@@ -70,7 +71,7 @@ impl Page {
     /// The files that were refused with a code.
     fn section(&self, code: u8) -> String {
         let count = self.tally.codes.get(&code).copied().unwrap_or(0);
-        let head = format!("{code}: {} <small>{}</small>", escaped(code_name(code)), files(count));
+        let head = format!("{} <small>{}</small>", escaped(&code_in_words(code)), files(count));
         let mut text = format!("<section id=\"code-{code}\">\n<h2>{head}</h2>\n");
         for report in &self.reports {
             match &report.outcome {
@@ -205,8 +206,8 @@ mod tests {
             "<b>1</b> accepted",
             "<b>1</b> refused",
             "<b>1</b> not read",
-            "<td class=\"n\">12</td><td><a href=\"#code-12\">value breaks its type</a></td><td class=\"n\">1</td>",
-            "<section id=\"code-12\">\n<h2>12: value breaks its type <small>1 file</small></h2>",
+            "<td class=\"n\">12</td><td><a href=\"#code-12\">BAD_VALUE</a></td><td>value breaks its type</td><td class=\"n\">1</td>",
+            "<section id=\"code-12\">\n<h2>12 BAD_VALUE, value breaks its type <small>1 file</small></h2>",
             "<h3>&lt;a&gt;&amp;&quot;b&quot;.xml</h3>",
             "row 52 Document/BkToCstmrStmt/Stmt/Ntry/NtryDtls/TxDtls/RltdPties/Dbtr/Pty/Nm &middot; line 7, column 3 &middot; byte 99",
             "<span class=\"line\">7 | </span>  <mark>&lt;</mark>Nm&gt;A &amp; B&lt;/Nm&gt;\n<span class=\"line\">  | </span>  <b>^</b></pre>",

@@ -1,9 +1,10 @@
 //! The report on a file as one JSON object on one line.
 
-use super::report::{code_name, Outcome, Refusal, Report};
+use super::names::{code_meaning, code_name};
+use super::report::{Outcome, Refusal, Report};
 use independent::list;
 
-/// `file` and `code`, `name`, `row`, `place`; of a refused file also `path` (the row's, where there is one), `line`, `column`, `text` and
+/// `file` and `code`, `name`, `meaning`, `row`, `place`; of a refused file also `path` (the row's, where there is one), `line`, `column`, `text` and
 /// `mark` (how many characters of the text stand before the place). Of a file that can't be read, `file` and `error` alone.
 pub fn object(report: &Report) -> String {
     let mut fields = vec![("file", string(&report.path.to_string_lossy()))];
@@ -23,10 +24,11 @@ pub fn object(report: &Report) -> String {
     format!("{{{}}}", fields.join(","))
 }
 
-fn answer(code: u8, row: u8, place: usize) -> [(&'static str, String); 4] {
+fn answer(code: u8, row: u8, place: usize) -> [(&'static str, String); 5] {
     [
         ("code", code.to_string()),
         ("name", string(code_name(code))),
+        ("meaning", string(code_meaning(code))),
         ("row", row.to_string()),
         ("place", place.to_string()),
     ]
@@ -55,13 +57,13 @@ mod tests {
         let refused = Refusal { code: 12, row: 30, place: 20, spot };
         assert_eq!(
             object(&report(Outcome::Refused(refused))),
-            "{\"file\":\"a \\\"b\\\"\\\\c\\u000a.xml\",\"code\":12,\"name\":\"value breaks its type\",\"row\":30,\"place\":20,\
+            "{\"file\":\"a \\\"b\\\"\\\\c\\u000a.xml\",\"code\":12,\"name\":\"BAD_VALUE\",\"meaning\":\"value breaks its type\",\"row\":30,\"place\":20,\
              \"path\":\"Document/BkToCstmrStmt/Stmt/Ntry/BookgDt/Dt\",\"line\":2,\"column\":3,\
              \"text\":\"  <Dt>ä\\\"</Dt>\",\"mark\":2}"
         );
         assert_eq!(
             object(&Report { path: "a.xml".into(), outcome: Outcome::Accepted(67) }),
-            "{\"file\":\"a.xml\",\"code\":0,\"name\":\"accepted\",\"row\":0,\"place\":67}"
+            "{\"file\":\"a.xml\",\"code\":0,\"name\":\"ACCEPTED\",\"meaning\":\"accepted\",\"row\":0,\"place\":67}"
         );
         assert_eq!(
             object(&Report { path: "a.xml".into(), outcome: Outcome::Unreadable("gone".to_string()) }),

@@ -8,6 +8,7 @@ mod json;
 mod judge;
 mod kept;
 mod make;
+mod names;
 mod progress;
 mod report;
 mod show;

@@ -4,8 +4,9 @@ use std::collections::BTreeMap;
 use std::fmt;
 use std::path::PathBuf;
 
-use independent::{list, Code};
+use independent::list;
 
+use super::names::code_in_words;
 use super::spot::Spot;
 use crate::unit::Line;
 
@@ -45,18 +46,10 @@ impl Outcome {
 }
 
 impl Refusal {
-    pub fn name(&self) -> &'static str {
-        code_name(self.code)
-    }
-
     /// `row 30 Document/BkToCstmrStmt/Stmt/Ntry/BookgDt/Dt`; nothing where the answer has no row.
     pub fn row_in_words(&self) -> Option<String> {
         list::find(self.row).map(|row| format!("row {} {}", row.number, list::path(row)))
     }
-}
-
-pub fn code_name(code: u8) -> &'static str {
-    Code::from_number(code).map_or("no such code", Code::name)
 }
 
 /// One line for an accepted file; for a refused one the reason, and the file's line with a mark below the place.
@@ -70,8 +63,8 @@ impl fmt::Display for Report {
                 let Refusal { code, place, spot, .. } = refusal;
                 let row = refusal.row_in_words().map_or(String::new(), |row| format!(", {row}"));
                 let (line, column) = (spot.line, spot.column);
-                let name = refusal.name();
-                writeln!(f, "{path}: refused {code}, {name}{row}, byte {place}, line {line}, column {column}")?;
+                let code = code_in_words(*code);
+                writeln!(f, "{path}: refused {code}{row}, byte {place}, line {line}, column {column}")?;
                 writeln!(f, "    {}\n    {}^", spot.text, " ".repeat(spot.before))
             }
         }
@@ -115,7 +108,7 @@ impl fmt::Display for Tally {
             write!(f, ", {} not read", self.unreadable)?;
         }
         writeln!(f)?;
-        self.codes.iter().try_for_each(|(code, count)| writeln!(f, "  {count:>6}  {code:>2} {}", code_name(*code)))
+        self.codes.iter().try_for_each(|(code, count)| writeln!(f, "  {count:>6}  {}", code_in_words(*code)))
     }
 }
 
@@ -130,7 +123,7 @@ mod tests {
         let file = b"<Document xmlns=\"x\">\n</Document>";
         let line = Line::parse(&Case::check(LIMIT, &file[..]).line()).unwrap();
         let expected = "\
-a.xml: refused 4, wrong root or namespace, row 1 Document, byte 0, line 1, column 1
+a.xml: refused 4 WRONG_ROOT, wrong root or namespace, row 1 Document, byte 0, line 1, column 1
     <Document xmlns=\"x\">
     ^
 ";
@@ -148,8 +141,8 @@ a.xml: refused 4, wrong root or namespace, row 1 Document, byte 0, line 1, colum
         tally.add(&Outcome::Refused(refused));
         let expected = "\
 3 files: 2 accepted, 1 refused, 1 not read
-       2   0 accepted
-       1  12 value breaks its type
+       2  0 ACCEPTED, accepted
+       1  12 BAD_VALUE, value breaks its type
 ";
         assert_eq!(tally.to_string(), expected);
     }

@@ -8,7 +8,7 @@ use independent::LIMIT;
 
 use super::divide::{divide, Part};
 use super::kept::keep;
-use super::report::code_name;
+use super::names::code_in_words;
 use crate::unit::{Line, Unit};
 
 /// Writes each image of a run as a file, `NAME.xml` in the folder, a second and third with a number, and says so. True if the run is
@@ -20,7 +20,7 @@ pub fn write_files(unit: &Unit, path: &Path, run: &[u8], folder: &Path, out: &mu
         let image = format!("{}: image {number} at byte {start}", path.display());
         if code != 0 {
             all_written = false;
-            return writeln!(out, "{image}: refused {code}, {}, {place} bytes needed", code_name(code));
+            return writeln!(out, "{image}: refused {}, {place} bytes needed", code_in_words(code));
         }
         let written = keep(folder, path, "xml", &file)?;
         writeln!(out, "{image}: written as {}, {place} bytes", written.display())

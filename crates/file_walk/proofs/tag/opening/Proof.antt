@@ -2,14 +2,14 @@
 use borrow.Author.Needs.{needs}
 use Rattle.file_walk.proofs.tag.opening.Statement.{statement}
 use Rattle.file_walk.proofs.tag.opening.Tie as tie
-use Rattle.file_walk.proofs.Says.{says-no-child, says-out-of-order, says-too-many, opens-well, says-wrong-attributes}
+use Rattle.file_walk.proofs.Says.{says-not-a-child, says-out-of-order, says-too-many, opens-well, says-wrong-attributes}
 
-no-child-requires : tie.Need-no-child-requires
-no-child-requires c κs = search needs
+not-a-child-requires : tie.Need-not-a-child-requires
+not-a-child-requires c κs = search needs
 
 returns : tie.Need-returns
 returns c =
-    says-no-child _ _ _ _ _ _ (c .before .if1 .taken) (c .no-child .ensures)
+    says-not-a-child _ _ _ _ _ _ (c .before .if1 .taken) (c .not-a-child .ensures)
 
 passed-requires : tie.Need-passed-requires
 passed-requires c κs = search needs
@@ -46,7 +46,7 @@ pub opening-spec : {M : Type 1} → statement M
 opening-spec =
     tie.close
     (tie.spec
-    no-child-requires
+    not-a-child-requires
     returns
     passed-requires
     out-of-order-requires
