@@ -8,6 +8,7 @@ use list::table::KIND;
 use value::blanks::part_of;
 ghost use mathlib.Core.Path.{_≡_};
 ghost use Rattle.image.specs.Ends.{itemEnd};
+ghost use Rattle.image.specs.Means.{SelectsAnswer, SelectsPart};
 ghost use Rattle.image.specs.Run.{Comes, headOf, hunt, Finds, Answered, Handed};
 
 // How many bytes stand before a value's own: the two of a text's length.
@@ -58,7 +59,8 @@ fn find_leaf(rows: &[u16; 4096], run: &[u8], from: usize, row: usize, n: usize) 
 
 // The answer for the n-th leaf, from 0, of `row`: its row, and where its part begins.
 pub fn pick_from(rows: &[u16; 4096], run: &[u8], from: usize, row: usize, n: usize) -> Answer
-    ensures { λ a. ⌜ Answered (now (rows .entry)) (itemEnd (now (rows .entry)) (now (run .entry))) (now (run .entry)) from row n a ⌝ }
+    ensures is { λ a. ⌜ Answered (now (rows .entry)) (itemEnd (now (rows .entry)) (now (run .entry))) (now (run .entry)) from row n a ⌝ }
+    ensures means { λ a. ⌜ SelectsAnswer (now (rows .entry)) (now (run .entry)) from row n a ⌝ }
 {
     let at = find(rows, run, from, row, n);
     if at == 0 {
@@ -75,7 +77,8 @@ pub fn picked_from<'a>(
     row: usize,
     n: usize,
 ) -> &'a [u8]
-    ensures { λ s. ⌜ Handed (now (rows .entry)) (itemEnd (now (rows .entry)) (now (run .entry))) (now (run .entry)) from row n (now s) ⌝ }
+    ensures is { λ s. ⌜ Handed (now (rows .entry)) (itemEnd (now (rows .entry)) (now (run .entry))) (now (run .entry)) from row n (now s) ⌝ }
+    ensures means { λ s. ⌜ SelectsPart (now (rows .entry)) (now (run .entry)) from row n (now s) ⌝ }
 {
     let value = find(rows, run, from, row, n);
     if value == 0 {

@@ -10,6 +10,7 @@ use Rattle.image.specs.Ends.{itemEnd}
 use Rattle.answer.specs.Table.{picked, noSuchLeaf}
 use Rattle.image.specs.Run.{Finds, headOf, missing, found}
 use Rattle.image.proofs.Hunting.{find-within, head-small}
+use Rattle.image.proofs.Meaning.{part-means}
 
 find-requires : tie.Need-find-requires
 find-requires c κs = search needs
@@ -26,7 +27,7 @@ part-result-end c = search needs
 returns : tie.Need-returns
 returns c =
     let g = c .before .before .before .before .args in
-    record { answer = noSuchLeaf; chooses = missing (subst (λ z. Finds (g .rows .now) (itemEnd (g .rows .now) (g .run .now)) (g .run .now) (g .from) (g .row) (g .n) z) (c .before .if1 .taken) (c .before .before .find .ensures)) refl refl }
+    part-means (g .rows .now) (g .run .now) (g .from) (g .row) (g .n) _ (record { answer = noSuchLeaf; chooses = missing (subst (λ z. Finds (g .rows .now) (itemEnd (g .rows .now) (g .run .now)) (g .run .now) (g .from) (g .row) (g .n) z) (c .before .if1 .taken) (c .before .before .find .ensures)) refl refl })
 
 head-requires : tie.Need-head-requires
 head-requires c κs = search needs
@@ -47,12 +48,13 @@ returns-2 c =
     let at-find = c .before .before .before .before .before .before in
     let g = at-find .before .before .args in
     let v = at-find .find .result in
-    record {
+    part-means (g .rows .now) (g .run .now) (g .from) (g .row) (g .n) _
+    (record {
       answer = picked (g .row) (v + headOf (g .rows .now) (g .row));
       chooses =
           found v (omega (arith, c .before .before .before .before .before .if1 .left)) (at-find .find .ensures) refl
-          (c .part-of .ensures ∙ ap₂ (λ (a b : ℕ). slice (v + a) b (g .run .now)) (c .before .before .before .head .ensures) (c .before .item-end .ensures));
-    }
+          (c .part-of .ensures ∙ ap₂ (λ (a b : ℕ). slice (v + a) b (g .run .now)) (c .before .before .before .head .ensures) (c .before .item-end .ensures .0));
+    })
 
 pub picked-from-spec : {M : Type 1} → statement M
 picked-from-spec =

@@ -43,7 +43,7 @@ picked-from-requires c κs = search needs
 
 returns-3 : tie.Need-returns-3
 returns-3 c =
-    begun-hands _ _ (laid-says _ (c .before .before .before .before .before .before .begun .ensures .1 (omega (arith, c .before .before .before .before .if1 .left)))) _ (c .before .before .before .before .before .before .begun .ensures .0) _ _ (omega (arith, c .before .before .before .before .if1 .left)) _ (c .picked-from .ensures)
+    begun-hands _ _ (laid-says _ (c .before .before .before .before .before .before .begun .ensures .1 (omega (arith, c .before .before .before .before .if1 .left)))) _ (c .before .before .before .before .before .before .begun .ensures .0) _ _ (omega (arith, c .before .before .before .before .if1 .left)) _ (c .picked-from .ensures .0)
 
 pub picked-spec : {M : Type 1} → statement M
 picked-spec =
