@@ -66,6 +66,23 @@ static void picks(uint64_t row, uint64_t n, uint64_t code, uint64_t place, uint6
     same("the length", l, length);
 }
 
+/* A file that is written from a run for so much room: the answer, and what is left in the buffer. */
+static void writes(const char *what, const uint8_t *run, uint64_t length, uint64_t room, uint64_t code, uint64_t place) {
+    uint64_t r = 77, p = 77;
+    memset(out, 0xA5, sizeof out);
+    printf("c: write of %s\n", what);
+    same("the code", kto_write(run, length, out, room, &r, &p), code);
+    same("the row", r, 0);
+    same("the place", p, place);
+    uint64_t kept = code == KTO_ACCEPTED ? place : 0;
+    for (uint64_t i = kept; i < sizeof out; i++) {
+        if (out[i] != 0xA5) {
+            same("a byte that must stay", out[i], 0xA5);
+            break;
+        }
+    }
+}
+
 int main(void) {
     uint64_t length = sizeof whole - 1;
     checks("nothing", "", 0, sizeof out, KTO_NOT_HOUSE_XML, 0, 0);
@@ -87,6 +104,21 @@ int main(void) {
     picks(KTO_ROW_GRPHDR_MSGID, 1, KTO_NO_SUCH_LEAF, 0, 0);
     picks(KTO_ROW_STMT, 0, KTO_NO_SUCH_LEAF, 0, 0);
     picks(UINT64_MAX, UINT64_MAX, KTO_NO_SUCH_LEAF, 0, 0);
+
+    /* the file has `5` where the example has `5.00` */
+    static uint8_t file[KTO_LIMIT];
+    uint64_t size = length - 3;
+    writes("the image", image, sizeof image, sizeof out, KTO_ACCEPTED, size);
+    for (uint64_t i = 0; i < size; i++) {
+        file[i] = out[i];
+    }
+    checks("the written file", (const char *)file, size, 67, KTO_ACCEPTED, 0, 67);
+    same("its image", memcmp(out, image, 67) == 0, 1);
+    writes("the image for just enough bytes", image, sizeof image, size, KTO_ACCEPTED, size);
+    writes("the image for a byte less", image, sizeof image, size - 1, KTO_NO_ROOM, size);
+    writes("all but the image's last byte", image, 66, sizeof out, KTO_BROKEN_IMAGE, 66);
+    writes("nothing", image, 0, sizeof out, KTO_NO_HEADER, 0);
+    writes("a run that is too long", large, sizeof large, sizeof out, KTO_TOO_LONG, KTO_LIMIT);
 
     printf("c: %d faults\n", faults);
     return faults != 0;

@@ -32,6 +32,21 @@ fn every_file_gives_its_answer() {
 }
 
 #[test]
+fn every_image_is_written_as_the_file_beside_it() {
+    let mut images = 0;
+    for entry in fs::read_dir(examples().join("written")).unwrap() {
+        let path = entry.unwrap().path();
+        if path.extension().is_some_and(|extension| extension == "kto") {
+            let (answer, file) = Case::write(LIMIT, fs::read(&path).unwrap()).answer();
+            assert!(answer.is_accepted(), "{path:?}");
+            assert_eq!(file, fs::read(path.with_extension("xml")).unwrap(), "{path:?}");
+            images += 1;
+        }
+    }
+    assert!(images > 0);
+}
+
+#[test]
 fn every_file_has_an_answer_and_every_code_of_a_file_an_example() {
     let answers = answers();
     let files = find_files(&[examples()]).files;

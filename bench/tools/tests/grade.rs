@@ -62,7 +62,7 @@ fn images_are_kept_and_shown() {
     let folder = empty_folder("images");
     assert_eq!(grade(&["--write", folder.to_str().unwrap(), "."]).0, Some(1));
     let kept = ["rent-account.kto", "several-statements.kto"].map(|name| folder.join(name));
-    assert_eq!(fs::read_dir(&folder).unwrap().count(), 2);
+    assert_eq!(fs::read_dir(&folder).unwrap().count(), 4, "the two statements, and each as it is written");
 
     let (status, tree) = grade(&["show", kept[0].to_str().unwrap()]);
     assert_eq!(status, Some(0));
@@ -133,7 +133,7 @@ fn a_closed_pipe_ends_it_quietly() {
 fn one_object_for_each_file() {
     let (status, said) = grade(&["--json", ".", "no-such-file.xml"]);
     assert_eq!(status, Some(2));
-    assert_eq!(said.lines().count(), 16);
+    assert_eq!(said.lines().count(), 18);
     assert!(said.lines().all(|line| line.starts_with("{\"file\":\"") && line.ends_with('}')), "{said}");
     assert!(
         said.contains("{\"file\":\"./rent-account.xml\",\"code\":0,\"name\":\"accepted\",\"row\":0,\"place\":3948}")
@@ -183,4 +183,20 @@ fn made_statements_get_the_answers_of_their_table() {
     for bad in [&["make"][..], &["make", "--code", "14", path], &["--seed", "1", "."], &["make", "--code", "x", path]] {
         assert_eq!(grade(bad).0, Some(2), "{bad:?}");
     }
+}
+
+/// A dense file of a good message is the one that is written from its image: written once more, it is the same.
+#[test]
+fn dense_statements_are_as_the_writer_writes_them() {
+    let folder = empty_folder("dense");
+    let path = folder.to_str().unwrap();
+    let (status, said) = grade(&["make", "--dense", "--seed", "5", "--entries", "9", "--code", "0", path]);
+    assert_eq!(status, Some(0), "{said}");
+    let file = folder.join("0001-good.xml");
+    grade(&["--write", path, file.to_str().unwrap()]);
+    let again = folder.join("again");
+    let image = folder.join("0001-good.kto");
+    let (status, said) = grade(&["write", "--write", again.to_str().unwrap(), image.to_str().unwrap()]);
+    assert_eq!(status, Some(0), "{said}");
+    assert_eq!(fs::read(file).unwrap(), fs::read(again.join("0001-good.xml")).unwrap());
 }

@@ -13,3 +13,5 @@ pub mod Good
 pub mod Files
 -- what writing answers
 pub mod Writing
+-- what the programs need of it
+pub mod Rooms

@@ -7,23 +7,14 @@ use native.Mathlib.Omega.{arith}
 use lib.ListN.{length, take}
 use Rattle.io.specs.Counts.{Counts}
 use Rattle.text.specs.Pasting.{pasted}
-use Rattle.text.proofs.Pasting.{length-pasted}
 use Rattle.answer.specs.declared.Answer.{Answer}
 use Rattle.program_line.specs.Line.{refusal}
-use Rattle.program_line.proofs.Lines.{taken-out, counts}
+use Rattle.program_line.proofs.Lines.{line-taken, counts}
 use Rattle.image_reading.specs.Reads.{HouseReads}
 use Rattle.file.specs.Checks.{Checks}
 use Rattle.unit.proofs.Programs.{place-fits, reads-back, rooms-alike}
 use Rattle.kto.specs.Says.{most, Says, longer, refused, written}
 use Rattle.kto.specs.Answered.{Answered, over, within}
-
--- the line of a refusal, taken from the buffer that it was put into
-pub line-taken : (a : Answer) (d d′ : List ℕ) (r : ℕ) → r ≡ length (refusal a) → r ≤ length d → d′ ≡ pasted d 0 (refusal a) → take r d′ ≡ refusal a
-line-taken a d d′ r e h f = ap (take r) f ∙ taken-out d (refusal a) r e h
-
--- and it counts bytes of that buffer
-pub line-counts : (a : Answer) (d d′ : List ℕ) (r : ℕ) → r ≤ length d → d′ ≡ pasted d 0 (refusal a) → Counts r d′
-line-counts a d d′ r h f = counts r d′ (omega (arith, ap length f, length-pasted d 0 (refusal a)))
 
 module _ (input d : List ℕ) where
   -- the reader gives the answer that check gave
@@ -35,8 +26,8 @@ module _ (input d : List ℕ) where
   module _ (n : length d ≡ most) (a : Answer) (d′ : List ℕ) where
     -- longer input, or a refusal
     pub says-refused : Answered input d a d′ → a .code ≢ 0 → (x : List ℕ) (r : ℕ) → r ≡ length (refusal a) → r ≤ length d′ → x ≡ pasted d′ 0 (refusal a) → Says input (take r x)
-    says-refused (over h e) z x r f g k = longer h (line-taken a d′ x r f g k ∙ ap refusal e)
-    says-refused (within h p b) z x r f g k = refused h a d d′ n p z (line-taken a d′ x r f g k)
+    says-refused (over h e) z x r f g k = longer h (line-taken a d′ x r g k f ∙ ap refusal e)
+    says-refused (within h p b) z x r f g k = refused h a d d′ n p z (line-taken a d′ x r g k f)
 
     -- an image
     pub says-written : Answered input d a d′ → a .code ≡ 0 → Says input (take (a .place) d′)

@@ -11,7 +11,7 @@ use lib.Seq.{drop-cons}
 use borrow.Author.Tests.{lt-ltb, le-ltb, ltb-false, eq-eqb, ne-eqb}
 use Rattle.answer.specs.Table.{limit}
 use Rattle.program_feed.specs.declared.case.Case.{Case}
-use Rattle.program_feed.specs.declared.case.Case.the-variants.{Check, Read, Pick, Broken}
+use Rattle.program_feed.specs.declared.case.Case.the-variants.{Check, Read, Pick, Write, Broken}
 use Rattle.program_feed.specs.Cases.{little, numberAt, longest, caseBy, caseOf, sizeOf, caseIn}
 
 -- ---- four bytes
@@ -64,9 +64,16 @@ module _ (s : List ℕ) (size : ℕ) (h : 13 ≤ length s) (e : size ≡ numberA
         case-pick row n f g z =
             sym (case-is ∙ rw (le-ltb longest size k, ne-eqb (getD s 0 0) 0 n0, ne-eqb (getD s 0 0) 1 n1, eq-eqb (getD s 0 0) 2 z, f, g))
 
-        pub case-other : (getD s 0 0 ≡ 2 → ⊥) → Broken ≡ caseOf s
-        unfolding caseBy
-        case-other n2 = sym (case-is ∙ rw (le-ltb longest size k, ne-eqb (getD s 0 0) 0 n0, ne-eqb (getD s 0 0) 1 n1, ne-eqb (getD s 0 0) 2 n2))
+        module _ (n2 : getD s 0 0 ≡ 2 → ⊥) where
+          pub case-write : (room : ℕ) → room ≡ min (numberAt 1 s) limit → getD s 0 0 ≡ 3 → Write room size ≡ caseOf s
+          unfolding caseBy
+          case-write room f z =
+              sym (case-is ∙ rw (le-ltb longest size k, ne-eqb (getD s 0 0) 0 n0, ne-eqb (getD s 0 0) 1 n1, ne-eqb (getD s 0 0) 2 n2, eq-eqb (getD s 0 0) 3 z, f))
+
+          pub case-other : (getD s 0 0 ≡ 3 → ⊥) → Broken ≡ caseOf s
+          unfolding caseBy
+          case-other n3 =
+              sym (case-is ∙ rw (le-ltb longest size k, ne-eqb (getD s 0 0) 0 n0, ne-eqb (getD s 0 0) 1 n1, ne-eqb (getD s 0 0) 2 n2, ne-eqb (getD s 0 0) 3 n3))
 
 -- ---- the case that a feed begins with
 
@@ -89,24 +96,26 @@ whole s c e n = go (decLt (length s) (13 + sizeOf (caseOf s)))
         let f : caseOf s ≡ c = in-whole s w ∙ sym e in
         (f, subst (λ (x : Case). 13 + sizeOf x ≤ length s) f w)
 
--- the room of a check, 0 of the others
+-- the room of a check and of a write, 0 of the others
 abbrev pub roomOf : Case → ℕ
 roomOf (Check room size) = room
 roomOf (Read size) = 0
 roomOf (Pick row n size) = 0
+roomOf (Write room size) = room
 roomOf Broken = 0
 
 -- no case is longer than the longest, or asks for more room than there is
 abbrev pub Kept : Case → Type 0
 Kept c = (sizeOf c ≤ longest) × (roomOf c ≤ limit)
 
-by-tests : (t u v w : Bool) (room n size : ℕ) → (t ≡ false → size ≤ longest) →
-    Kept (cond t Broken (cond u (Check (min room limit) size) (cond v (Read size) (cond w (Pick room n size) Broken))))
-by-tests true u v w room n size h = (zero-le, zero-le)
-by-tests false true v w room n size h = (h refl, omega arith)
-by-tests false false true w room n size h = (h refl, zero-le)
-by-tests false false false true room n size h = (h refl, zero-le)
-by-tests false false false false room n size h = (zero-le, zero-le)
+by-tests : (t u v w x : Bool) (room n size : ℕ) → (t ≡ false → size ≤ longest) →
+    Kept (cond t Broken (cond u (Check (min room limit) size) (cond v (Read size) (cond w (Pick room n size) (cond x (Write (min room limit) size) Broken)))))
+by-tests true u v w x room n size h = (zero-le, zero-le)
+by-tests false true v w x room n size h = (h refl, omega arith)
+by-tests false false true w x room n size h = (h refl, zero-le)
+by-tests false false false true x room n size h = (h refl, zero-le)
+by-tests false false false false true room n size h = (h refl, omega arith)
+by-tests false false false false false room n size h = (zero-le, zero-le)
 
 pub kept : (s : List ℕ) → Kept (caseOf s)
 unfolding caseOf caseBy
@@ -114,4 +123,4 @@ kept s = go (ltb (length s) 13)
   where
     go : (b : Bool) → Kept (cond b Broken (caseBy (getD s 0 0) (numberAt 1 s) (numberAt 5 s) (numberAt 9 s)))
     go true = (zero-le, zero-le)
-    go false = by-tests (ltb longest (numberAt 9 s)) (eqb (getD s 0 0) 0) (eqb (getD s 0 0) 1) (eqb (getD s 0 0) 2) (numberAt 1 s) (numberAt 5 s) (numberAt 9 s) (ltb-false longest (numberAt 9 s))
+    go false = by-tests (ltb longest (numberAt 9 s)) (eqb (getD s 0 0) 0) (eqb (getD s 0 0) 1) (eqb (getD s 0 0) 2) (eqb (getD s 0 0) 3) (numberAt 1 s) (numberAt 5 s) (numberAt 9 s) (ltb-false longest (numberAt 9 s))

@@ -2,9 +2,10 @@
 use answer::Answer;
 use text::part::least;
 ghost use mathlib.Core.Path.{_≡_};
-ghost use Prim.Native.Nat.{_+_, _≤_, _<_, _^_};
+ghost use Prim.Native.Nat.{_+_, _≤_, _<_, _^_, min};
 ghost use lib.ListN.{length, take, drop};
-ghost use Rattle.program_feed.specs.Cases.{little, caseOf, sizeOf, caseIn};
+ghost use Rattle.answer.specs.Table.{limit};
+ghost use Rattle.program_feed.specs.Cases.{little, numberAt, caseOf, sizeOf, caseIn};
 
 pub enum Case {
     // A file of `size` bytes, for a buffer of `room`.
@@ -13,6 +14,8 @@ pub enum Case {
     Read { size: usize },
     // The leaf number `nth`, from 0, of `row` in a run of `size` bytes.
     Pick { row: usize, nth: usize, size: usize },
+    // A run of `size` bytes that is to be written as a file, for a buffer of `room`.
+    Write { room: usize, size: usize },
     // No case: the head breaks off, or names another op or a length over the longest.
     Broken,
 }
@@ -37,6 +40,14 @@ fn number(s: &[u8], at: usize) -> usize
     wide(s[at]) + 256 * (wide(s[at + 1]) + 256 * (wide(s[at + 2]) + 256 * wide(s[at + 3])))
 }
 
+// The room that a head asks for; more than a buffer may need counts as that much.
+fn room_in(head: &[u8]) -> usize
+    requires { ⌜ 13 ≤ length (now head) ⌝ }
+    ensures { λ r. ⌜ r ≡ min (numberAt 1 (now (head .entry))) limit ⌝ }
+{
+    least(number(head, 1), Answer::LIMIT)
+}
+
 // The case that a head asks for; what stands behind its 13 bytes does not matter.
 pub fn case_of(head: &[u8]) -> Case
     ensures { λ r. ⌜ r ≡ caseOf (now (head .entry)) ⌝ }
@@ -51,7 +62,7 @@ pub fn case_of(head: &[u8]) -> Case
     let op = head[0];
     if op == 0 {
         return Case::Check {
-            room: least(number(head, 1), Answer::LIMIT),
+            room: room_in(head),
             size: size,
         };
     }
@@ -62,6 +73,12 @@ pub fn case_of(head: &[u8]) -> Case
         return Case::Pick {
             row: number(head, 1),
             nth: number(head, 5),
+            size: size,
+        };
+    }
+    if op == 3 {
+        return Case::Write {
+            room: room_in(head),
             size: size,
         };
     }
@@ -80,6 +97,7 @@ pub fn size_of(c: Case) -> usize
             nth: _,
             size,
         } => size,
+        Case::Write { room: _, size } => size,
         Case::Broken => 0,
     }
 }

@@ -9,7 +9,7 @@ use lib.Seq.{slice, length-take-le}
 use Rattle.text.specs.Bytes.{ascii}
 use Rattle.text.specs.Digits.{inDigits}
 use Rattle.text.specs.Pasting.{pasted}
-use Rattle.text.proofs.Pasting.{pasted-then, slice-pasted}
+use Rattle.text.proofs.Pasting.{pasted-then, slice-pasted, length-pasted}
 use Rattle.answer.specs.declared.Answer.{Answer}
 use Rattle.program_line.specs.Line.{numbers, refusal}
 
@@ -69,3 +69,11 @@ module _ (a : Answer) where
       ap (λ (k : List ℕ). pasted k n (10 ∷ [])) (list-behind d w 8 refl (numbers a) (omega arith))
       ∙ list-behind d (w ++ numbers a) n l (10 ∷ []) (omega arith)
       ∙ ap (pasted d 0) (append-assoc w (numbers a) (10 ∷ []))
+
+  -- put to the start of a buffer, it is what the buffer begins with, and it counts bytes of that buffer
+  module _ (d d′ : List ℕ) (r : ℕ) (h : r ≤ length d) (f : d′ ≡ pasted d 0 (refusal a)) where
+    pub line-taken : r ≡ length (refusal a) → take r d′ ≡ refusal a
+    line-taken e = ap (take r) f ∙ taken-out d (refusal a) r e h
+
+    pub line-counts : (r ≤ length d′) × (r ≡ length (take r d′))
+    line-counts = counts r d′ (omega (arith, ap length f, length-pasted d 0 (refusal a)))

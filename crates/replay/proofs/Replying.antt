@@ -12,28 +12,24 @@ use Rattle.answer.specs.declared.Answer.{Answer}
 use Rattle.answer.specs.Table.{limit}
 use Rattle.image_reading.proofs.House.{house-reads-one, house-picks-one}
 use Rattle.file.specs.Checks.{Checks}
+use Rattle.file_letter.specs.Writes.{Writes}
+use Rattle.file_letter.proofs.Rooms.{written-alike}
 use Rattle.unit.proofs.Programs.{rooms-alike}
 use Rattle.program_feed.specs.declared.case.Case.{Case}
-use Rattle.program_feed.specs.declared.case.Case.the-variants.{Check, Read, Pick, Broken}
+use Rattle.program_feed.specs.declared.case.Case.the-variants.{Check, Read, Pick, Write, Broken}
 use Rattle.program_feed.specs.Cases.{longest, caseOf, sizeOf, caseIn, bytesIn}
-use Rattle.program_feed.specs.Reply.{answerLine, Put}
+use Rattle.program_feed.specs.Reply.{answerLine, brokenLine, Put}
 use Rattle.program_feed.proofs.Heads.{whole, Kept, kept}
-use Rattle.replay.specs.Replies.{imageIn, Checked, Measured, Picked, Replies, checked, measured, picked, broken}
+use Rattle.replay.specs.Replies.{heldBy, Filled, Checked, Measured, Picked, Written, Replies, checked, measured, picked, written, broken}
 
--- ---- a check
+-- ---- what a buffer holds
 
-image-refused : (a : Answer) (d : List ℕ) → a .code ≢ 0 → imageIn a d ≡ []
-image-refused a d z = rw (ne-eqb (a .code) 0 z)
+module _ (a : Answer) (d l : List ℕ) where
+  pub none-held : a .code ≢ 0 → l ≡ answerLine a (take 0 d) → l ≡ answerLine a (heldBy a d)
+  none-held z e = e ∙ ap (λ (t : Bool). answerLine a (cond t (take (a .place) d) [])) (sym (ne-eqb (a .code) 0 z))
 
-image-accepted : (a : Answer) (d : List ℕ) → a .code ≡ 0 → imageIn a d ≡ take (a .place) d
-image-accepted a d z = rw (eq-eqb (a .code) 0 z)
-
-module _ (s d : List ℕ) (a : Answer) (d′ l : List ℕ) (p : Checks s d a d′) where
-  pub check-refused : a .code ≢ 0 → l ≡ answerLine a (take 0 d′) → Checked s d d′ l
-  check-refused z e = record { answer = a; checks = p; line = e ∙ ap (answerLine a) (sym (image-refused a d′ z)) }
-
-  pub check-accepted : a .code ≡ 0 → l ≡ answerLine a (take (a .place) d′) → Checked s d d′ l
-  check-accepted z e = record { answer = a; checks = p; line = e ∙ ap (answerLine a) (sym (image-accepted a d′ z)) }
+  pub some-held : a .code ≡ 0 → l ≡ answerLine a (take (a .place) d) → l ≡ answerLine a (heldBy a d)
+  some-held z e = e ∙ ap (λ (t : Bool). answerLine a (cond t (take (a .place) d) [])) (sym (eq-eqb (a .code) 0 z))
 
 -- ---- what stands there of a case
 
@@ -43,6 +39,9 @@ module _ (s : List ℕ) where
 
   pub in-check : (room size : ℕ) → Check room size ≡ caseIn s → (13 + size ≤ length s) × ((size ≤ longest) × (room ≤ limit))
   in-check room size e = of-case (Check room size) e (λ n. let z : _≡_ {A = ℕ} 0 1 = cc in omega arith)
+
+  pub in-write : (room size : ℕ) → Write room size ≡ caseIn s → (13 + size ≤ length s) × ((size ≤ longest) × (room ≤ limit))
+  in-write room size e = of-case (Write room size) e (λ n. let z : _≡_ {A = ℕ} 0 1 = cc in omega arith)
 
   pub in-read : (size : ℕ) → Read size ≡ caseIn s → (13 + size ≤ length s) × (size ≤ longest)
   in-read size e = let w = of-case (Read size) e (λ n. let z : _≡_ {A = ℕ} 0 1 = cc in omega arith) in (w .0, w .1 .0)
@@ -68,6 +67,9 @@ put-long l d r after h p = omega (arith, p .length′ ∙ ap (λ (b : Bool). con
 pub put-check : (s : List ℕ) (k room size : ℕ) (b d d′ l : List ℕ) → Check room size ≡ caseIn s → b ≡ bytesIn size s → length d ≡ room → Checked b d d′ l → Replies s k l
 put-check s k room size b d d′ l e f n p = checked room size (sym e) d d′ n (subst (λ (x : List ℕ). Checked x d d′ l) f p)
 
+pub put-write : (s : List ℕ) (k room size : ℕ) (b d d′ l : List ℕ) → Write room size ≡ caseIn s → b ≡ bytesIn size s → length d ≡ room → Written b d d′ l → Replies s k l
+put-write s k room size b d d′ l e f n p = written room size (sym e) d d′ n (subst (λ (x : List ℕ). Written x d d′ l) f p)
+
 pub put-read : (s : List ℕ) (k size : ℕ) (b l : List ℕ) → Read size ≡ caseIn s → b ≡ bytesIn size s → Measured b l → Replies s k l
 put-read s k size b l e f p = measured size (sym e) (subst (λ (x : List ℕ). Measured x l) f p)
 
@@ -76,26 +78,26 @@ put-pick s k row n size b l e f p = picked row n size (sym e) (subst (λ (x : Li
 
 -- ---- only one line fits
 
+-- two calls with one answer, and one beginning of their buffers where it is accepted
+abbrev Alike : Answer → Answer → List ℕ → List ℕ → Type 0
+Alike a b d e = (a ≡ b) × (a .code ≡ 0 → take (a .place) d ≡ take (b .place) e)
+
+held-one : (a b : Answer) (d e : List ℕ) → Alike a b d e → heldBy a d ≡ heldBy b e
+held-one a b d e o = go (eqb (a .code) 0) refl
+  where
+    other : eqb (b .code) 0 ≡ eqb (a .code) 0
+    other = ap (λ (x : Answer). eqb (x .code) 0) (sym (o .0))
+
+    go : (t : Bool) → eqb (a .code) 0 ≡ t → heldBy a d ≡ heldBy b e
+    go true h = rw (h, other ∙ h) (o .1 (eqb-true (a .code) 0 h))
+    go false h = rw (h, other ∙ h)
+
+filled-one : (P Q : Answer → List ℕ → Type 0) (d e l m : List ℕ) → ((a b : Answer) → P a d → Q b e → Alike a b d e) → Filled P d l → Filled Q e m → l ≡ m
+filled-one P Q d e l m f p q =
+    let o = f (p .answer) (q .answer) (p .called) (q .called) in
+    p .line ∙ ap₂ answerLine (o .0) (held-one (p .answer) (q .answer) d e o) ∙ sym (q .line)
+
 module _ (s : List ℕ) where
-  check-one : (d e d′ e′ l m : List ℕ) → length d ≡ length e → Checked s d d′ l → Checked s e e′ m → l ≡ m
-  check-one d e d′ e′ l m n p q =
-      let o = rooms-alike s d e n (p .answer) (q .answer) d′ e′ (p .checks) (q .checks) in
-      p .line ∙ ap₂ answerLine (o .0) (go (eqb (p .answer .code) 0) refl (o .0) (o .1)) ∙ sym (q .line)
-    where
-      a : Answer
-      a = p .answer
-
-      b : Answer
-      b = q .answer
-
-      go : (t : Bool) → eqb (a .code) 0 ≡ t → a ≡ b → (a .code ≡ 0 → take (a .place) d′ ≡ take (b .place) e′) → imageIn a d′ ≡ imageIn b e′
-      go true h f g =
-          let z : a .code ≡ 0 = eqb-true (a .code) 0 h in
-          image-accepted a d′ z ∙ g z ∙ sym (image-accepted b e′ (sym (ap (λ (x : Answer). x .code) f) ∙ z))
-      go false h f g =
-          ap (λ (t : Bool). cond t (take (a .place) d′) []) h
-          ∙ sym (ap (λ (t : Bool). cond t (take (b .place) e′) []) (ap (λ (x : Answer). eqb (x .code) 0) (sym f) ∙ h))
-
   read-one : (l m : List ℕ) → Measured s l → Measured s m → l ≡ m
   read-one l m p q =
       p .line ∙ ap (λ (x : Answer). answerLine x []) (house-reads-one s (p .answer) (q .answer) (p .reads) (q .reads)) ∙ sym (q .line)
@@ -105,33 +107,29 @@ module _ (s : List ℕ) where
       let o = house-picks-one s row n (p .answer) (q .answer) (p .part) (q .part) (p .picks) (q .picks) in
       p .line ∙ ap₂ answerLine (o .0) (o .1) ∙ sym (q .line)
 
-clash : _≡_ {A = ℕ} 0 1 → ⊥
-clash e = omega arith
+-- what a case asks of its line
+abbrev Asks : List ℕ → ℕ → List ℕ → Case → Type 0
+Asks s k l (Check room size) = (d : List ℕ) × (d′ : List ℕ) × (length d ≡ room) × Checked (bytesIn size s) d d′ l
+Asks s k l (Read size) = Measured (bytesIn size s) l
+Asks s k l (Pick row n size) = Picked (bytesIn size s) row n l
+Asks s k l (Write room size) = (d : List ℕ) × (d′ : List ℕ) × (length d ≡ room) × Written (bytesIn size s) d d′ l
+Asks s k l Broken = l ≡ brokenLine k
+
+asks : (s : List ℕ) (k : ℕ) (l : List ℕ) → Replies s k l → Asks s k l (caseIn s)
+asks s k l (checked r z e d d′ n p) = subst (Asks s k l) (sym e) (d, d′, n, p)
+asks s k l (measured z e p) = subst (Asks s k l) (sym e) p
+asks s k l (picked w n z e p) = subst (Asks s k l) (sym e) p
+asks s k l (written r z e d d′ n p) = subst (Asks s k l) (sym e) (d, d′, n, p)
+asks s k l (broken e q) = subst (Asks s k l) (sym e) q
+
+asks-one : (s : List ℕ) (k : ℕ) (l m : List ℕ) (c : Case) → Asks s k l c → Asks s k m c → l ≡ m
+asks-one s k l m (Check r z) (d, d′, n, p) (e, e′, i, q) =
+    filled-one (Checks (bytesIn z s) d) (Checks (bytesIn z s) e) d′ e′ l m (λ a b. rooms-alike (bytesIn z s) d e (n ∙ sym i) a b d′ e′) p q
+asks-one s k l m (Read z) p q = read-one (bytesIn z s) l m p q
+asks-one s k l m (Pick w n z) p q = pick-one (bytesIn z s) w n l m p q
+asks-one s k l m (Write r z) (d, d′, n, p) (e, e′, i, q) =
+    filled-one (Writes (bytesIn z s) d) (Writes (bytesIn z s) e) d′ e′ l m (λ a b. written-alike d e (n ∙ sym i) (bytesIn z s) a b d′ e′) p q
+asks-one s k l m Broken p q = p ∙ sym q
 
 pub replies-one : (s : List ℕ) (k : ℕ) (l m : List ℕ) → Replies s k l → Replies s k m → l ≡ m
-replies-one s k l m (checked r z e d d′ n p) (checked r₂ z₂ e₂ x x′ n₂ p₂) =
-    let er : r ≡ r₂ = cc in
-    let ez : z ≡ z₂ = cc in
-    check-one (bytesIn z s) d x d′ x′ l m (n ∙ er ∙ sym n₂) p (subst (λ (y : ℕ). Checked (bytesIn y s) x x′ m) (sym ez) p₂)
-replies-one s k l m (checked r z e d d′ n p) (measured z₂ e₂ p₂) = absurd (clash (cc))
-replies-one s k l m (checked r z e d d′ n p) (picked w n₂ z₂ e₂ p₂) = absurd (clash (cc))
-replies-one s k l m (checked r z e d d′ n p) (broken e₂ q) = absurd (clash (cc))
-replies-one s k l m (measured z e p) (checked r₂ z₂ e₂ x x′ n₂ p₂) = absurd (clash (cc))
-replies-one s k l m (measured z e p) (measured z₂ e₂ p₂) =
-    let ez : z ≡ z₂ = cc in
-    read-one (bytesIn z s) l m p (subst (λ (y : ℕ). Measured (bytesIn y s) m) (sym ez) p₂)
-replies-one s k l m (measured z e p) (picked w n₂ z₂ e₂ p₂) = absurd (clash (cc))
-replies-one s k l m (measured z e p) (broken e₂ q) = absurd (clash (cc))
-replies-one s k l m (picked w n z e p) (checked r₂ z₂ e₂ x x′ n₂ p₂) = absurd (clash (cc))
-replies-one s k l m (picked w n z e p) (measured z₂ e₂ p₂) = absurd (clash (cc))
-replies-one s k l m (picked w n z e p) (picked w₂ n₂ z₂ e₂ p₂) =
-    let ew : w ≡ w₂ = cc in
-    let en : n ≡ n₂ = cc in
-    let ez : z ≡ z₂ = cc in
-    pick-one (bytesIn z s) w n l m p
-    (subst (λ (y : ℕ). Picked (bytesIn y s) w n m) (sym ez) (subst (λ (y : ℕ). Picked (bytesIn z₂ s) y n m) (sym ew) (subst (λ (y : ℕ). Picked (bytesIn z₂ s) w₂ y m) (sym en) p₂)))
-replies-one s k l m (picked w n z e p) (broken e₂ q) = absurd (clash (cc))
-replies-one s k l m (broken e q) (checked r₂ z₂ e₂ x x′ n₂ p₂) = absurd (clash (cc))
-replies-one s k l m (broken e q) (measured z₂ e₂ p₂) = absurd (clash (cc))
-replies-one s k l m (broken e q) (picked w₂ n₂ z₂ e₂ p₂) = absurd (clash (cc))
-replies-one s k l m (broken e q) (broken e₂ q₂) = q ∙ sym q₂
+replies-one s k l m p q = asks-one s k l m (caseIn s) (asks s k l p) (asks s k m q)

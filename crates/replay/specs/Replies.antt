@@ -8,20 +8,29 @@ use lib.ListN.{length, take}
 use Rattle.answer.specs.declared.Answer.{Answer}
 use Rattle.image_reading.specs.Reads.{HouseReads, HousePicks}
 use Rattle.file.specs.Checks.{Checks}
+use Rattle.file_letter.specs.Writes.{Writes}
 use Rattle.program_feed.specs.declared.case.Case.{Case}
-use Rattle.program_feed.specs.declared.case.Case.the-variants.{Check, Read, Pick, Broken}
+use Rattle.program_feed.specs.declared.case.Case.the-variants.{Check, Read, Pick, Write, Broken}
 use Rattle.program_feed.specs.Cases.{caseIn, bytesIn}
 use Rattle.program_feed.specs.Reply.{answerLine, brokenLine}
 
--- "HEX is the image of an accepted check .. else nothing": the buffer's first bytes, as many as the answer says
-abbrev pub imageIn : Answer → List ℕ → List ℕ
-imageIn a d = cond (eqb (a .code) 0) (take (a .place) d) []
+-- "HEX is the image of an accepted check .., the file of an accepted write, else nothing": the buffer's first bytes, as many as the answer says
+abbrev pub heldBy : Answer → List ℕ → List ℕ
+heldBy a d = cond (eqb (a .code) 0) (take (a .place) d) []
+
+-- a call with a buffer: what it may answer and leave in the buffer, that buffer afterwards, the line
+pub record Filled (call : Answer → List ℕ → Type 0) (d′ l : List ℕ) : Type 0 where
+  pub answer : Answer
+  pub called : call answer d′
+  pub line : l ≡ answerLine answer (heldBy answer d′)
 
 -- "0 check": the file s, the buffer before and after, the line
-pub record Checked (s d d′ l : List ℕ) : Type 0 where
-  pub answer : Answer
-  pub checks : Checks s d answer d′
-  pub line : l ≡ answerLine answer (imageIn answer d′)
+abbrev pub Checked : List ℕ → List ℕ → List ℕ → List ℕ → Type 0
+Checked s d d′ l = Filled (Checks s d) d′ l
+
+-- "3 write": the run s, the buffer before and after, the line
+abbrev pub Written : List ℕ → List ℕ → List ℕ → List ℕ → Type 0
+Written s d d′ l = Filled (Writes s d) d′ l
 
 -- "1 read"
 pub record Measured (s l : List ℕ) : Type 0 where
@@ -42,6 +51,8 @@ pub data Replies (s : List ℕ) (k : ℕ) (l : List ℕ) : Type 0 where
   checked : (room size : ℕ) → caseIn s ≡ Check room size → (d d′ : List ℕ) → length d ≡ room → Checked (bytesIn size s) d d′ l → Replies s k l
   measured : (size : ℕ) → caseIn s ≡ Read size → Measured (bytesIn size s) l → Replies s k l
   picked : (row n size : ℕ) → caseIn s ≡ Pick row n size → Picked (bytesIn size s) row n l → Replies s k l
+  -- for a buffer of so much room
+  written : (room size : ℕ) → caseIn s ≡ Write room size → (d d′ : List ℕ) → length d ≡ room → Written (bytesIn size s) d d′ l → Replies s k l
   -- "A feed that breaks off, names another op or a greater length ends with the line `feed broken at case N` (N from 0)"
   broken : caseIn s ≡ Broken → l ≡ brokenLine k → Replies s k l
 
@@ -50,4 +61,5 @@ abbrev pub goesOn : Case → Bool
 goesOn (Check room size) = true
 goesOn (Read size) = true
 goesOn (Pick row n size) = true
+goesOn (Write room size) = true
 goesOn Broken = false

@@ -26,6 +26,7 @@ fn goes_on(c: Case) -> bool
             nth: _,
             size: _,
         } => true,
+        Case::Write { room: _, size: _ } => true,
         Case::Broken => false,
     }
 }
@@ -52,14 +53,14 @@ fn take_case(space: &mut [u8]) -> usize
 }
 
 // One case; whether the feed goes on behind it. A line is written as soon as it is there.
-fn answer_case(number: u64, space: &mut [u8], image: &mut [u8], line: &mut [u8]) -> bool
-    requires { ⌜ (length (now space) ≡ 1048590) × ((length (now image) ≡ 1048576) × (length (now line) ≡ 2097218)) ⌝ }
+fn answer_case(number: u64, space: &mut [u8], buffer: &mut [u8], line: &mut [u8]) -> bool
+    requires { ⌜ (length (now space) ≡ 1048590) × ((length (now buffer) ≡ 1048576) × (length (now line) ≡ 2097218)) ⌝ }
 {
     let got = take_case(space);
     if got == 0 {
         return false;
     }
-    let n = reply(&space[..got], number, image, line);
+    let n = reply(&space[..got], number, buffer, line);
     if io::write_all(STDOUT_FILENO, &line[..n]) {
         return goes_on(case_in(&space[..got]));
     }
@@ -67,11 +68,11 @@ fn answer_case(number: u64, space: &mut [u8], image: &mut [u8], line: &mut [u8])
 }
 
 // A proved loop ends, and nothing says that a feed does: the number of the case is what ends it.
-fn answer_all(space: &mut [u8], image: &mut [u8], line: &mut [u8])
-    requires { ⌜ (length (now space) ≡ 1048590) × ((length (now image) ≡ 1048576) × (length (now line) ≡ 2097218)) ⌝ }
+fn answer_all(space: &mut [u8], buffer: &mut [u8], line: &mut [u8])
+    requires { ⌜ (length (now space) ≡ 1048590) × ((length (now buffer) ≡ 1048576) × (length (now line) ≡ 2097218)) ⌝ }
 {
     let mut number: u64 = 0;
-    while number < u64::MAX && answer_case(number, space, image, line) {
+    while number < u64::MAX && answer_case(number, space, buffer, line) {
         number += 1;
     }
 }
@@ -79,7 +80,7 @@ fn answer_all(space: &mut [u8], image: &mut [u8], line: &mut [u8])
 // The longest case, the largest room and the longest line.
 fn main() {
     let mut space = [0u8; 1048590];
-    let mut image = [0u8; 1048576];
+    let mut buffer = [0u8; 1048576];
     let mut line = [0u8; 2097218];
-    answer_all(&mut space, &mut image, &mut line);
+    answer_all(&mut space, &mut buffer, &mut line);
 }

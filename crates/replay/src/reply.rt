@@ -9,13 +9,14 @@ use unit::check::check;
 use unit::pick::pick;
 use unit::pick::picked;
 use unit::read::read;
+use unit::write::write;
 ghost use mathlib.Core.Path.{_≡_};
 ghost use Prim.Native.Nat.{_+_, _≤_};
 ghost use lib.ListN.{length, take};
 ghost use Rattle.io.specs.Counts.{Counts};
 ghost use Rattle.program_feed.specs.Cases.{bytesIn};
 ghost use Rattle.program_feed.specs.Reply.{answerLine};
-ghost use Rattle.replay.specs.Replies.{Checked, Measured, Picked, Replies};
+ghost use Rattle.replay.specs.Replies.{heldBy, Checked, Measured, Picked, Written, Replies};
 
 // The line of an answer and the first n bytes of s, put to the start of a buffer that holds any such; how many bytes it is.
 fn put_line(a: Answer, s: &[u8], n: usize, line: &mut [u8]) -> usize
@@ -26,18 +27,37 @@ fn put_line(a: Answer, s: &[u8], n: usize, line: &mut [u8]) -> usize
     put_answer(a, s, 0, n, line)
 }
 
-// A check, for a buffer with the case's room.
-fn checked(file: &[u8], image: &mut [u8], line: &mut [u8]) -> usize
-    requires { ⌜ (length (now image) ≤ 1048576) × (2097218 ≤ length (now line)) ⌝ }
-    ensures is { λ r. ⌜ Checked (now (file .entry)) (now (image .entry)) (now (image .exit)) (take r (now (line .exit))) ⌝ }
+// The line of a call's answer, with what it then holds in the buffer that it was lent.
+fn put_filled(a: Answer, buffer: &[u8], line: &mut [u8]) -> usize
+    requires { ⌜ (length (now buffer) ≤ 1048576) × (2097218 ≤ length (now line)) ⌝ }
+    ensures is { λ r. ⌜ take r (now (line .exit)) ≡ answerLine a (heldBy a (now (buffer .entry))) ⌝ }
     ensures within { λ r. ⌜ Counts r (now (line .exit)) ⌝ }
 {
-    let a = check(file, image);
     if a.code != Answer::ACCEPTED {
-        return put_line(a, image, 0, line);
+        return put_line(a, buffer, 0, line);
     }
     let n = a.place;
-    put_line(a, image, n, line)
+    put_line(a, buffer, n, line)
+}
+
+// A check, for a buffer with the case's room.
+fn checked(file: &[u8], buffer: &mut [u8], line: &mut [u8]) -> usize
+    requires { ⌜ (length (now buffer) ≤ 1048576) × (2097218 ≤ length (now line)) ⌝ }
+    ensures is { λ r. ⌜ Checked (now (file .entry)) (now (buffer .entry)) (now (buffer .exit)) (take r (now (line .exit))) ⌝ }
+    ensures within { λ r. ⌜ Counts r (now (line .exit)) ⌝ }
+{
+    let a = check(file, buffer);
+    put_filled(a, buffer, line)
+}
+
+// A write, for a buffer with the case's room.
+fn written(run: &[u8], buffer: &mut [u8], line: &mut [u8]) -> usize
+    requires { ⌜ (length (now buffer) ≤ 1048576) × (2097218 ≤ length (now line)) ⌝ }
+    ensures is { λ r. ⌜ Written (now (run .entry)) (now (buffer .entry)) (now (buffer .exit)) (take r (now (line .exit))) ⌝ }
+    ensures within { λ r. ⌜ Counts r (now (line .exit)) ⌝ }
+{
+    let a = write(run, buffer);
+    put_filled(a, buffer, line)
 }
 
 // A read.
@@ -71,15 +91,16 @@ fn bytes_behind<'a>(feed: &'a [u8], size: usize) -> &'a [u8]
 }
 
 // The line for the case that a feed begins with, its number counted from 0; how many bytes it is. Of the feed, no more than the case need be there.
-pub(crate) fn reply(feed: &[u8], number: u64, image: &mut [u8], line: &mut [u8]) -> usize
-    requires { ⌜ (1048576 ≤ length (now image)) × (2097218 ≤ length (now line)) ⌝ }
+pub(crate) fn reply(feed: &[u8], number: u64, buffer: &mut [u8], line: &mut [u8]) -> usize
+    requires { ⌜ (1048576 ≤ length (now buffer)) × (2097218 ≤ length (now line)) ⌝ }
     ensures is { λ r. ⌜ Replies (now (feed .entry)) number (take r (now (line .exit))) ⌝ }
     ensures within { λ r. ⌜ Counts r (now (line .exit)) ⌝ }
 {
     match case_in(feed) {
-        Case::Check { room, size } => checked(bytes_behind(feed, size), &mut image[..room], line),
+        Case::Check { room, size } => checked(bytes_behind(feed, size), &mut buffer[..room], line),
         Case::Read { size } => measured(bytes_behind(feed, size), line),
         Case::Pick { row, nth, size } => part_picked(bytes_behind(feed, size), row, nth, line),
+        Case::Write { room, size } => written(bytes_behind(feed, size), &mut buffer[..room], line),
         Case::Broken => put_broken(number, line),
     }
 }

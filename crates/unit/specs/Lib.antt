@@ -1,5 +1,3 @@
 -- The definitions of `unit`; what check may answer is in `file`.
--- the pass that writes
-pub mod Fill
 -- what the exports for C answer
 pub mod Exports

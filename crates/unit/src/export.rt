@@ -1,12 +1,14 @@
-// The three entries for C: the code is the result, the other numbers go out through lent ones. A slice is a pointer and its length.
+// The entries for C: the code is the result, the other numbers go out through lent ones. A slice is a pointer and its length.
 use crate::check::check;
 use crate::pick::pick;
 use crate::pick::picked;
 use crate::read::read;
+use crate::write::write;
 use answer::Answer;
 ghost use Rattle.answer.specs.Table.{answer};
 ghost use Rattle.image_reading.specs.Reads.{HouseReads};
 ghost use Rattle.file.specs.Checks.{Checks};
+ghost use Rattle.file_letter.specs.Writes.{Writes};
 ghost use Rattle.unit.specs.Exports.{PicksAt};
 
 #[no_mangle]
@@ -37,5 +39,15 @@ pub extern "C" fn kto_pick(run: &[u8], row: u64, n: u64, place: &mut u64, size: 
     let part = picked(run, row as usize, n as usize);
     *place = a.place as u64;
     *size = part.len() as u64;
+    a.code as u64
+}
+
+#[no_mangle]
+pub extern "C" fn kto_write(run: &[u8], out: &mut [u8], row: &mut u64, place: &mut u64) -> u64
+    ensures { λ r. ⌜ Writes (now (run .entry)) (now (out .entry)) (answer r (now (row .exit)) (now (place .exit))) (now (out .exit)) ⌝ }
+{
+    let a = write(run, out);
+    *row = a.row as u64;
+    *place = a.place as u64;
     a.code as u64
 }

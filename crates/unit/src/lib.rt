@@ -1,6 +1,6 @@
 // The unit: one statement file in, its record image out; images read, and values picked from them.
-mod fill; // fill.rt: the pass that writes it
 pub mod check; // check.rt: the entry for files
 pub mod read; // read.rt: the entry for images
 pub mod pick; // pick.rt: the entry for values
-pub mod export; // export.rt: the three entries for C
+pub mod write; // write.rt: the entry for files that are written
+pub mod export; // export.rt: the entries for C

@@ -37,6 +37,14 @@ pub struct Statement {
 /// Makes a statement. The independent program gives the answer; that its code is the one wanted is seen here. The error says why there is
 /// no such statement.
 pub fn make(wanted: Wanted) -> Result<Statement, String> {
+    make_by(wanted, |file| Ok(file.to_vec()))
+}
+
+/// The same; a dense file whose message is good is what `written` makes of it. A damaged message has no image to be written from.
+pub fn make_by(
+    wanted: Wanted,
+    written: impl FnOnce(&[u8]) -> Result<Vec<u8>, String>,
+) -> Result<Statement, String> {
     let Wanted { seed, entries, code, dense } = wanted;
     if !CODES.contains(&code) {
         return Err(format!("no file gets code {code} by itself: the codes are 0 to 13"));
@@ -45,12 +53,15 @@ pub fn make(wanted: Wanted) -> Result<Statement, String> {
     let mut draft = account::statement(entries, &mut random);
     let style = if dense { Style::DENSE } else { Style::USUAL };
     let mut what = format!("a month of a rent account, {}", counted(entries));
-    if let Some(done) = damage::to_draft(code, &mut draft, &mut random)? {
-        what = done;
-    }
+    let damaged = damage::to_draft(code, &mut draft, &mut random)?;
+    let is_good = damaged.is_none();
+    what = damaged.unwrap_or(what);
     let mut file = style.write(&draft).into_bytes();
     if file.len() > LIMIT {
         return Err(format!("{} take {} bytes, over the limit of {LIMIT}", counted(entries), file.len()));
+    }
+    if dense && is_good {
+        file = written(&file)?;
     }
     if let Some(done) = damage::to_file(code, &mut file, &mut random) {
         what = done;

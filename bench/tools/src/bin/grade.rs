@@ -30,7 +30,7 @@ of make:
   --entries N    how many entries each statement has (20)
   --files M      how many files (1; with --code all 14)
   --code C       the code that each must get, 0 to 13, or all of them in turn (0: good ones)
-  --dense        no declaration and no blanks between tags";
+  --dense        no declaration and no blanks between tags; where the message is good, as the unit writes it";
 
 #[derive(Clone, Copy, PartialEq)]
 enum Verb {
@@ -127,7 +127,7 @@ fn main() -> ExitCode {
     };
     output::run("grade", |out| {
         if options.verb == Verb::Make {
-            return make_files(&options.order, &options.words[0], out).map(|()| 0);
+            return make_files(&options.unit, &options.order, &options.words[0], out).map(|()| 0);
         }
         say_who(&options, out)?;
         match options.verb {

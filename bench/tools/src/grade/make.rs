@@ -4,9 +4,13 @@ use std::fs::{self, File, OpenOptions};
 use std::io::{self, Write};
 use std::path::Path;
 
-use cases::statement::{make, Wanted};
+use cases::feed::Case;
+use cases::statement::{make_by, Wanted};
+use independent::LIMIT;
 
+use super::write::file_of;
 use crate::output::named;
+use crate::unit::{Line, Unit};
 
 /// What is to be made.
 pub struct Order {
@@ -20,8 +24,8 @@ pub struct Order {
 }
 
 /// Writes the statements into a folder, and a table of their answers, `ANSWERS.txt`, in the form of that in `examples/`. No file is
-/// written over; each stands in the table as soon as it is written.
-pub fn make_files(order: &Order, folder: &Path, out: &mut dyn Write) -> io::Result<()> {
+/// written over; each stands in the table as soon as it is written. Dense ones are as the unit writes them.
+pub fn make_files(unit: &Unit, order: &Order, folder: &Path, out: &mut dyn Write) -> io::Result<()> {
     fs::create_dir_all(folder).map_err(named(folder))?;
     let answers = folder.join("ANSWERS.txt");
     let head = format!(
@@ -34,7 +38,8 @@ pub fn make_files(order: &Order, folder: &Path, out: &mut dyn Write) -> io::Resu
     for (number, code) in (1..=order.files).zip(order.codes.iter().cycle()) {
         let seed = order.seed.wrapping_add(number as u64 - 1);
         let wanted = Wanted { seed, entries: order.entries, code: *code, dense: order.dense };
-        let made = make(wanted).map_err(io::Error::other)?;
+        let written = |file: &[u8]| written(unit, file).map_err(|error| error.to_string());
+        let made = make_by(wanted, written).map_err(io::Error::other)?;
         let name = match code {
             0 => format!("{number:04}-good.xml"),
             code => format!("{number:04}-code-{code:02}.xml"),
@@ -45,6 +50,16 @@ pub fn make_files(order: &Order, folder: &Path, out: &mut dyn Write) -> io::Resu
         table.write_all(line.as_bytes()).map_err(named(&answers))?;
     }
     writeln!(out, "the answers stand in {}", answers.display())
+}
+
+/// The file that the unit writes from the image that it makes of a good one.
+fn written(unit: &Unit, file: &[u8]) -> io::Result<Vec<u8>> {
+    let Line { code, bytes: image, .. } = unit.ask(&Case::check(LIMIT, file))?;
+    let line = file_of(unit, &image)?;
+    match (code, line.code) {
+        (0, 0) => Ok(line.bytes),
+        (checked, written) => Err(io::Error::other(format!("the unit refuses a good statement: {checked}, {written}"))),
+    }
 }
 
 /// A file that was not there before.

@@ -16,7 +16,7 @@ use crate::unit::{Line, Unit};
 pub fn write_files(unit: &Unit, path: &Path, run: &[u8], folder: &Path, out: &mut dyn Write) -> io::Result<bool> {
     let mut all_written = true;
     let left = divide(unit, run, |Part { number, start, bytes }| {
-        let Line { code, place, bytes: file, .. } = unit.ask(&Case::write(LIMIT, bytes)).map_err(unknown_op)?;
+        let Line { code, place, bytes: file, .. } = file_of(unit, bytes)?;
         let image = format!("{}: image {number} at byte {start}", path.display());
         if code != 0 {
             all_written = false;
@@ -31,12 +31,7 @@ pub fn write_files(unit: &Unit, path: &Path, run: &[u8], folder: &Path, out: &mu
     }
 }
 
-/// A `replay` from before the writer breaks off at it.
-fn unknown_op(error: io::Error) -> io::Error {
-    match error.to_string().contains("feed broken") {
-        true => io::Error::other(
-            "this replay doesn't write files yet (op 3); --independent has the independent program do it",
-        ),
-        false => error,
-    }
+/// What the unit says to an image that it is to write, with room for every file.
+pub fn file_of(unit: &Unit, image: &[u8]) -> io::Result<Line> {
+    unit.ask(&Case::write(LIMIT, image))
 }

@@ -7,11 +7,11 @@ use Rattle.replay.proofs.answer_all.Statement.{statement}
 use Rattle.replay.proofs.answer_all.Tie as tie
 
 abbrev Inv-loop : tie.InvT-loop
-Inv-loop space₀ image₀ line₀ number₀ space image line number =
-    (length space ≡ 1048590) × ((length space ≡ length space₀) × ((length image ≡ 1048576) × ((length image ≡ length image₀) × ((length line ≡ 2097218) × (length line ≡ length line₀)))))
+Inv-loop space₀ buffer₀ line₀ number₀ space buffer line number =
+    (length space ≡ 1048590) × ((length space ≡ length space₀) × ((length buffer ≡ 1048576) × ((length buffer ≡ length buffer₀) × ((length line ≡ 2097218) × (length line ≡ length line₀)))))
 
 abbrev μ-loop : tie.MeasureT-loop
-μ-loop space₀ image₀ line₀ number₀ space image line number = 18446744073709551615 - number
+μ-loop space₀ buffer₀ line₀ number₀ space buffer line number = 18446744073709551615 - number
 
 loop-holds : tie.Need-loop-holds Inv-loop μ-loop
 loop-holds c = search needs

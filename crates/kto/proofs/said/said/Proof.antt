@@ -1,7 +1,8 @@
 -- `said::said` meets its contract: an image, or the line of a refusal. Assumes nothing.
 use native.Mathlib.Omega.{arith}
 use borrow.Author.Needs.{needs}
-use Rattle.kto.proofs.Saying.{line-counts, says-refused, says-written, image-counts}
+use Rattle.program_line.proofs.Lines.{line-counts}
+use Rattle.kto.proofs.Saying.{says-refused, says-written, image-counts}
 use Rattle.kto.proofs.said.said.Statement.{statement}
 use Rattle.kto.proofs.said.said.Tie as tie
 

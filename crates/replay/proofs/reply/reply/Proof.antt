@@ -8,7 +8,7 @@ use Rattle.program_feed.specs.Reply.{brokenLine}
 use Rattle.program_feed.proofs.Replies.{put-taken}
 use Rattle.replay.specs.Replies.{broken}
 use Rattle.program_line.proofs.Lines.{counts}
-use Rattle.replay.proofs.Replying.{in-check, in-read, in-pick, bytes-most, take-most, put-long, put-check, put-read, put-pick}
+use Rattle.replay.proofs.Replying.{in-check, in-read, in-pick, in-write, bytes-most, take-most, put-long, put-check, put-read, put-pick, put-write}
 use borrow.Author.Needs.{needs}
 use Rattle.replay.proofs.reply.reply.Statement.{statement}
 use Rattle.replay.proofs.reply.reply.Tie as tie
@@ -31,7 +31,7 @@ slice-relend-prefix-checked c =
 slice-aggregate-checked : tie.Need-slice-aggregate-checked
 slice-aggregate-checked c =
     let k = in-check (c .before .before .before .before .before .before .before .before .before .args .feed .now) _ _ (sym (c .before .before .before .room .given .1) ∙ c .before .before .before .before .before .case-in .ensures) in
-    sym (length-take-le _ (c .before .before .before .before .before .before .before .before .before .args .image .now) (omega (arith, k .1 .1, c .before .before .before .before .before .before .before .before .before .pre .0)))
+    sym (length-take-le _ (c .before .before .before .before .before .before .before .before .before .args .buffer .now) (omega (arith, k .1 .1, c .before .before .before .before .before .before .before .before .before .pre .0)))
 
 checked-requires : tie.Need-checked-requires
 checked-requires c κs =
@@ -47,7 +47,8 @@ bytes-behind-requires-2 c κs =
 
 measured-requires : tie.Need-measured-requires
 measured-requires c κs =
-    (bytes-most (c .before .before .before .before .before .before .before .before .before .args .feed .now) _ _ (c .before .bytes-behind2 .ensures) (in-read (c .before .before .before .before .before .before .before .before .before .args .feed .now) _ (sym (c .before .before .before .size .given .1) ∙ c .before .before .before .before .before .case-in .ensures) .1), c .before .before .before .before .before .before .before .before .before .pre .1)
+    let o = c .before .before .before .before .before .before .before .before .before in
+    (bytes-most (o .args .feed .now) _ _ (c .before .bytes-behind2 .ensures) (in-read (o .args .feed .now) _ (sym (c .before .before .before .size .given .1) ∙ c .before .before .before .before .before .case-in .ensures) .1), o .pre .1)
 
 enum-known-row : tie.Need-enum-known-row
 enum-known-row c = search needs
@@ -58,7 +59,30 @@ bytes-behind-requires-3 c κs =
 
 part-picked-requires : tie.Need-part-picked-requires
 part-picked-requires c κs =
-    (bytes-most (c .before .before .before .before .before .before .before .before .before .args .feed .now) _ _ (c .before .bytes-behind3 .ensures) (in-pick (c .before .before .before .before .before .before .before .before .before .args .feed .now) _ _ _ (sym (c .before .before .before .row .given .1) ∙ c .before .before .before .before .before .case-in .ensures) .1), c .before .before .before .before .before .before .before .before .before .pre .1)
+    let o = c .before .before .before .before .before .before .before .before .before in
+    (bytes-most (o .args .feed .now) _ _ (c .before .bytes-behind3 .ensures) (in-pick (o .args .feed .now) _ _ _ (sym (c .before .before .before .row .given .1) ∙ c .before .before .before .before .before .case-in .ensures) .1), o .pre .1)
+
+enum-known-room-2 : tie.Need-enum-known-room-2
+enum-known-room-2 c = search needs
+
+bytes-behind-requires-4 : tie.Need-bytes-behind-requires-4
+bytes-behind-requires-4 c κs =
+    in-write (c .before .before .before .before .before .before .before .args .feed .now) _ _ (sym (c .before .room2 .given .1) ∙ c .before .before .before .case-in .ensures) .0
+
+slice-relend-prefix-written : tie.Need-slice-relend-prefix-written
+slice-relend-prefix-written c =
+    let k = in-write (c .before .before .before .before .before .before .before .before .args .feed .now) _ _ (sym (c .before .before .room2 .given .1) ∙ c .before .before .before .before .case-in .ensures) in
+    omega (arith, k .1 .1, c .before .before .before .before .before .before .before .before .pre .0)
+
+slice-aggregate-written : tie.Need-slice-aggregate-written
+slice-aggregate-written c =
+    let k = in-write (c .before .before .before .before .before .before .before .before .before .args .feed .now) _ _ (sym (c .before .before .before .room2 .given .1) ∙ c .before .before .before .before .before .case-in .ensures) in
+    sym (length-take-le _ (c .before .before .before .before .before .before .before .before .before .args .buffer .now) (omega (arith, k .1 .1, c .before .before .before .before .before .before .before .before .before .pre .0)))
+
+written-requires : tie.Need-written-requires
+written-requires c κs =
+    let k = in-write (c .before .before .before .before .before .before .before .before .before .before .args .feed .now) _ _ (sym (c .before .before .before .before .room2 .given .1) ∙ c .before .before .before .before .before .before .case-in .ensures) in
+    (take-most _ _ _ (k .1 .1), c .before .before .before .before .before .before .before .before .before .before .pre .1)
 
 enum-told : tie.Need-enum-told
 enum-told c = search needs
@@ -74,30 +98,47 @@ same-length-2 c = search needs
 
 returns : tie.Need-returns
 returns c =
-    let s = c .before .before .before .before .before .before .before .before .before .before .before .before .before .before .before .args .feed .now in
+    let o = c .before .before .before .before .before .before .before .before .before .before .before .before .before .before .before in
+    let s = o .args .feed .now in
     let e = sym (c .before .before .before .before .before .before .before .before .before .room .given .1) ∙ c .before .before .before .before .before .before .before .before .before .before .before .case-in .ensures in
     let k = in-check s _ _ e in
-    (put-check s (c .before .before .before .before .before .before .before .before .before .before .before .before .before .before .before .args .number) _ _ _ _ _ _ e (c .before .before .before .before .before .before .before .bytes-behind .ensures) (length-take-le _ (c .before .before .before .before .before .before .before .before .before .before .before .before .before .before .before .args .image .now) (omega (arith, k .1 .1, c .before .before .before .before .before .before .before .before .before .before .before .before .before .before .before .pre .0))) (c .before .before .before .before .checked .ensures .0), c .before .before .before .before .checked .ensures .1)
+    (put-check s (o .args .number) _ _ _ _ _ _ e (c .before .before .before .before .before .before .before .bytes-behind .ensures) (length-take-le _ (o .args .buffer .now) (omega (arith, k .1 .1, o .pre .0))) (c .before .before .before .before .checked .ensures .0), c .before .before .before .before .checked .ensures .1)
 
 same-length-3 : tie.Need-same-length-3
 same-length-3 c = search needs
 
 returns-2 : tie.Need-returns-2
 returns-2 c =
-    (put-read (c .before .before .before .before .before .before .before .before .before .before .before .before .args .feed .now) (c .before .before .before .before .before .before .before .before .before .before .before .before .args .number) _ _ _ (sym (c .before .before .before .before .before .before .size .given .1) ∙ c .before .before .before .before .before .before .before .before .case-in .ensures) (c .before .before .before .before .bytes-behind2 .ensures) (c .before .before .measured .ensures .0), c .before .before .measured .ensures .1)
+    let o = c .before .before .before .before .before .before .before .before .before .before .before .before in
+    (put-read (o .args .feed .now) (o .args .number) _ _ _ (sym (c .before .before .before .before .before .before .size .given .1) ∙ c .before .before .before .before .before .before .before .before .case-in .ensures) (c .before .before .before .before .bytes-behind2 .ensures) (c .before .before .measured .ensures .0), c .before .before .measured .ensures .1)
 
 same-length-4 : tie.Need-same-length-4
 same-length-4 c = search needs
 
 returns-3 : tie.Need-returns-3
 returns-3 c =
-    (put-pick (c .before .before .before .before .before .before .before .before .before .before .before .before .args .feed .now) (c .before .before .before .before .before .before .before .before .before .before .before .before .args .number) _ _ _ _ _ (sym (c .before .before .before .before .before .before .row .given .1) ∙ c .before .before .before .before .before .before .before .before .case-in .ensures) (c .before .before .before .before .bytes-behind3 .ensures) (c .before .before .part-picked .ensures .0), c .before .before .part-picked .ensures .1)
+    let o = c .before .before .before .before .before .before .before .before .before .before .before .before in
+    (put-pick (o .args .feed .now) (o .args .number) _ _ _ _ _ (sym (c .before .before .before .before .before .before .row .given .1) ∙ c .before .before .before .before .before .before .before .before .case-in .ensures) (c .before .before .before .before .bytes-behind3 .ensures) (c .before .before .part-picked .ensures .0), c .before .before .part-picked .ensures .1)
 
 same-length-5 : tie.Need-same-length-5
 same-length-5 c = search needs
 
+same-length-6 : tie.Need-same-length-6
+same-length-6 c = search needs
+
 returns-4 : tie.Need-returns-4
 returns-4 c =
+    let o = c .before .before .before .before .before .before .before .before .before .before .before .before .before .before .before in
+    let s = o .args .feed .now in
+    let e = sym (c .before .before .before .before .before .before .before .before .before .room2 .given .1) ∙ c .before .before .before .before .before .before .before .before .before .before .before .case-in .ensures in
+    let k = in-write s _ _ e in
+    (put-write s (o .args .number) _ _ _ _ _ _ e (c .before .before .before .before .before .before .before .bytes-behind4 .ensures) (length-take-le _ (o .args .buffer .now) (omega (arith, k .1 .1, o .pre .0))) (c .before .before .before .before .written .ensures .0), c .before .before .before .before .written .ensures .1)
+
+same-length-7 : tie.Need-same-length-7
+same-length-7 c = search needs
+
+returns-5 : tie.Need-returns-5
+returns-5 c =
     let p = c .before .before .put-broken in
     let l = brokenLine (c .before .before .before .before .before .before .before .before .before .before .args .number) in
     let d = c .before .before .before .before .before .before .before .before .before .before .args .line .now in
@@ -121,6 +162,11 @@ reply-spec =
     enum-known-row
     bytes-behind-requires-3
     part-picked-requires
+    enum-known-room-2
+    bytes-behind-requires-4
+    slice-relend-prefix-written
+    slice-aggregate-written
+    written-requires
     enum-told
     put-broken-requires
     same-length
@@ -131,4 +177,7 @@ reply-spec =
     same-length-4
     returns-3
     same-length-5
-    returns-4)
+    same-length-6
+    returns-4
+    same-length-7
+    returns-5)

@@ -1,0 +1,185 @@
+// The image of a message that is known to have no violation. No tag is tested again: a name says its row, and the table which row is around. Values are judged once more, by the writer.
+
+use file_walk::begin::begin;
+use file_walk::tag::is_group;
+use list::lookup::cell;
+use list::lookup::is_name;
+use list::table::CHILD;
+use list::table::ENUM;
+use list::table::KIND;
+use list::table::MOST;
+use list::table::PARENT;
+use list::table::SIBLING;
+use list::word::word_byte;
+use text::number::copy;
+use text::span::blanks_end;
+use value_to_bytes::place::place;
+use value_to_bytes::write::write;
+use xml_tags::skim::Tag;
+use xml_tags::skim::close_end;
+use xml_tags::skim::is_close;
+use xml_tags::skim::tag_at;
+use xml_tags::skim::text_end;
+ghost use mathlib.Core.Path.{_≡_};
+ghost use mathlib.Core.Bool.{false};
+ghost use Prim.Native.Nat.{_≤_};
+ghost use lib.Seq.{slice};
+ghost use Rattle.list.specs.Listing.{child};
+ghost use Rattle.list.specs.Table.{cell, wordsIn, listOf};
+ghost use Rattle.file_walk.specs.Tables.{isGroupIn};
+ghost use Rattle.file.specs.Instance.{houseKinds};
+ghost use Rattle.file_measure.specs.Measured.{Faultless};
+ghost use Rattle.file_measure.specs.Pass.{Worded, Valued, Shuts, Ready};
+ghost use Rattle.file_check.specs.Fill.{Headed, spotAt, roundIn, Comes, FilledIn};
+
+// `KTO`, version 1 in 16 bits, and the root's row byte.
+const HEAD: [u8; 6] = [75, 84, 79, 0, 1, 1];
+
+fn put_head(out: &mut [u8]) -> usize
+    ensures { λ r. ⌜ Headed (now (out .entry)) r (now (out .exit)) ⌝ }
+{
+    let head = HEAD;
+    copy(&head, 0, 6, out, 0);
+    6
+}
+
+// The place of an ENUM's word in its row's list, as one byte: how many bytes there are, 0 where it is no word of the list.
+fn put_word(
+    rows: &[u16],
+    pool: &[u8],
+    s: &[u8],
+    row: usize,
+    a: usize,
+    b: usize,
+    out: &mut [u8],
+    at: usize,
+) -> usize
+    ensures { λ n. ⌜ Worded (wordsIn (now (rows .entry)) (now (pool .entry)) row) (slice a b (now (s .entry))) (now (out .entry)) at n (now (out .exit)) ⌝ }
+{
+    let word = word_byte(rows, pool, row, s, a, b);
+    if word == 0 {
+        return 0;
+    }
+    place(out, at, word);
+    1
+}
+
+// The value of a leaf of this row and kind whose raw text is s from a to b, and whose currency, if it is an amount, is s from c to d: how
+// many bytes it has, 0 where the text spells none.
+fn put_value(
+    rows: &[u16],
+    pool: &[u8],
+    s: &[u8],
+    kind: usize,
+    row: usize,
+    a: usize,
+    b: usize,
+    c: usize,
+    d: usize,
+    out: &mut [u8],
+    at: usize,
+) -> usize
+    requires { ⌜ (kind ≡ cell (now rows) row 2) × (kind ≤ 11) ⌝ }
+    ensures { λ n. ⌜ Valued houseKinds (now (rows .entry)) (now (pool .entry)) row (slice c d (now (s .entry))) (slice a b (now (s .entry))) (now (out .entry)) at n (now (out .exit)) ⌝ }
+{
+    if kind == ENUM {
+        return put_word(rows, pool, s, row, a, b, out, at);
+    }
+    let most = cell(rows, row, MOST);
+    write(kind as u8, most, s, a, b, c, d, out, at)
+}
+
+// The innermost open group, its last child (0: none yet), and the place behind the last tag.
+struct Spot {
+    row: usize,
+    last: usize,
+    at: usize,
+}
+
+fn stand(row: usize, last: usize, at: usize) -> Spot
+    ensures { λ r. ⌜ r ≡ spotAt row last at ⌝ }
+{
+    Spot { row, last, at }
+}
+
+// A child of the group, and behind the last one (0) the first again.
+fn around(rows: &[u16], row: usize, r: usize) -> usize
+    ensures { λ x. ⌜ x ≡ roundIn (now (rows .entry)) row r ⌝ }
+{
+    if r == 0 {
+        return cell(rows, row, CHILD);
+    }
+    r
+}
+
+// The child of a group that is called s from a to b. There is one, so that the search, which begins at the last child, ends at it.
+fn row_of(rows: &[u16], pool: &[u8], row: usize, last: usize, s: &[u8], a: usize, b: usize) -> usize
+    requires { ⌜ Comes (now rows) (now pool) row last (slice a b (now s)) ⌝ }
+    ensures { λ r. ⌜ r ≡ child (listOf (now (rows .entry)) (now (pool .entry))) row (slice a b (now (s .entry))) ⌝ }
+{
+    let mut r = around(rows, row, last);
+    while !is_name(rows, pool, r, s, a, b) {
+        r = around(rows, row, cell(rows, r, SIBLING));
+    }
+    r
+}
+
+// The item of a leaf of this row, whose text goes from its tag's end up to less. The place behind it, 0 where the text spells no value.
+fn put_leaf(
+    rows: &[u16],
+    pool: &[u8],
+    s: &[u8],
+    row: usize,
+    tag: Tag,
+    less: usize,
+    out: &mut [u8],
+    at: usize,
+) -> usize
+    requires { ⌜ (row ≤ 255) × (at ≤ 1000000000000) × (isGroupIn (cell (now rows) row 2) ≡ false) ⌝ }
+    ensures { λ r. ⌜ Shuts houseKinds (now (rows .entry)) (now (pool .entry)) row (slice (tag .value) (tag .quote) (now (s .entry))) (slice (tag .end) less (now (s .entry))) (now (out .entry)) at r (now (out .exit)) ⌝ }
+{
+    place(out, at, row as u8);
+    let kind = cell(rows, row, KIND);
+    let a = tag.end;
+    let c = tag.value;
+    let d = tag.quote;
+    let n = put_value(rows, pool, s, kind, row, a, less, c, d, out, at + 1);
+    if n == 0 {
+        return 0;
+    }
+    at + 1 + n
+}
+
+// Into a buffer that has room for it. A leaf is one turn, from its tag to its closing tag, so that a group is always the innermost.
+pub(crate) fn fill(rows: &[u16], pool: &[u8], s: &[u8], out: &mut [u8])
+    requires { ⌜ Ready (now rows) (now pool) (now s) × Faultless houseKinds (listOf (now rows) (now pool)) (now s) ⌝ }
+    ensures { λ _. ⌜ FilledIn houseKinds (listOf (now (rows .entry)) (now (pool .entry))) (now (s .entry)) (now (out .entry)) (now (out .exit)) ⌝ }
+{
+    let first = begin(rows, pool, s);
+    let mut here = stand(1, 0, first.here.at);
+    let mut at = put_head(out);
+    loop {
+        let row = here.row;
+        let less = blanks_end(s, here.at);
+        let name = less + 1;
+        if is_close(s, name) {
+            if row == 1 {
+                place(out, at, 0);
+                return;
+            }
+            here = stand(cell(rows, row, PARENT), row, close_end(s, name));
+        } else {
+            let tag = tag_at(s, less);
+            let r = row_of(rows, pool, row, here.last, s, name, tag.stop);
+            if is_group(cell(rows, r, KIND)) {
+                place(out, at, r as u8);
+                at += 1;
+                here = stand(r, 0, tag.end);
+            } else {
+                let end = text_end(s, tag.end);
+                at = put_leaf(rows, pool, s, r, tag, end, out, at);
+                here = stand(row, r, close_end(s, end + 1));
+            }
+        }
+    }
+}

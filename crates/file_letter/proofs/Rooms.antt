@@ -1,0 +1,42 @@
+-- What the programs need of writing's answers: the file fits, and does not depend on what stood in the buffer. Assumes nothing.
+use mathlib.Core.Path.{_≡_, refl, sym, _∙_, ap}
+use mathlib.Core.List.{List, _++_}
+use Prim.Native.Nat.{ℕ, _≤_}
+use native.Mathlib.Omega.{arith}
+use lib.ListN.{length, take, drop}
+use Rattle.answer.specs.declared.Answer.{Answer}
+use Rattle.file_letter.specs.Writes.{letterIn, Delivers, large, short, delivered, Writes, unread, begun}
+use Rattle.file_letter.proofs.Writing.{writes-one, written-file}
+
+delivers-fits : (s d : List ℕ) (a : Answer) (d′ : List ℕ) → Delivers s d a d′ → a .code ≡ 0 → a .place ≤ length d
+delivers-fits s d a d′ (large h e f) z = absurd (omega (arith, ap (λ (x : Answer). x .code) e, z))
+delivers-fits s d a d′ (short h k e f) z = absurd (omega (arith, ap (λ (x : Answer). x .code) e, z))
+delivers-fits s d a d′ (delivered h k e f) z = omega (arith, ap (λ (x : Answer). x .place) e, k)
+
+pub written-fits : (run d : List ℕ) (a : Answer) (d′ : List ℕ) → Writes run d a d′ → a .code ≡ 0 → a .place ≤ length d
+written-fits run d a d′ (unread r k e) z = absurd (k z)
+written-fits run d a d′ (begun h n w p) z = delivers-fits (letterIn w) d a d′ p z
+
+-- ---- another buffer of the same length: the same answer and the same file
+
+module _ (d e : List ℕ) (n : length d ≡ length e) where
+  delivers-moved : (s : List ℕ) (a : Answer) (d′ : List ℕ) → Delivers s d a d′ → (x : List ℕ) × Delivers s e a x
+  delivers-moved s a d′ (large h q r) = (e, large h q refl)
+  delivers-moved s a d′ (short h k q r) = (e, short h (omega (arith, n)) q refl)
+  delivers-moved s a d′ (delivered h k q r) = (s ++ drop (length s) e, delivered h (omega (arith, n)) q refl)
+
+  module _ (run : List ℕ) where
+    moved : (a : Answer) (d′ : List ℕ) → Writes run d a d′ → (x : List ℕ) × Writes run e a x
+    moved a d′ (unread r k q) = (e, unread r k refl)
+    moved a d′ (begun h m w p) = let x = delivers-moved (letterIn w) a d′ p in (x .0, begun h m w (x .1))
+
+    pub written-alike : (a b : Answer) (d′ e′ : List ℕ) → Writes run d a d′ → Writes run e b e′ → (a ≡ b) × (a .code ≡ 0 → take (a .place) d′ ≡ take (b .place) e′)
+    written-alike a b d′ e′ p q = (same, λ z. same-file z p)
+      where
+        same : a ≡ b
+        same = let x = moved a d′ p in writes-one run e a b (x .0) e′ (x .1) q .0
+
+        same-file : a .code ≡ 0 → Writes run d a d′ → take (a .place) d′ ≡ take (b .place) e′
+        same-file z (unread r k f) = absurd (k z)
+        same-file z (begun h m w f) =
+            written-file run d a d′ p z m w .2 ∙ sym (written-file run e b e′ q (sym (ap (λ (x : Answer). x .code) same) ∙ z) m w .2)

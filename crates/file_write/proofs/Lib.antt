@@ -1,0 +1,13 @@
+-- The laws of `file_write`.
+-- words and parts put one behind the other
+pub mod Putting
+-- the closing tags
+pub mod Closing
+-- the tags are those that are told
+pub mod Tagging
+-- a leaf's element
+pub mod Leafing
+-- the pass over an image
+pub mod Emitting
+-- what is written
+pub mod Writing

@@ -1,0 +1,5 @@
+-- The mirrors of `file_write`; what it promises is in `file_letter`.
+-- a mirror: the tags of a row
+pub mod Tags
+-- a mirror: a leaf's element, and what the pass puts
+pub mod Emit

@@ -1,0 +1,38 @@
+// The statement file of the image that a run begins with: measured, then written into a lent buffer.
+use answer::Answer;
+use emit::emit;
+use image_reading::first::reading;
+use list::lay::lay;
+use list_house::tables::pool;
+use list_house::tables::rows;
+ghost use Rattle.file_letter.specs.Writes.{Writes};
+
+mod put; // put.rt: tags, put at a place
+mod close; // close.rt: the closing tags up to a group
+mod leaf; // leaf.rt: a leaf's element
+mod emit; // emit.rt: the file, item by item
+
+// The file is measured first, into a buffer of our own, so that a byte is written only where the whole file fits.
+pub fn write(run: &[u8], out: &mut [u8]) -> Answer
+    ensures { λ a. ⌜ Writes (now (run .entry)) (now (out .entry)) a (now (out .exit)) ⌝ }
+{
+    let read = reading(run);
+    if read.answer.code != Answer::ACCEPTED {
+        return read.answer;
+    }
+    let rows = rows();
+    let mut table = [0u16; 4096];
+    lay(&rows, &mut table);
+    let pool = pool();
+    let mut nothing = [0u8; 1];
+    let n = emit(&table, &pool, run, read.from, &mut nothing);
+    let room = out.len();
+    if Answer::LIMIT < n {
+        return Answer::too_large(n);
+    }
+    if room < n {
+        return Answer::no_room(n);
+    }
+    emit(&table, &pool, run, read.from, out);
+    Answer::accepted(n)
+}

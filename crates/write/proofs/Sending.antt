@@ -1,0 +1,25 @@
+-- What the program writes, case by case; and that nothing else fits. Assumes nothing.
+use mathlib.Core.Path.{_≡_, sym, _∙_, ap}
+use mathlib.Core.List.{List}
+use Prim.Native.Nat.{ℕ}
+use lib.ListN.{length}
+use Rattle.answer.specs.declared.Answer.{Answer}
+use Rattle.answer.specs.Table.{limit}
+use Rattle.program_line.specs.Line.{refusal}
+use Rattle.file_letter.specs.Writes.{Writes}
+use Rattle.file_letter.proofs.Rooms.{written-alike}
+use Rattle.write.specs.Sends.{Sends, line, file}
+
+-- only one output fits
+module _ (run u v : List ℕ) where
+  same : (a b : Answer) (c d c′ d′ : List ℕ) → length c ≡ limit → length d ≡ limit → Writes run c a c′ → Writes run d b d′ → a ≡ b
+  same a b c d c′ d′ m n p q = written-alike c d (m ∙ sym n) run a b c′ d′ p q .0
+
+  code-of : (a b : Answer) → a ≡ b → a .code ≡ b .code
+  code-of a b e = ap (λ (x : Answer). x .code) e
+
+  pub sends-one : Sends run u → Sends run v → u ≡ v
+  sends-one (line a c c′ m p z e) (line b d d′ n q w f) = e ∙ ap refusal (same a b c d c′ d′ m n p q) ∙ sym f
+  sends-one (line a c c′ m p z e) (file b d d′ n q w f) = absurd (z (code-of a b (same a b c d c′ d′ m n p q) ∙ w))
+  sends-one (file a c c′ m p z e) (line b d d′ n q w f) = absurd (w (sym (code-of a b (same a b c d c′ d′ m n p q)) ∙ z))
+  sends-one (file a c c′ m p z e) (file b d d′ n q w f) = e ∙ written-alike c d (m ∙ sym n) run a b c′ d′ p q .1 z ∙ sym f

@@ -1,0 +1,3 @@
+-- The definitions of `write`.
+-- what the program writes
+pub mod Sends

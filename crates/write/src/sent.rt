@@ -1,0 +1,21 @@
+// What the program writes: the statement file of the image that a run begins with, or one line.
+use answer::Answer;
+use program_line::answer_line::put_refusal;
+use unit::write::write;
+ghost use mathlib.Core.Path.{_≡_};
+ghost use lib.ListN.{length, take};
+ghost use Rattle.io.specs.Counts.{Counts};
+ghost use Rattle.write.specs.Sends.{Sends};
+
+// Puts what is written for a run to the start of a buffer, and answers how many bytes it is.
+pub(crate) fn sent(run: &[u8], out: &mut [u8]) -> usize
+    requires { ⌜ length (now out) ≡ 1048576 ⌝ }
+    ensures is { λ r. ⌜ Sends (now (run .entry)) (take r (now (out .exit))) ⌝ }
+    ensures within { λ r. ⌜ Counts r (now (out .exit)) ⌝ }
+{
+    let a = write(run, out);
+    if a.code == Answer::ACCEPTED {
+        return a.place;
+    }
+    put_refusal(out, 0, a)
+}

@@ -1,0 +1,149 @@
+#!/usr/bin/env python3
+"""Lines of proofs that are too long to review.
+
+    tools/shorten.py --check [CRATE..]      names each line of proofs/ with more than 400 characters; fails where there is one in a file that
+                                            is no exception of the table below, and where an exception is no longer needed
+    tools/shorten.py FILE..                 in a Proof.antt gives the places of such an answer names, and breaks it between arguments
+
+An `unfolding` line, which can't be broken, is left out. The second command is a beginning: `let at-f = c .before .before in` for each
+place that the answer cites, named after its fact. Where several answers cite one path, a record of what was told on it says it once
+(docs/PROVING.md).
+"""
+import pathlib
+import re
+import sys
+
+LONGEST = 400
+
+# Files that still have such lines. To be emptied; one that is not needed is a fault.
+EXCEPTED = '''
+    file_walk/proofs/attributes/is_currency/Proof.antt
+    replay/proofs/reply/reply/Proof.antt
+    text_characters/proofs/piece/entity/Proof.antt
+    text_characters/proofs/utf8/decode_four/Proof.antt
+    text_characters/proofs/utf8/decode_three/Proof.antt
+    value/proofs/Named.antt
+    value/proofs/chars/spelled/Proof.antt
+    value/proofs/plain/truth/Proof.antt
+    value_amounts/proofs/amount/signed/Proof.antt
+    value_dates/proofs/day/day_at/Proof.antt
+    value_dates/proofs/day/two/Proof.antt
+    value_dates/proofs/moment/clocked/Proof.antt
+    value_dates/proofs/moment/fraction/Proof.antt
+    value_dates/proofs/moment/three/Proof.antt
+    value_dates/proofs/moment/zone/Proof.antt
+    xml/proofs/Lang.antt
+    xml_scan/proofs/attribute/attribute/Proof.antt
+    xml_scan/proofs/attribute/equals/Proof.antt
+    xml_scan/proofs/attribute/value/Proof.antt
+    xml_scan/proofs/content/text_end/Proof.antt
+    xml_scan/proofs/document/Proof.antt
+    xml_scan/proofs/elements/any_tag/Proof.antt
+    xml_scan/proofs/elements/end_tag/Proof.antt
+    xml_scan/proofs/elements/start_tag/Proof.antt
+    xml_scan/proofs/tag/attributes/Proof.antt
+    xml_tags/proofs/pass/until/Proof.antt
+'''.split()
+BROKEN = 150
+PLACE = re.compile(r'(?<![\w\-′₀])c((?: \.before(?![\w\-]))+)')
+HEAD = re.compile(r'([\w\-]+ c(?: κs)? =) ')
+FACT = re.compile(PLACE.pattern + r' \.([\w\-]+)')
+
+
+def too_long(crates):
+    """File, line and length of each line that is too long."""
+    for crate in crates:
+        for file in sorted(pathlib.Path('crates', crate, 'proofs').glob('**/*.antt')):
+            for number, line in enumerate(file.read_text().split('\n'), 1):
+                if len(line) > LONGEST and not line.startswith('unfolding '):
+                    yield file, number, len(line)
+
+
+def split(text, mark):
+    """The parts of a term at a mark that stands in no bracket of it."""
+    parts, depth = [''], 0
+    for sign in text:
+        depth += (sign in '([{') - (sign in ')]}')
+        parts[-1] += sign
+        if depth == 0 and parts[-1].endswith(mark):
+            parts[-1] = parts[-1].rstrip()
+            parts.append('')
+    return list(filter(None, parts))
+
+
+def arguments(text):
+    """A term's words, each with what stands in its brackets; a projection belongs to the word before it. Of a tuple its members."""
+    members = split(text, ', ')
+    if len(members) > 1:
+        return members
+    words = []
+    for word in split(text, ' '):
+        if word.startswith('.') and words:
+            words[-1] += ' ' + word
+        else:
+            words.append(word)
+    return words
+
+
+def named(body):
+    """The `let` lines for the places of an answer, and the answer with their names."""
+    depth_of = {}
+    for steps, fact in FACT.findall(body):
+        depth_of.setdefault(steps.count('.before'), 'start' if fact in ('args', 'pre') else f'at-{fact}')
+    lets, last, name = [], 0, 'c'
+    for depth in sorted(depth for depth in depth_of if depth > 1):
+        lets.append(f'let {depth_of[depth]} = {name}' + ' .before' * (depth - last) + ' in')
+        last, name = depth, depth_of[depth]
+    return lets, PLACE.sub(lambda found: depth_of[found[1].count('.before')] if found[1].count('.before') > 1 else found[0], body)
+
+
+def broken(words):
+    """Lines of words, none longer than it must be; a word in brackets that is too long by itself is broken inside."""
+    lines = ['']
+    for word in words:
+        if len(word) > BROKEN and word.startswith('('):
+            inner = broken(arguments(word[1:-1]))
+            lines += ['(' + inner[0], *inner[1:-1], inner[-1] + ')'] if len(inner) > 1 else [word]
+        elif lines[-1] and len(lines[-1]) + 1 + len(word) > BROKEN:
+            lines.append(word)
+        else:
+            lines[-1] = f'{lines[-1]} {word}'.strip()
+    return list(filter(None, lines))
+
+
+def shortened(line):
+    """The lines in place of one: the answer's name stays on a line of its own, and what closes brackets of lines above stays last."""
+    head = HEAD.match(line)
+    if head:
+        return [head[1], *shortened('    ' + line[head.end():])]
+    indent, body, tail = line[:len(line) - len(line.lstrip())], line.strip(), ''
+    while body[-1:] in ',)' and (body.endswith(',') or body.count('(') < body.count(')')):
+        body, tail = body[:-1], body[-1] + tail
+    lets, body = named(body)
+    lines = [indent + part for part in lets + broken(arguments(body))]
+    return [*lines[:-1], lines[-1] + tail]
+
+
+def main(words):
+    if not words:
+        sys.exit(__doc__)
+    if words[0] == '--check':
+        crates = words[1:] or sorted(crate.name for crate in pathlib.Path('crates').iterdir())
+        found = list(too_long(crates))
+        for file, number, length in found:
+            print(f'shorten: {file}:{number} has {length} characters')
+        files = {file.relative_to('crates').as_posix() for file, _, _ in found}
+        spared = {file for file in EXCEPTED if file.split('/')[0] in crates}
+        faults = [f'{file}: a line is too long' for file in sorted(files - spared)]
+        faults += [f'{file}: no exception is needed for it' for file in sorted(spared - files)]
+        for fault in faults:
+            print(f'shorten: {fault}')
+        print(f'shorten: {len(found)} lines of proofs are longer than {LONGEST} characters, {len(spared)} files are excepted, {len(faults)} faults')
+        sys.exit(1 if faults else 0)
+    for file in map(pathlib.Path, words):
+        lines = file.read_text().split('\n')
+        file.write_text('\n'.join(part for line in lines for part in (shortened(line) if len(line) > LONGEST else [line])))
+
+
+if __name__ == '__main__':
+    main(sys.argv[1:])
