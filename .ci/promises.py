@@ -4,7 +4,9 @@
 Reads crates/*/src/**/*.rt as text. A public function is `pub fn` or `pub extern "C" fn` (a `pub(crate) fn` is none); `main` is left
 out. Its head, up to the line of its opening brace, must have an `ensures` and no `requires`. Its name stands in backquotes on the page,
 as `crate::name` (a method as `crate::Type::name`), and so does every edit of must-fail/. What the page names is there: functions, edits,
-laws. The section `Contracts that cite a mirror` lists exactly those that do.
+laws. The section `Contracts that cite a mirror` lists exactly those that do. Every public function has an edit in its crate that must
+fail, or stands in UNEDITED with a reason: an edit is a function's if it changes its code, a function or constant of the crate that this
+code goes on to name, or a definition that its promise rests on.
 """
 import pathlib
 import re
@@ -18,7 +20,15 @@ CRATES = ROOT / 'crates'
 PAGE = ROOT / 'docs' / 'PROMISES.md'
 EXCEPTED = '### Contracts that cite a mirror'
 FUNCTION = re.compile(r'^(?P<indent> *)pub (?:extern "C" )?fn (?P<name>\w+)', re.M)
+ITEM = re.compile(r'^(?P<indent> *)(?:pub(?:\(crate\))? )?(?:extern "C" )?(?P<sort>fn|const) (?P<name>\w+)', re.M)
 IMPL = re.compile(r'^impl(?:<[^>]*>)? (\w+)', re.M)
+
+# Public functions that no edit of their crate is for, each with the reason.
+UNEDITED = {
+    'it hands on what `image_reading` promises, whose edits are for it': 'unit::read unit::pick unit::picked',
+    'its promise is one line that its code repeats, and an edit of its crate is dear':
+        'file_walk::is_group value::part_of value_to_bytes::place',
+}
 
 
 def functions(path):
@@ -78,6 +88,66 @@ def mirrored(text):
     yield from (f'{full}: listed as citing a mirror, and cites none' for full in sorted(listed - citing))
 
 
+def named_in(crate):
+    """Every function and constant of a crate's code, with all that its text goes on to name."""
+    text, where = {}, []
+    for path in sorted((CRATES / crate / 'src').glob('**/*.rt')):
+        code = path.read_text()
+        for m in ITEM.finditer(code):
+            end = re.compile(r'^' + m['indent'] + r'\}' if m['sort'] == 'fn' else ';$', re.M).search(code, m.end())
+            text[m['name']] = text.get(m['name'], '') + code[m.end():end.end()]
+            where.append((path, m.start(), end.end(), m['name']))
+    reached = {}
+    for name in text:
+        reached[name], waiting = {name}, [name]
+        while waiting:
+            more = set(re.findall(r'\w+', text[waiting.pop()])) & set(text) - reached[name]
+            reached[name] |= more
+            waiting += more
+    return reached, where
+
+
+def rested_on(cited):
+    """The definitions that a promise rests on."""
+    known, waiting = set(), [what for _, what in cited]
+    while waiting:
+        what = waiting.pop()
+        if isinstance(what, believe.Definition) and what not in known:
+            known.add(what)
+            waiting += [what.file.meaning(*x) for x in what.names()]
+    return known
+
+
+def changed(crate, where):
+    """What the edits of a crate change: names of its code, definitions."""
+    for edit in sorted((CRATES / crate / 'must-fail').glob('*.edit')):
+        path = None
+        for line in edit.read_text().splitlines():
+            if line.startswith('file: '):
+                path = CRATES / crate / line[len('file: '):]
+            elif line.startswith('old: '):
+                at = path.read_text().find(line[len('old: '):])
+                if 'src' in path.parts:
+                    yield from (name for file, start, end, name in where if file == path and start <= at < end)
+                elif 'specs' in path.parts:
+                    number = path.read_text().count('\n', 0, at) + 1
+                    yield from [d for d in believe.File.at(path).definitions.values() if d.number <= number][-1:]
+
+
+def unedited():
+    """Public functions without an edit, and reasons that are not needed."""
+    lent = {full for names in UNEDITED.values() for full in names.split()}
+    for crate in sorted(p.name for p in CRATES.iterdir() if (p / 'src' / 'lib.rt').exists()):
+        reached, where = named_in(crate)
+        hit = set(changed(crate, where))
+        for full, cited in believe.promises(crate):
+            has = bool(hit & (reached[full.split('::')[-1]] | rested_on(cited)))
+            if not has and full not in lent:
+                yield f'{full}: no edit of its crate is for it'
+            if has and full in lent:
+                yield f'{full}: no reason is needed, an edit is for it'
+
+
 def main():
     text = PAGE.read_text()
     faults, count = [], 0
@@ -91,6 +161,7 @@ def main():
             faults.append(f'{full}: not listed in docs/PROMISES.md')
     faults += unknown(text)
     faults += mirrored(text)
+    faults += unedited()
     for fault in faults:
         print(f'promises: {fault}')
     print(f'promises: {count} public functions, {len(faults)} faults')

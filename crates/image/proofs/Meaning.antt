@@ -19,13 +19,15 @@ use Rattle.image.specs.Image.{valueBytes}
 use Rattle.image.specs.Kinds.{lengthBytes, values}
 use Rattle.image.specs.Place.{Holds, Tells}
 use Rattle.image.specs.Pick.{Selects}
+use Rattle.image.specs.Means.{ItemEnds, Told, SelectsAnswer, SelectsPart}
 use Rattle.image.specs.Follow.{OfKind, ItemOk}
 use Rattle.image.specs.Step.{isLeaf}
 use Rattle.value_from_bytes.specs.Ends.{valueEnd}
+use Rattle.value_from_bytes.specs.Stands.{Ends}
 use Rattle.value_from_bytes.proofs.Numbered.{by-kind}
-use Rattle.value_from_bytes.proofs.Meaning.{end-none, end-some}
+use Rattle.value_from_bytes.proofs.Meaning.{end-none, end-some, ends}
 use Rattle.image.specs.Ends.{itemEnd}
-use Rattle.image.specs.Run.{Behind, headOf, Chooses}
+use Rattle.image.specs.Run.{Behind, headOf, Chooses, Answered, Handed}
 use Rattle.image.proofs.Rows.{well}
 use Rattle.image.proofs.Lines.{lines}
 use Rattle.image.proofs.Lawful.{lawful}
@@ -116,6 +118,17 @@ module _ (t pool : List ℕ) (so : Sound t pool) (s : List ℕ) where
             h ∙ o .ends ∙ ap (λ (y : Kind). i + length (valueBytes values l y (some (o .value)))) (sym k),
           )
 
+  -- a group's item ends behind its row byte, a leaf's behind its value
+  item-ends : (x i : ℕ) → 0 < x → x ≤ size l → (isGroup (rowAt l x .kind) ≡ true → itemEnd t s x i ≡ i) × ((f : Leaf) → rowAt l x .kind ≡ leaf f → Ends f s i (itemEnd t s x i))
+  item-ends x i a b = go (sort x i a b)
+    where
+      go : Sort x i → (isGroup (rowAt l x .kind) ≡ true → itemEnd t s x i ≡ i) × ((f : Leaf) → rowAt l x .kind ≡ leaf f → Ends f s i (itemEnd t s x i))
+      go (compound h e) = ((λ _. e), (λ f k. absurd (false≢true (sym (ap isGroup k) ∙ h))))
+      go (simple g k e) = (
+        (λ h. absurd (false≢true (sym (ap isGroup k) ∙ h))),
+        (λ f j. subst (Ends f s i) (sym e) (ends (cell t x 2) (cell t x 3) (cell t x 15) (wordsIn t pool x) f (leaf-ok x f j) (counted x f b j) (sym (row x a b) ∙ j) s i)),
+      )
+
   -- the reader's promise, in sound tables
   pub body-means : (from : ℕ) (a : Answer) → Behind t (itemEnd t s) s from a → Tells values l (drop from s) from a
   body-means from a h = behind-tells t (itemEnd t s) s values lawful l (so .well) (lines t pool so) ending from a h
@@ -131,3 +144,18 @@ module _ (t pool : List ℕ) (so : Sound t pool) (s : List ℕ) where
   -- the picker's promise, in sound tables
   pub pick-means : (from k : ℕ) (w : Holds values l (drop from s) k) (r n : ℕ) (a : Answer) (part : List ℕ) → Chooses t (itemEnd t s) s from r n a part → Selects values l from (w .content) r n a part
   pick-means from k w r n a part h = chooses-selects t (itemEnd t s) s values lawful l (so .well) (lines t pool so) ending head-is from k w r n a part h
+
+-- ---- the two promises of each public function: the second follows from the first
+
+module _ (t s : List ℕ) where
+  pub item-means : (x i e : ℕ) → e ≡ itemEnd t s x i → (e ≡ itemEnd t s x i) × ItemEnds t s x i e
+  item-means x i e h = (h, (λ pool so a b. rw h (item-ends t pool so s x i a b)))
+
+  pub read-means : (from : ℕ) (a : Answer) → Behind t (itemEnd t s) s from a → Behind t (itemEnd t s) s from a × Told t s from a
+  read-means from a h = (h, (λ pool so. body-means t pool so s from a h))
+
+  pub answer-means : (from r n : ℕ) (a : Answer) → Answered t (itemEnd t s) s from r n a → Answered t (itemEnd t s) s from r n a × SelectsAnswer t s from r n a
+  answer-means from r n a h = (h, (λ pool so k w. (h .part, pick-means t pool so s from k w r n a (h .part) (h .chooses))))
+
+  pub part-means : (from r n : ℕ) (part : List ℕ) → Handed t (itemEnd t s) s from r n part → Handed t (itemEnd t s) s from r n part × SelectsPart t s from r n part
+  part-means from r n part h = (h, (λ pool so k w. (h .answer, pick-means t pool so s from k w r n (h .answer) part (h .chooses))))

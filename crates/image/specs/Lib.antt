@@ -7,6 +7,8 @@ pub mod Kinds
 pub mod Place
 -- what the picker answers and hands back
 pub mod Pick
+-- what both answer over tables that say a well-formed list
+pub mod Means
 -- document 01's example
 pub mod Example
 -- a mirror: which row may come directly behind which

@@ -6,6 +6,7 @@ use mathlib.Core.List.{List, [], _∷_, _++_}
 use mathlib.Core.Option.{some}
 use Prim.Native.Nat.{ℕ, _+_, _≤_}
 use lib.ListN.{length, drop}
+use denote.Ref.{RefT, ptr}
 use Rattle.answer.specs.declared.Answer.{Answer}
 use Rattle.answer.specs.Table.{limit, picked, noSuchLeaf}
 use Rattle.list.specs.Words.{times}
@@ -13,6 +14,10 @@ use Rattle.list.specs.Listing.{Leaf, leaf, Listing, rowAt, isGroup}
 use Rattle.list.specs.Content.{Content, items}
 use Rattle.image.specs.Image.{Values, Item, bytes}
 use Rattle.image.specs.Place.{Accepts, Reads}
+
+-- "that part of the lent image itself": s lies p bytes behind the start of the run, in the same memory (a pointer is a block and an offset)
+abbrev pub Lies : RefT (List ℕ) → ℕ → RefT (List ℕ) → Type 0
+Lies run p s = (ptr s .0 ≡ ptr run .0) × (ptr s .1 ≡ ptr run .1 + p)
 
 module _ (vs : Values) where
   abbrev pub rowsOf : List (Item vs) → List ℕ

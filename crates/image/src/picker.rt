@@ -5,9 +5,10 @@ use crate::reader::wide;
 use answer::Answer;
 use list::lookup::cell;
 use list::table::KIND;
-use value::blanks::part_of;
 ghost use mathlib.Core.Path.{_≡_};
 ghost use Rattle.image.specs.Ends.{itemEnd};
+ghost use Rattle.image.specs.Pick.{Lies};
+ghost use Rattle.image.specs.Means.{SelectsAnswer, SelectsPart};
 ghost use Rattle.image.specs.Run.{Comes, headOf, hunt, Finds, Answered, Handed};
 
 // How many bytes stand before a value's own: the two of a text's length.
@@ -58,7 +59,8 @@ fn find_leaf(rows: &[u16; 4096], run: &[u8], from: usize, row: usize, n: usize) 
 
 // The answer for the n-th leaf, from 0, of `row`: its row, and where its part begins.
 pub fn pick_from(rows: &[u16; 4096], run: &[u8], from: usize, row: usize, n: usize) -> Answer
-    ensures { λ a. ⌜ Answered (now (rows .entry)) (itemEnd (now (rows .entry)) (now (run .entry))) (now (run .entry)) from row n a ⌝ }
+    ensures is { λ a. ⌜ Answered (now (rows .entry)) (itemEnd (now (rows .entry)) (now (run .entry))) (now (run .entry)) from row n a ⌝ }
+    ensures means { λ a. ⌜ SelectsAnswer (now (rows .entry)) (now (run .entry)) from row n a ⌝ }
 {
     let at = find(rows, run, from, row, n);
     if at == 0 {
@@ -75,15 +77,15 @@ pub fn picked_from<'a>(
     row: usize,
     n: usize,
 ) -> &'a [u8]
-    ensures { λ s. ⌜ Handed (now (rows .entry)) (itemEnd (now (rows .entry)) (now (run .entry))) (now (run .entry)) from row n (now s) ⌝ }
+    ensures is { λ s. ⌜ Handed (now (rows .entry)) (itemEnd (now (rows .entry)) (now (run .entry))) (now (run .entry)) from row n (now s) ⌝ }
+    ensures means { λ s. ⌜ SelectsPart (now (rows .entry)) (now (run .entry)) from row n (now s) ⌝ }
+    ensures lies { λ s. ⌜ ((a : Answer) → Answered (now (rows .entry)) (itemEnd (now (rows .entry)) (now (run .entry))) (now (run .entry)) from row n a → a .code ≡ 0 → Lies (run .entry) (a .place) s) ⌝ }
 {
     let value = find(rows, run, from, row, n);
     if value == 0 {
         return &run[0..0];
     }
-    part_of(
-        run,
-        value + head(rows, row),
-        item_end(rows, run, row, value),
-    )
+    let first = value + head(rows, row);
+    let end = item_end(rows, run, row, value);
+    &run[first..end]
 }

@@ -11,6 +11,7 @@ use value_from_bytes::kinds::value_end;
 ghost use mathlib.Core.Path.{_≡_};
 ghost use Rattle.image.specs.Ends.{itemEnd};
 ghost use Rattle.image.specs.Run.{Goes, Behind};
+ghost use Rattle.image.specs.Means.{ItemEnds, Told};
 
 pub(crate) fn wide(x: u8) -> usize
     ensures { λ r. ⌜ r ≡ x ⌝ }
@@ -20,7 +21,8 @@ pub(crate) fn wide(x: u8) -> usize
 
 // Where the item of row x ends whose row byte stands before `at`; 0 where no value of its type stands there.
 pub fn item_end(rows: &[u16], run: &[u8], x: usize, at: usize) -> usize
-    ensures { λ r. ⌜ r ≡ itemEnd (now (rows .entry)) (now (run .entry)) x at ⌝ }
+    ensures is { λ r. ⌜ r ≡ itemEnd (now (rows .entry)) (now (run .entry)) x at ⌝ }
+    ensures means { λ r. ⌜ ItemEnds (now (rows .entry)) (now (run .entry)) x at r ⌝ }
 {
     if is_leaf(rows, x) {
         return value_end(
@@ -75,7 +77,8 @@ fn items(rows: &[u16], run: &[u8], from: usize) -> Answer
 // The answer for the items from a place of a run on: where they end, or where they break. The table is an array of 256 rows and not a
 // slice: the compiler knows its length, so that no lookup in it asks for its end.
 pub fn body(rows: &[u16; 4096], run: &[u8], from: usize) -> Answer
-    ensures { λ a. ⌜ Behind (now (rows .entry)) (itemEnd (now (rows .entry)) (now (run .entry))) (now (run .entry)) from a ⌝ }
+    ensures is { λ a. ⌜ Behind (now (rows .entry)) (itemEnd (now (rows .entry)) (now (run .entry))) (now (run .entry)) from a ⌝ }
+    ensures means { λ a. ⌜ Told (now (rows .entry)) (now (run .entry)) from a ⌝ }
 {
     if run.len() <= from {
         return Answer::broken_image(from);

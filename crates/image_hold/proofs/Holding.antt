@@ -4,10 +4,10 @@ use mathlib.Core.Logic.{_≢_, inl}
 use mathlib.Core.List.{List, [], _∷_, _++_, append-assoc}
 use Prim.Native.Nat.{ℕ, _+_, _-_, _≤_}
 use native.Mathlib.Omega.{arith}
-use native.Mathlib.Decide.{ℕ-discrete}
+use native.Mathlib.Decide.{ℕ-discrete, decLt}
 use lib.ListN.{length, drop, length-append, length-drop, drop-of-length-le}
 use lib.Seq.{drop-at, drop-drop}
-use denote.Ref.{now}
+use denote.Ref.{RefT, ptr, now}
 use Rattle.text.specs.Lists.{Each}
 use Rattle.answer.specs.declared.Answer.{Answer}
 use Rattle.answer.specs.Table.{limit, accepted, noHeader}
@@ -17,12 +17,13 @@ use Rattle.value.specs.Value.{Value, IsValue}
 use Rattle.image.specs.Image.{image, images}
 use Rattle.image.specs.Kinds.{values}
 use Rattle.image.specs.Place.{foreign, whole}
-use Rattle.image_hold.specs.Held.{left, Moves, Steps, Next, Calls, rested, called}
+use Rattle.image.specs.Pick.{Lies, refused}
+use Rattle.image_hold.specs.Held.{left, Moves, Steps, HeldPicked, Next, Calls, rested, called}
 use Rattle.image_hold.specs.declared.held.Held.{Held}
 use Rattle.image_hold.specs.declared.held.Step.{Step}
 use Rattle.image.proofs.Answers.{accepting, accepts-in, image-begins}
-use Rattle.image_reading.specs.Reads.{stored, HouseAccepts, HouseReads}
-use Rattle.image_reading.proofs.House.{house-reads-one, house-reads-some}
+use Rattle.image_reading.specs.Reads.{stored, HouseAccepts, HouseReads, HouseAnswers, HousePicked}
+use Rattle.image_reading.proofs.House.{house-reads-one, house-reads-some, house-answers-one}
 
 -- ---- one step
 
@@ -110,3 +111,24 @@ divides (c ∷ cs) u {h} m short at n (called {p = p} {a = a} x y) =
     let t = next-takes h a p c (images values kept cs ++ u) (m .0) short at′ x in
     let r = divides cs u (m .1) (omega (arith, ap length at′, ap length (t .1), length-append (image values kept c) (images values kept cs ++ u))) (t .1) (omega arith) y in
     (ap₂ _∷_ (t .0) (r .0), r .1)
+
+-- ---- a part picked from the rest of a run lies in the run
+
+-- nothing is picked from nothing
+picks-nothing : (r n : ℕ) (a : Answer) → HouseAnswers [] r n a → a .code ≡ 0 → ⊥
+picks-nothing r n a h e =
+    let fits : HouseAnswers [] r n noHeader = record { part = []; picks = refused (foreign (omega arith) (inl (omega arith)) refl) (λ z. omega (arith, z)) refl } in
+    let d : 15 ≡ a .code = ap (λ (y : Answer). y .code) (house-answers-one [] r n noHeader a fits h) in
+    omega (arith, d, e)
+
+pub picked-rest : (run rest : RefT (List ℕ)) (at r n : ℕ) (s : RefT (List ℕ)) → now rest ≡ drop at (now run) → (at ≤ length (now run) → Lies run at rest) → HousePicked rest r n s → HeldPicked run at r n s
+picked-rest run rest at r n s e l p = record {
+  hands = rw (sym e) (p .hands);
+  lies = λ a h z. elim (decLt (length (now run)) at) [
+    | yes k ↦ absurd (picks-nothing r n a (subst (λ (y : List ℕ). HouseAnswers y r n a) (drop-of-length-le (now run) (omega arith)) h) z)
+    | no k ↦
+        let m = l (omega arith) in
+        let q = p .lies a (subst (λ (y : List ℕ). HouseAnswers y r n a) (sym e) h) z in
+        (q .0 ∙ m .0, omega (arith, q .1, m .1))
+  ];
+}

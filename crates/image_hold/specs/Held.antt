@@ -4,9 +4,10 @@ use mathlib.Core.Logic.{_≢_}
 use mathlib.Core.List.{List, [], _∷_}
 use Prim.Native.Nat.{ℕ, _+_}
 use lib.ListN.{drop}
-use denote.Ref.{now}
+use denote.Ref.{RefT, now}
 use Rattle.answer.specs.declared.Answer.{Answer}
-use Rattle.image_reading.specs.Reads.{HouseReads}
+use Rattle.image.specs.Pick.{Lies}
+use Rattle.image_reading.specs.Reads.{HouseReads, HouseAnswers, HouseHands}
 use Rattle.image_hold.specs.declared.held.Held.{Held}
 use Rattle.image_hold.specs.declared.held.Step.{Step}
 
@@ -24,6 +25,11 @@ pub record Moves (a : Answer) (from to : ℕ) : Type 0 where
 pub record Steps (run : List ℕ) (at : ℕ) (r : Step) : Type 0 where
   pub reads : HouseReads (drop at run) (r .answer)
   pub moves : Moves (r .answer) at (r .at)
+
+-- the part of the n-th leaf of row r, at a place of a run: these bytes, and they lie in the run where the answer says, from that place on
+pub record HeldPicked (run : RefT (List ℕ)) (at r n : ℕ) (s : RefT (List ℕ)) : Type 0 where
+  pub hands : HouseHands (drop at (now run)) r n (now s)
+  pub lies : (a : Answer) → HouseAnswers (drop at (now run)) r n a → a .code ≡ 0 → Lies run (at + a .place) s
 
 -- the held reader before and behind a call that reads: "it answers as they do on the rest of the run", and moves; its run stays
 pub record Next (h : Held) (a : Answer) (h′ : Held) : Type 0 where

@@ -15,9 +15,11 @@
 use answer::Answer;
 use image_reading::first;
 ghost use mathlib.Core.Path.{_≡_};
-ghost use lib.ListN.{drop};
-ghost use Rattle.image_reading.specs.Reads.{HouseAnswers, HouseHands};
-ghost use Rattle.image_hold.specs.Held.{left, Steps, Next};
+ghost use Prim.Native.Nat.{_≤_};
+ghost use lib.ListN.{length, drop};
+ghost use Rattle.image.specs.Pick.{Lies};
+ghost use Rattle.image_reading.specs.Reads.{HouseAnswers};
+ghost use Rattle.image_hold.specs.Held.{left, Steps, HeldPicked, Next};
 
 // The run and the place.
 pub struct Held<'a> {
@@ -33,7 +35,8 @@ pub struct Step {
 
 // The rest of a run; empty from its end on.
 fn rest(run: &[u8], at: usize) -> &[u8]
-    ensures { λ r. ⌜ now r ≡ drop at (now (run .entry)) ⌝ }
+    ensures is { λ r. ⌜ now r ≡ drop at (now (run .entry)) ⌝ }
+    ensures lies { λ r. ⌜ (at ≤ length (now (run .entry)) → Lies (run .entry) at r) ⌝ }
 {
     if run.len() < at {
         return &run[0..0];
@@ -64,7 +67,7 @@ pub(crate) fn pick_at(run: &[u8], at: usize, row: usize, n: usize) -> Answer
 
 // Its part.
 pub(crate) fn picked_at(run: &[u8], at: usize, row: usize, n: usize) -> &[u8]
-    ensures { λ s. ⌜ HouseHands (drop at (now (run .entry))) row n (now s) ⌝ }
+    ensures { λ s. ⌜ HeldPicked (run .entry) at row n s ⌝ }
 {
     first::picked(rest(run, at), row, n)
 }
@@ -103,7 +106,7 @@ pub fn pick<'a>(h: Held<'a>, row: usize, n: usize) -> Answer
 
 // Its part of the run; empty where `pick` refuses.
 pub fn picked<'a>(h: Held<'a>, row: usize, n: usize) -> &'a [u8]
-    ensures { λ s. ⌜ HouseHands (left (h .entry)) row n (now s) ⌝ }
+    ensures { λ s. ⌜ HeldPicked (h .entry .run) (h .entry .at) row n s ⌝ }
 {
     picked_at(h.run, h.at, row, n)
 }

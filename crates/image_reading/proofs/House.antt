@@ -255,6 +255,16 @@ module _ (run : List ℕ) where
   pub house-hands-one : (r n : ℕ) (s t : List ℕ) → HouseHands run r n s → HouseHands run r n t → s ≡ t
   house-hands-one = hands-one values stored lawful wells lists-apart run
 
+  -- so a run that is refused, and a row of no leaf, have no answer that accepts
+  pub begun-nowhere : (x : Reading) → Begun run x → (r n : ℕ) → x .answer .code ≢ 0 → (a : Answer) → HouseAnswers run r n a → a .code ≡ 0 → ⊥
+  begun-nowhere x b r n z a h e =
+      z (ap (λ (y : Answer). y .code) (house-answers-one r n (x .answer) a (record { part = []; picks = begun-none x b r n z }) h) ∙ e)
+
+  pub group-nowhere : (x : Reading) → Begun run x → (r n : ℕ) → x .answer .code ≡ 0 → houseKind r < 2 → (a : Answer) → HouseAnswers run r n a → a .code ≡ 0 → ⊥
+  group-nowhere x b r n z k a h e =
+      let d : 18 ≡ a .code = ap (λ (y : Answer). y .code) (house-answers-one r n noSuchLeaf a (record { part = []; picks = begun-group x b r n z k }) h) in
+      omega (arith, d, e)
+
   -- nor a second form, or a second place of the items
   pub begun-one : (x y : Reading) → Begun run x → Begun run y → x ≡ y
   begun-one x y b c = go (house-reads-one (x .answer) (y .answer) (begun-reads run x b) (begun-reads run y c)) b c
@@ -300,3 +310,10 @@ module _ (run : List ℕ) where
   -- code 0 and place n exactly of a run within the limit that begins with an image of n bytes
   pub house-reads-exactly : (a : Answer) → HouseReads run a → (n : ℕ) → ((a .code ≡ 0) × (a .place ≡ n)) ↔ ((length run ≤ limit) × HouseAccepts run n)
   house-reads-exactly = reads-exactly values stored lawful wells lists-apart run
+
+-- what `pick` answers is what `pick_from` answers behind what was begun
+module _ (run t : List ℕ) (y : Says t) (x : Reading) (b : Begun run x) (r n : ℕ) where
+  pub begun-answered : x .answer .code ≡ 0 → (part : List ℕ) → Handed t (itemEnd t run) run (x .from) r n part → (a : Answer) → HouseAnswers run r n a → Answered t (itemEnd t run) run (x .from) r n a
+  begun-answered z part h a k =
+      let d : h .answer ≡ a = house-answers-one run r n (h .answer) a (record { part = part; picks = begun-picks run t y x b z r n (h .answer) part (h .chooses) }) k in
+      subst (Answered t (itemEnd t run) run (x .from) r n) d (record { part = part; chooses = h .chooses })

@@ -1,11 +1,13 @@
 -- What the reader and the picker answer over the lists that stored images keep to. Assumes nothing.
+use mathlib.Core.Path.{_≡_}
 use mathlib.Core.List.{List}
 use Prim.Native.Nat.{ℕ}
+use denote.Ref.{RefT, now}
 use Rattle.answer.specs.declared.Answer.{Answer}
 pub use Rattle.list_house.specs.Lists.{stored}
 use Rattle.image.specs.Kinds.{values}
 use Rattle.image.specs.Place.{Accepts, Reads}
-use Rattle.image.specs.Pick.{Picks, Answers, Hands}
+use Rattle.image.specs.Pick.{Lies, Picks, Answers, Hands}
 
 -- the run begins with an image, n bytes long
 abbrev pub HouseAccepts : List ℕ → ℕ → Type 0
@@ -24,3 +26,8 @@ HouseAnswers run r n a = Answers values stored run r n a
 
 abbrev pub HouseHands : List ℕ → ℕ → ℕ → List ℕ → Type 0
 HouseHands run r n part = Hands values stored run r n part
+
+-- "It hands back that part of the lent image itself": these bytes, and they lie in the run where the answer says
+pub record HousePicked (run : RefT (List ℕ)) (r n : ℕ) (s : RefT (List ℕ)) : Type 0 where
+  pub hands : HouseHands (now run) r n (now s)
+  pub lies : (a : Answer) → HouseAnswers (now run) r n a → a .code ≡ 0 → Lies run (a .place) s

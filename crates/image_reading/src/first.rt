@@ -13,7 +13,7 @@ use list_house::tables::rows;
 ghost use mathlib.Core.Path.{_≡_};
 ghost use Rattle.list.specs.Laid.{zeros, laid};
 ghost use Rattle.list_house.specs.Lists.{keptRows};
-ghost use Rattle.image_reading.specs.Reads.{HouseReads, HouseAnswers, HouseHands};
+ghost use Rattle.image_reading.specs.Reads.{HouseReads, HouseAnswers, HousePicked};
 ghost use Rattle.image_reading.specs.Forms.{Begun};
 
 // Reads it, over a table that is lent as zeros and is, where an image is accepted, its list's from then on: who goes on in that image
@@ -72,7 +72,7 @@ pub fn pick(run: &[u8], row: usize, n: usize) -> Answer
 
 // That part itself, without row byte and length; empty where `pick` refuses.
 pub fn picked<'a>(run: &'a [u8], row: usize, n: usize) -> &'a [u8]
-    ensures { λ s. ⌜ HouseHands (now (run .entry)) row n (now s) ⌝ }
+    ensures { λ s. ⌜ HousePicked (run .entry) row n s ⌝ }
 {
     let mut table = [0u16; 4096];
     let r = begun(run, &mut table);

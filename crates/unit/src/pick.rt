@@ -1,6 +1,6 @@
 // The entry for values: the n-th leaf, from 0, of a row in the image that a run begins with.
 use answer::Answer;
-ghost use Rattle.image_reading.specs.Reads.{HouseAnswers, HouseHands};
+ghost use Rattle.image_reading.specs.Reads.{HouseAnswers, HousePicked};
 
 // Its row, and where its part of the run begins; or why there is none.
 pub fn pick(run: &[u8], row: usize, n: usize) -> Answer
@@ -11,7 +11,7 @@ pub fn pick(run: &[u8], row: usize, n: usize) -> Answer
 
 // That part itself, without row byte and length; empty where `pick` refuses.
 pub fn picked<'a>(run: &'a [u8], row: usize, n: usize) -> &'a [u8]
-    ensures { λ s. ⌜ HouseHands (now (run .entry)) row n (now s) ⌝ }
+    ensures { λ s. ⌜ HousePicked (run .entry) row n s ⌝ }
 {
     image_reading::first::picked(run, row, n)
 }

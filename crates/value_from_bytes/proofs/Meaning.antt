@@ -16,7 +16,7 @@ use Rattle.list.specs.Sound.{wordCount}
 use Rattle.list.specs.WellFormed.{LeafOk}
 use Rattle.value.specs.Value.{Value, IsValue, bytes}
 use Rattle.value_from_bytes.specs.Tests.{isByte, every}
-use Rattle.value_from_bytes.specs.Stands.{Taken, None, Ends, taken, nothing}
+use Rattle.value_from_bytes.specs.Stands.{Taken, None, Ends, taken, nothing, EndsBy}
 use Rattle.value_from_bytes.specs.Ends.{head, width, isValue, begins, valueEnd}
 use Rattle.value_from_bytes.proofs.Listed.{byte-each, each-byte}
 use Rattle.value_from_bytes.proofs.Exactly.{Exact}
@@ -133,6 +133,10 @@ module _ (c k n : ℕ) (ws : List (List ℕ)) (f : Leaf) (ok : LeafOk f) (w : n 
       go : Dec (0 < valueEnd c k n s at) → r ≡ valueEnd c k n s at
       go (yes h) = let t = end-some h in absurd (f (t .value) (drop (valueEnd c k n s at) s) (t .is) (t .here))
       go (no h) = omega arith
+
+-- the two promises of `value_end`: the second follows
+pub means : (c k n : ℕ) (s : List ℕ) (at r : ℕ) → r ≡ valueEnd c k n s at → (r ≡ valueEnd c k n s at) × EndsBy c k n s at r
+means c k n s at r e = (e, (λ f ws ok w h. subst (Ends f s at) (sym e) (ends c k n ws f ok w h s at)))
 
 -- a number that no kind has
 pub end-other : (c k n : ℕ) (s : List ℕ) (at : ℕ) → (2 ≤ c → c ≤ 11 → ⊥) → valueEnd c k n s at ≡ 0

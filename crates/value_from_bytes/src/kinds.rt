@@ -15,6 +15,7 @@ ghost use mathlib.Core.Path.{_≡_};
 ghost use Prim.Native.Nat.{_+_, _≤_};
 ghost use lib.ListN.{length, drop};
 ghost use Rattle.value_from_bytes.specs.Ends.{Spans, valueEnd};
+ghost use Rattle.value_from_bytes.specs.Stands.{EndsBy};
 
 fn wide(x: u16) -> usize
     ensures { λ r. ⌜ (r ≡ x) × (r ≤ 65535) ⌝ }
@@ -184,7 +185,8 @@ fn moment_end(s: &[u8], at: usize) -> usize
 
 // The same by the kind's number; k is that of TXTk, words the number of an ENUM's words.
 pub fn value_end(kind: usize, k: usize, words: usize, s: &[u8], at: usize) -> usize
-    ensures { λ r. ⌜ r ≡ valueEnd kind k words (now (s .entry)) at ⌝ }
+    ensures is { λ r. ⌜ r ≡ valueEnd kind k words (now (s .entry)) at ⌝ }
+    ensures means { λ r. ⌜ EndsBy kind k words (now (s .entry)) at r ⌝ }
 {
     if s.len() < at {
         return 0;

@@ -51,7 +51,7 @@ returns-2 c =
     let at-loop = at-loop-test .before in
     seek-bad (g .rows .now) (itemEnd (g .rows .now) (g .run .now)) (g .run .now) (g .from) (g .row) (g .n) (at-loop .loop .left) (at-loop .loop .i)
     (at-loop .loop .inv) (at-wide .wide .result) (at-loop-test .loop-test .taken) (at-wide .wide .ensures) (c .before .item-end .result)
-    (at-if1 .if1 .left) (c .before .item-end .ensures) (c .if2 .taken)
+    (at-if1 .if1 .left) (c .before .item-end .ensures .0) (c .if2 .taken)
 
 add-result : tie.Need-add-result Inv-loop μ-loop
 add-result c =
@@ -68,7 +68,7 @@ returns-3 c =
     let at-loop = at-loop-test .before in
     seek-here (g .rows .now) (itemEnd (g .rows .now) (g .run .now)) (g .run .now) (g .from) (g .row) (g .n) (at-loop .loop .left) (at-loop .loop .i)
     (at-loop .loop .inv) (at-wide .wide .result) (at-loop-test .loop-test .taken) (at-wide .wide .ensures) (at-item-end .item-end .result)
-    (at-if1 .if1 .left) (at-item-end .item-end .ensures) (at-if2 .if2 .left) (c .before .if3 .taken) (c .if4 .taken)
+    (at-if1 .if1 .left) (at-item-end .item-end .ensures .0) (at-if2 .if2 .left) (c .before .if3 .taken) (c .if4 .taken)
 
 sub-left : tie.Need-sub-left Inv-loop μ-loop
 sub-left c =
@@ -83,7 +83,7 @@ loop-less c =
     let at-loop = at-loop-test .before in
     let start = at-loop .before .before in
     omega
-    (arith, at-loop-test .loop-test .taken, at-if2 .if2 .left, at-item-end .item-end .ensures, item-on (start .args .rows .now) (start .args .run .now) (at-wide .wide .result) (at-loop .loop .i + 1) (subst (λ z. 0 < z) (at-item-end .item-end .ensures) (search needs)))
+    (arith, at-loop-test .loop-test .taken, at-if2 .if2 .left, at-item-end .item-end .ensures .0, item-on (start .args .rows .now) (start .args .run .now) (at-wide .wide .result) (at-loop .loop .i + 1) (subst (λ z. 0 < z) (at-item-end .item-end .ensures .0) (search needs)))
 
 loop-again : tie.Need-loop-again Inv-loop μ-loop
 loop-again c =
@@ -96,7 +96,7 @@ loop-again c =
     let at-loop = at-loop-test .before in
     seek-past (g .rows .now) (itemEnd (g .rows .now) (g .run .now)) (g .run .now) (g .from) (g .row) (g .n) (at-loop .loop .left) (at-loop .loop .i)
     (at-loop .loop .inv) (at-wide .wide .result) (at-loop-test .loop-test .taken) (at-wide .wide .ensures) (at-item-end .item-end .result)
-    (at-if1 .if1 .left) (at-item-end .item-end .ensures) (at-if2 .if2 .left) (c .before .if3 .taken) (c .if4 .left)
+    (at-if1 .if1 .left) (at-item-end .item-end .ensures .0) (at-if2 .if2 .left) (c .before .if3 .taken) (c .if4 .left)
 
 loop-less-2 : tie.Need-loop-less-2 Inv-loop μ-loop
 loop-less-2 c =
@@ -106,7 +106,7 @@ loop-less-2 c =
     let at-loop = at-loop-test .before in
     let start = at-loop .before .before in
     omega
-    (arith, at-loop-test .loop-test .taken, c .before .if2 .left, at-item-end .item-end .ensures, item-on (start .args .rows .now) (start .args .run .now) (at-wide .wide .result) (at-loop .loop .i + 1) (subst (λ z. 0 < z) (at-item-end .item-end .ensures) (search needs)))
+    (arith, at-loop-test .loop-test .taken, c .before .if2 .left, at-item-end .item-end .ensures .0, item-on (start .args .rows .now) (start .args .run .now) (at-wide .wide .result) (at-loop .loop .i + 1) (subst (λ z. 0 < z) (at-item-end .item-end .ensures .0) (search needs)))
 
 loop-again-2 : tie.Need-loop-again-2 Inv-loop μ-loop
 loop-again-2 c =
@@ -118,7 +118,7 @@ loop-again-2 c =
     let at-loop = at-loop-test .before in
     seek-on (g .rows .now) (itemEnd (g .rows .now) (g .run .now)) (g .run .now) (g .from) (g .row) (g .n) (at-loop .loop .left) (at-loop .loop .i)
     (at-loop .loop .inv) (at-wide .wide .result) (at-loop-test .loop-test .taken) (at-wide .wide .ensures) (at-item-end .item-end .result)
-    (at-if1 .if1 .left) (at-item-end .item-end .ensures) (c .before .if2 .left) (c .if3 .left)
+    (at-if1 .if1 .left) (at-item-end .item-end .ensures .0) (c .before .if2 .left) (c .if3 .left)
 
 returns-4 : tie.Need-returns-4 Inv-loop μ-loop
 returns-4 c =

@@ -10,6 +10,7 @@ use lib.Seq.{slice}
 use Rattle.image.specs.Ends.{itemEnd}
 use Rattle.image.specs.Run.{Finds, headOf, missing, found}
 use Rattle.image.proofs.Hunting.{find-within, head-small}
+use Rattle.image.proofs.Meaning.{answer-means}
 
 find-requires : tie.Need-find-requires
 find-requires c κs = search needs
@@ -20,7 +21,7 @@ no-such-leaf-requires c κs = search needs
 returns : tie.Need-returns
 returns c =
     let g = c .before .before .before .before .args in
-    record { part = []; chooses = missing (subst (λ z. Finds (g .rows .now) (itemEnd (g .rows .now) (g .run .now)) (g .run .now) (g .from) (g .row) (g .n) z) (c .before .if1 .taken) (c .before .before .find .ensures)) (c .no-such-leaf .ensures) refl }
+    answer-means (g .rows .now) (g .run .now) (g .from) (g .row) (g .n) _ (record { part = []; chooses = missing (subst (λ z. Finds (g .rows .now) (itemEnd (g .rows .now) (g .run .now)) (g .run .now) (g .from) (g .row) (g .n) z) (c .before .if1 .taken) (c .before .before .find .ensures)) (c .no-such-leaf .ensures) refl })
 
 head-requires : tie.Need-head-requires
 head-requires c κs = search needs
@@ -38,10 +39,11 @@ returns-2 c =
     let at-find = c .before .before .before .before in
     let g = at-find .before .before .args in
     let v = at-find .find .result in
-    record {
+    answer-means (g .rows .now) (g .run .now) (g .from) (g .row) (g .n) _
+    (record {
       part = slice (v + headOf (g .rows .now) (g .row)) (itemEnd (g .rows .now) (g .run .now) (g .row) v) (g .run .now);
       chooses = found v (omega (arith, c .before .before .before .if1 .left)) (at-find .find .ensures) (rw (sym (c .before .head .ensures)) (c .picked .ensures)) refl;
-    }
+    })
 
 pub pick-from-spec : {M : Type 1} → statement M
 pick-from-spec =

@@ -5,13 +5,14 @@ use Rattle.image.proofs.reader.body.Tie as tie
 use mathlib.Core.Logic.{inl, inr}
 use native.Mathlib.Omega.{arith}
 use Rattle.image.specs.Run.{rootless, rooted}
+use Rattle.image.proofs.Meaning.{read-means}
 
 broken-image-requires : tie.Need-broken-image-requires
 broken-image-requires c κs = search needs
 
 returns : tie.Need-returns
 returns c =
-    rootless (inl (c .before .if1 .taken)) (c .broken-image .ensures)
+    read-means _ _ _ _ (rootless (inl (c .before .if1 .taken)) (c .broken-image .ensures))
 
 shared-slice-read-if2 : tie.Need-shared-slice-read-if2
 shared-slice-read-if2 c = search needs
@@ -21,7 +22,7 @@ broken-image-requires-2 c κs = search needs
 
 returns-2 : tie.Need-returns-2
 returns-2 c =
-    rootless (inr (c .before .if2 .taken)) (c .broken-image2 .ensures)
+    read-means _ _ _ _ (rootless (inr (c .before .if2 .taken)) (c .broken-image2 .ensures))
 
 add-items : tie.Need-add-items
 add-items c = search needs
@@ -31,7 +32,7 @@ items-requires c κs = search needs
 
 returns-3 : tie.Need-returns-3
 returns-3 c =
-    rooted (omega (arith, c .before .before .before .before .if1 .left)) (omega (arith, c .before .before .if2 .left)) (c .items .ensures)
+    read-means _ _ _ _ (rooted (omega (arith, c .before .before .before .before .if1 .left)) (omega (arith, c .before .before .if2 .left)) (c .items .ensures))
 
 pub body-spec : {M : Type 1} → statement M
 body-spec =

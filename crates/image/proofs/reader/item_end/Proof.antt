@@ -3,6 +3,7 @@ use borrow.Author.Needs.{needs}
 use Rattle.image.proofs.reader.item_end.Statement.{statement}
 use Rattle.image.proofs.reader.item_end.Tie as tie
 use Rattle.image.proofs.Ends.{item-leaf, item-group}
+use Rattle.image.proofs.Meaning.{item-means}
 
 is-leaf-requires : tie.Need-is-leaf-requires
 is-leaf-requires c κs = search needs
@@ -21,10 +22,10 @@ value-end-requires c κs = search needs
 
 returns : tie.Need-returns
 returns c =
-    item-leaf _ _ _ _ _ (c .before .before .before .before .before .is-leaf .ensures) (c .before .before .before .before .if1 .taken) _ _ _ _ (c .before .before .before .cell .ensures) (c .before .before .cell2 .ensures) (c .before .cell3 .ensures) (c .value-end .ensures)
+    item-means _ _ _ _ _ (item-leaf _ _ _ _ _ (c .before .before .before .before .before .is-leaf .ensures) (c .before .before .before .before .if1 .taken) _ _ _ _ (c .before .before .before .cell .ensures) (c .before .before .cell2 .ensures) (c .before .cell3 .ensures) (c .value-end .ensures .0))
 
 returns-2 : tie.Need-returns-2
-returns-2 c = item-group _ _ _ _ _ (c .before .is-leaf .ensures) (c .if1 .left)
+returns-2 c = item-means _ _ _ _ _ (item-group _ _ _ _ _ (c .before .is-leaf .ensures) (c .if1 .left))
 
 pub item-end-spec : {M : Type 1} → statement M
 item-end-spec =

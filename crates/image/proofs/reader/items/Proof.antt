@@ -90,18 +90,18 @@ broken-image-requires-2 c κs =
 returns-3 : tie.Need-returns-3 Inv-loop μ-loop
 returns-3 c =
     let g = c .before .before .before .before .before .before .before .before .before .before .before .before .before .before .before .before .before .args in
-    breaks (g .rows .now) (itemEnd (g .rows .now) (g .run .now)) (g .run .now) (g .from) (c .before .before .before .before .before .before .before .before .before .before .before .before .before .before .loop .q) (c .before .before .before .before .before .before .before .before .before .before .before .before .before .before .loop .i) (c .before .before .before .before .before .before .before .before .before .before .before .before .before .before .loop .inv) (c .before .before .before .before .before .before .before .before .before .before .before .wide .result) (c .before .before .before .before .before .before .before .before .before .before .before .before .before .loop-test .taken) (c .before .before .before .before .before .before .before .before .before .before .before .wide .ensures) (c .before .before .before .before .before .before .before .before .before .before .if1 .left) (c .before .before .before .before .before .before .before .before .before .follows .result) (c .before .before .before .before .before .before .before .before .before .follows .ensures) (c .broken-image2 .result) (c .before .before .value-end .result) (c .broken-image2 .ensures) (c .before .before .before .before .before .before .before .before .if3 .taken) (item-leaf _ _ _ _ _ (c .before .before .before .before .before .before .before .is-leaf .ensures) (c .before .before .before .before .before .before .if4 .taken) _ _ _ _ (c .before .before .before .before .before .cell .ensures) (c .before .before .before .before .cell2 .ensures) (c .before .before .before .cell3 .ensures) (c .before .before .value-end .ensures)) (c .before .if5 .taken)
+    breaks (g .rows .now) (itemEnd (g .rows .now) (g .run .now)) (g .run .now) (g .from) (c .before .before .before .before .before .before .before .before .before .before .before .before .before .before .loop .q) (c .before .before .before .before .before .before .before .before .before .before .before .before .before .before .loop .i) (c .before .before .before .before .before .before .before .before .before .before .before .before .before .before .loop .inv) (c .before .before .before .before .before .before .before .before .before .before .before .wide .result) (c .before .before .before .before .before .before .before .before .before .before .before .before .before .loop-test .taken) (c .before .before .before .before .before .before .before .before .before .before .before .wide .ensures) (c .before .before .before .before .before .before .before .before .before .before .if1 .left) (c .before .before .before .before .before .before .before .before .before .follows .result) (c .before .before .before .before .before .before .before .before .before .follows .ensures) (c .broken-image2 .result) (c .before .before .value-end .result) (c .broken-image2 .ensures) (c .before .before .before .before .before .before .before .before .if3 .taken) (item-leaf _ _ _ _ _ (c .before .before .before .before .before .before .before .is-leaf .ensures) (c .before .before .before .before .before .before .if4 .taken) _ _ _ _ (c .before .before .before .before .before .cell .ensures) (c .before .before .before .before .cell2 .ensures) (c .before .before .before .cell3 .ensures) (c .before .before .value-end .ensures .0)) (c .before .if5 .taken)
 
 loop-less : tie.Need-loop-less Inv-loop μ-loop
 loop-less c =
     let g = c .before .before .before .before .before .before .before .before .before .before .before .before .before .before .before .before .args in
-    let e = item-leaf (g .rows .now) (g .run .now) (c .before .before .before .before .before .before .before .before .before .before .wide .result) (c .before .before .before .before .before .before .before .before .before .before .before .before .before .loop .i + 1) _ (c .before .before .before .before .before .before .is-leaf .ensures) (c .before .before .before .before .before .if4 .taken) _ _ _ _ (c .before .before .before .before .cell .ensures) (c .before .before .before .cell2 .ensures) (c .before .before .cell3 .ensures) (c .before .value-end .ensures) in
+    let e = item-leaf (g .rows .now) (g .run .now) (c .before .before .before .before .before .before .before .before .before .before .wide .result) (c .before .before .before .before .before .before .before .before .before .before .before .before .before .loop .i + 1) _ (c .before .before .before .before .before .before .is-leaf .ensures) (c .before .before .before .before .before .if4 .taken) _ _ _ _ (c .before .before .before .before .cell .ensures) (c .before .before .before .cell2 .ensures) (c .before .before .cell3 .ensures) (c .before .value-end .ensures .0) in
     omega (arith, c .before .before .before .before .before .before .before .before .before .before .before .before .loop-test .taken, c .if5 .left, e, item-on (g .rows .now) (g .run .now) (c .before .before .before .before .before .before .before .before .before .before .wide .result) (c .before .before .before .before .before .before .before .before .before .before .before .before .before .loop .i + 1) (subst (λ z. 0 < z) e (search needs)))
 
 loop-again : tie.Need-loop-again Inv-loop μ-loop
 loop-again c =
     let g = c .before .before .before .before .before .before .before .before .before .before .before .before .before .before .before .before .args in
-    goes-on (g .rows .now) (itemEnd (g .rows .now) (g .run .now)) (g .run .now) (g .from) (c .before .before .before .before .before .before .before .before .before .before .before .before .before .loop .q) (c .before .before .before .before .before .before .before .before .before .before .before .before .before .loop .i) (c .before .before .before .before .before .before .before .before .before .before .before .before .before .loop .inv) (c .before .before .before .before .before .before .before .before .before .before .wide .result) (c .before .before .before .before .before .before .before .before .before .before .before .before .loop-test .taken) (c .before .before .before .before .before .before .before .before .before .before .wide .ensures) (c .before .before .before .before .before .before .before .before .before .if1 .left) (c .before .before .before .before .before .before .before .before .follows .result) (c .before .before .before .before .before .before .before .before .follows .ensures) (c .before .value-end .result) (c .before .before .before .before .before .before .before .if3 .taken) (item-leaf _ _ _ _ _ (c .before .before .before .before .before .before .is-leaf .ensures) (c .before .before .before .before .before .if4 .taken) _ _ _ _ (c .before .before .before .before .cell .ensures) (c .before .before .before .cell2 .ensures) (c .before .before .cell3 .ensures) (c .before .value-end .ensures)) (c .if5 .left)
+    goes-on (g .rows .now) (itemEnd (g .rows .now) (g .run .now)) (g .run .now) (g .from) (c .before .before .before .before .before .before .before .before .before .before .before .before .before .loop .q) (c .before .before .before .before .before .before .before .before .before .before .before .before .before .loop .i) (c .before .before .before .before .before .before .before .before .before .before .before .before .before .loop .inv) (c .before .before .before .before .before .before .before .before .before .before .wide .result) (c .before .before .before .before .before .before .before .before .before .before .before .before .loop-test .taken) (c .before .before .before .before .before .before .before .before .before .before .wide .ensures) (c .before .before .before .before .before .before .before .before .before .if1 .left) (c .before .before .before .before .before .before .before .before .follows .result) (c .before .before .before .before .before .before .before .before .follows .ensures) (c .before .value-end .result) (c .before .before .before .before .before .before .before .if3 .taken) (item-leaf _ _ _ _ _ (c .before .before .before .before .before .before .is-leaf .ensures) (c .before .before .before .before .before .if4 .taken) _ _ _ _ (c .before .before .before .before .cell .ensures) (c .before .before .before .cell2 .ensures) (c .before .before .cell3 .ensures) (c .before .value-end .ensures .0)) (c .if5 .left)
 
 add-i : tie.Need-add-i Inv-loop μ-loop
 add-i c =

@@ -2,9 +2,11 @@
 -- meets its contract. Assumes nothing.
 use mathlib.Core.List.{List}
 use Prim.Native.Nat.{ℕ}
+use lib.ListN.{drop}
 use contract.Lifetimes.{Lfts}
 use contract.Running.{givenOf, tables, tablesOf}
 use denote.RattleType.{RattleType}
+use denote.Ref.{RefT, now}
 use denote.Struct.Laws as LL
 use denote.Triple.Spec.{tripleOf}
 use denote.Triple.Table.{entered, cited}
@@ -24,8 +26,8 @@ use Rattle.image_hold.proofs.held.pick.Code as code
 abbrev R : Lfts 1 → RattleType
 R κs = S.the-row
 
-abbrev Claim : Lfts 1 → List ℕ → ℕ → ℕ → Answer → Type 0
-Claim κs = HouseAnswers
+abbrev Claim : Lfts 1 → RefT (List ℕ) → ℕ → ℕ → ℕ → Answer → Type 0
+Claim κs run at = HouseAnswers (drop at (now run))
 
 pub pick-spec : {M : Type 1} → stated.statement M
 unfolding code.routine tablesOf

@@ -12,7 +12,7 @@ pick-requires c κs = search needs
 
 returns : tie.Need-returns
 returns c =
-    rw (sym (c .before .rest .ensures)) (c .pick .ensures)
+    rw (sym (c .before .rest .ensures .0)) (c .pick .ensures)
 
 pub pick-at-spec : {M : Type 1} → statement M
 pick-at-spec = tie.close (tie.spec rest-requires pick-requires returns)

@@ -7,12 +7,12 @@ use contract.Lifetimes.{Lfts}
 use contract.Running.{givenOf, tables, tablesOf}
 use denote.Builtin.{u8}
 use denote.RattleType.{RattleType}
-use denote.Ref.{RefT, now}
+use denote.Ref.{RefT}
 use denote.Signature.{shrSlice, typeAt}
 use denote.Slice.{sliceTy, shr-slice-lawful}
 use denote.Triple.Spec.{tripleOf}
 use denote.Triple.Table.{entered, cited}
-use Rattle.image_reading.specs.Reads.{HouseHands}
+use Rattle.image_hold.specs.Held.{HeldPicked}
 use Rattle.image_hold.proofs.Apart.{Told, meets}
 use Rattle.image_hold.proofs.held.picked_at.Symbol as step-def
 use Rattle.image_hold.proofs.held.picked_at.Symbol.{name as #image-hold·held·picked-at}
@@ -25,8 +25,8 @@ use Rattle.image_hold.proofs.held.picked.Code as code
 abbrev R : Lfts 1 → RattleType
 R κs = typeAt {n = 1} (shrSlice 0 tt (λ _. u8)) κs
 
-abbrev Claim : Lfts 1 → List ℕ → ℕ → ℕ → RefT (List ℕ) → Type 0
-Claim κs s row n r = HouseHands s row n (now r)
+abbrev Claim : Lfts 1 → RefT (List ℕ) → ℕ → ℕ → ℕ → RefT (List ℕ) → Type 0
+Claim κs = HeldPicked
 
 pub picked-spec : {M : Type 1} → stated.statement M
 unfolding code.routine tablesOf

@@ -1,6 +1,6 @@
 -- `held::picked_at` meets its contract. Assumes nothing.
-use mathlib.Core.Path.{sym}
 use borrow.Author.Needs.{needs}
+use Rattle.image_hold.proofs.Holding.{picked-rest}
 use Rattle.image_hold.proofs.held.picked_at.Statement.{statement}
 use Rattle.image_hold.proofs.held.picked_at.Tie as tie
 
@@ -12,7 +12,7 @@ picked-requires c κs = search needs
 
 returns : tie.Need-returns
 returns c =
-    rw (sym (c .before .rest .ensures)) (c .picked .ensures)
+    picked-rest _ _ _ _ _ _ (c .before .rest .ensures .0) (c .before .rest .ensures .1) (c .picked .ensures)
 
 pub picked-at-spec : {M : Type 1} → statement M
 picked-at-spec = tie.close (tie.spec rest-requires picked-requires returns)

@@ -14,15 +14,15 @@ read-requires c κs = search needs
 
 returns : tie.Need-returns
 returns c =
-    step-stays _ _ _ (rw (sym (c .before .before .before .rest .ensures)) (c .before .before .read .ensures)) (c .if1 .taken)
+    step-stays _ _ _ (rw (sym (c .before .before .before .rest .ensures .0)) (c .before .before .read .ensures)) (c .if1 .taken)
 
 add-t6 : tie.Need-add-t6
 add-t6 c =
-    omega (arith, step-room (c .before .before .before .before .before .before .args .run .now) (c .before .before .before .before .before .before .args .at) (c .before .before .before .read .result) (rw (sym (c .before .before .before .before .rest .ensures)) (c .before .before .before .read .ensures)) (omega (arith, c .before .if1 .left)))
+    omega (arith, step-room (c .before .before .before .before .before .before .args .run .now) (c .before .before .before .before .before .before .args .at) (c .before .before .before .read .result) (rw (sym (c .before .before .before .before .rest .ensures .0)) (c .before .before .before .read .ensures)) (omega (arith, c .before .if1 .left)))
 
 returns-2 : tie.Need-returns-2
 returns-2 c =
-    step-on _ _ _ (rw (sym (c .before .before .before .before .rest .ensures)) (c .before .before .before .read .ensures)) (omega (arith, c .before .if1 .left))
+    step-on _ _ _ (rw (sym (c .before .before .before .before .rest .ensures .0)) (c .before .before .before .read .ensures)) (omega (arith, c .before .if1 .left))
 
 pub read-at-spec : {M : Type 1} → statement M
 read-at-spec = tie.close (tie.spec rest-requires read-requires returns add-t6 returns-2)

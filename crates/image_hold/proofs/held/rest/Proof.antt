@@ -19,7 +19,8 @@ part-result-end c = search needs
 
 returns : tie.Need-returns
 returns c =
-    let h : length (c .before .before .args .run .now) ≤ c .before .before .args .at = omega (arith, c .before .if1 .taken) in sym (drop-of-length-le (c .before .before .args .run .now) h)
+    let h : length (c .before .before .args .run .now) ≤ c .before .before .args .at = omega (arith, c .before .if1 .taken) in
+    (sym (drop-of-length-le (c .before .before .args .run .now) h), (λ k. absurd (omega (arith, k, c .before .if1 .taken))))
 
 sub-result-2 : tie.Need-sub-result-2
 sub-result-2 c = search needs
@@ -32,7 +33,7 @@ part-result-end-2 c = search needs
 
 returns-2 : tie.Need-returns-2
 returns-2 c =
-    take-all (length (c .before .before .args .run .now) - c .before .before .args .at) (drop (c .before .before .args .at) (c .before .before .args .run .now)) (omega (arith, length-drop (c .before .before .args .at) (c .before .before .args .run .now)))
+    (take-all (length (c .before .before .args .run .now) - c .before .before .args .at) (drop (c .before .before .args .at) (c .before .before .args .run .now)) (omega (arith, length-drop (c .before .before .args .at) (c .before .before .args .run .now))), (λ k. (search needs, search needs)))
 
 pub rest-spec : {M : Type 1} → statement M
 rest-spec =

@@ -2,9 +2,10 @@
 use borrow.Author.Needs.{needs}
 use Rattle.image_reading.proofs.first.picked.Statement.{statement}
 use Rattle.image_reading.proofs.first.picked.Tie as tie
+use mathlib.Core.Path.{_≡_}
 use native.Mathlib.Omega.{arith}
 use Rattle.answer.specs.Table.{noSuchLeaf}
-use Rattle.image_reading.proofs.House.{begun-hands, begun-none, begun-group, laid-says}
+use Rattle.image_reading.proofs.House.{begun-hands, begun-none, begun-group, begun-nowhere, group-nowhere, begun-answered, laid-says}
 
 begun-requires : tie.Need-begun-requires
 begun-requires c κs = search needs
@@ -20,7 +21,10 @@ part-result-end c = search needs
 
 returns : tie.Need-returns
 returns c =
-    record { answer = c .before .before .before .begun .result .answer; picks = begun-none _ _ (c .before .before .before .begun .ensures .0) _ _ (c .before .if1 .taken) }
+    record {
+      hands = record { answer = c .before .before .before .begun .result .answer; picks = begun-none _ _ (c .before .before .before .begun .ensures .0) _ _ (c .before .if1 .taken) };
+      lies = λ a h z. absurd (begun-nowhere _ _ (c .before .before .before .begun .ensures .0) _ _ (c .before .if1 .taken) a h z);
+    }
 
 kind-requires : tie.Need-kind-requires
 kind-requires c κs = search needs
@@ -36,14 +40,23 @@ part-result-end-2 c = search needs
 
 returns-2 : tie.Need-returns-2
 returns-2 c =
-    record { answer = noSuchLeaf; picks = begun-group _ _ (c .before .before .before .before .before .begun .ensures .0) _ _ (omega (arith, c .before .before .before .if1 .left)) (omega (arith, c .before .before .kind .ensures, c .before .if2 .taken)) }
+    record {
+      hands = record { answer = noSuchLeaf; picks = begun-group _ _ (c .before .before .before .before .before .begun .ensures .0) _ _ (omega (arith, c .before .before .before .if1 .left)) (omega (arith, c .before .before .kind .ensures, c .before .if2 .taken)) };
+      lies = λ a h z. absurd (group-nowhere _ _ (c .before .before .before .before .before .begun .ensures .0) _ _ (omega (arith, c .before .before .before .if1 .left)) (omega (arith, c .before .before .kind .ensures, c .before .if2 .taken)) a h z);
+    }
 
 picked-from-requires : tie.Need-picked-from-requires
 picked-from-requires c κs = search needs
 
 returns-3 : tie.Need-returns-3
 returns-3 c =
-    begun-hands _ _ (laid-says _ (c .before .before .before .before .before .before .begun .ensures .1 (omega (arith, c .before .before .before .before .if1 .left)))) _ (c .before .before .before .before .before .before .begun .ensures .0) _ _ (omega (arith, c .before .before .before .before .if1 .left)) _ (c .picked-from .ensures)
+    let l = laid-says _ (c .before .before .before .before .before .before .begun .ensures .1 (omega (arith, c .before .before .before .before .if1 .left))) in
+    let b = c .before .before .before .before .before .before .begun .ensures .0 in
+    let z : c .before .before .before .before .before .before .begun .result .answer .code ≡ 0 = omega (arith, c .before .before .before .before .if1 .left) in
+    record {
+      hands = begun-hands _ _ l _ b _ _ z _ (c .picked-from .ensures .0);
+      lies = λ a h e. c .picked-from .ensures .1 .1 a (begun-answered _ _ l _ b _ _ z _ (c .picked-from .ensures .0) a h) e;
+    }
 
 pub picked-spec : {M : Type 1} → statement M
 picked-spec =

@@ -18,7 +18,7 @@ picked-requires c κs = search needs
 put-line-requires : tie.Need-put-line-requires
 put-line-requires c κs =
     let o = c .before .before .before .before .before in
-    let q = part-within (o .args .run .now) (o .args .row) (o .args .nth) (c .before .before .pick .result) (c .before .picked .result .now) (picks-both _ _ _ _ _ (c .before .before .pick .ensures) (c .before .picked .ensures)) in
+    let q = part-within (o .args .run .now) (o .args .row) (o .args .nth) (c .before .before .pick .result) (c .before .picked .result .now) (picks-both _ _ _ _ _ (c .before .before .pick .ensures) (c .before .picked .ensures .hands)) in
     omega (arith, o .pre .0, o .pre .1)
 
 same-length : tie.Need-same-length
@@ -28,7 +28,7 @@ returns : tie.Need-returns
 returns c =
     let a = c .before .before .before .before .before .pick .result in
     let part = c .before .before .before .before .picked .result .now in
-    (record { answer = a; part = part; picks = picks-both _ _ _ _ _ (c .before .before .before .before .before .pick .ensures) (c .before .before .before .before .picked .ensures); line = c .before .before .put-line .ensures .0 ∙ ap (answerLine a) (take-all (length part) part (omega arith)) }, c .before .before .put-line .ensures .1)
+    (record { answer = a; part = part; picks = picks-both _ _ _ _ _ (c .before .before .before .before .before .pick .ensures) (c .before .before .before .before .picked .ensures .hands); line = c .before .before .put-line .ensures .0 ∙ ap (answerLine a) (take-all (length part) part (omega arith)) }, c .before .before .put-line .ensures .1)
 
 pub part-picked-spec : {M : Type 1} → statement M
 part-picked-spec =

@@ -14,7 +14,7 @@ cast-result : tie.Need-cast-result
 cast-result c = search needs
 
 returns : tie.Need-returns
-returns c = picks-at _ _ _ _ _ (c .before .before .pick .ensures) (c .before .picked .ensures)
+returns c = picks-at _ _ _ _ _ (c .before .before .pick .ensures) (c .before .picked .ensures .hands)
 
 pub kto-pick-spec : {M : Type 1} → statement M
 kto-pick-spec = tie.close (tie.spec pick-requires picked-requires cast-result returns)

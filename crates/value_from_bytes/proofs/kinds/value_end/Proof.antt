@@ -6,10 +6,11 @@ use Rattle.value_from_bytes.specs.Ends.{isValue, begins, valueEnd}
 use mathlib.Core.Path.{sym}
 use Rattle.value_from_bytes.proofs.Numbered.{other-value}
 use Rattle.value_from_bytes.proofs.Placing.{end-past, end-at, end-none}
+use Rattle.value_from_bytes.proofs.Meaning.{means}
 
 returns : tie.Need-returns
 returns c =
-    end-past _ _ _ _ _ (c .if1 .taken)
+    means _ _ _ _ _ _ (end-past _ _ _ _ _ (c .if1 .taken))
 
 reference-end-requires : tie.Need-reference-end-requires
 reference-end-requires c κs = search needs
@@ -45,66 +46,66 @@ returns-2 : tie.Need-returns-2
 unfolding valueEnd begins isValue
 returns-2 c =
     let g = c .before .before .before .before .args in
-    end-at _ (g .k) (g .words) (g .s .now) (g .at) 2 (c .before .match .keys1) _ (c .reference-end .ensures)
+    means (g .kind) (g .k) (g .words) (g .s .now) (g .at) _ (end-at _ (g .k) (g .words) (g .s .now) (g .at) 2 (c .before .match .keys1) _ (c .reference-end .ensures))
 
 returns-3 : tie.Need-returns-3
 unfolding valueEnd begins isValue
 returns-3 c =
     let g = c .before .before .before .before .args in
-    end-at _ (g .k) (g .words) (g .s .now) (g .at) 3 (c .before .match .keys2) _ (c .writing-end .ensures)
+    means (g .kind) (g .k) (g .words) (g .s .now) (g .at) _ (end-at _ (g .k) (g .words) (g .s .now) (g .at) 3 (c .before .match .keys2) _ (c .writing-end .ensures))
 
 returns-4 : tie.Need-returns-4
 unfolding valueEnd begins isValue
 returns-4 c =
     let g = c .before .before .before .before .args in
-    end-at _ (g .k) (g .words) (g .s .now) (g .at) 4 (c .before .match .keys3) _ (c .account-end .ensures)
+    means (g .kind) (g .k) (g .words) (g .s .now) (g .at) _ (end-at _ (g .k) (g .words) (g .s .now) (g .at) 4 (c .before .match .keys3) _ (c .account-end .ensures))
 
 returns-5 : tie.Need-returns-5
 unfolding valueEnd begins isValue
 returns-5 c =
     let g = c .before .before .before .before .args in
-    end-at _ (g .k) (g .words) (g .s .now) (g .at) 5 (c .before .match .keys4) _ (c .currency-end .ensures)
+    means (g .kind) (g .k) (g .words) (g .s .now) (g .at) _ (end-at _ (g .k) (g .words) (g .s .now) (g .at) 5 (c .before .match .keys4) _ (c .currency-end .ensures))
 
 returns-6 : tie.Need-returns-6
 unfolding valueEnd begins isValue
 returns-6 c =
     let g = c .before .before .before .before .args in
-    end-at _ (g .k) (g .words) (g .s .now) (g .at) 6 (c .before .match .keys5) _ (c .place-end .ensures)
+    means (g .kind) (g .k) (g .words) (g .s .now) (g .at) _ (end-at _ (g .k) (g .words) (g .s .now) (g .at) 6 (c .before .match .keys5) _ (c .place-end .ensures))
 
 returns-7 : tie.Need-returns-7
 unfolding valueEnd begins isValue
 returns-7 c =
     let g = c .before .before .before .before .args in
-    end-at _ (g .k) (g .words) (g .s .now) (g .at) 7 (c .before .match .keys6) _ (c .truth-end .ensures)
+    means (g .kind) (g .k) (g .words) (g .s .now) (g .at) _ (end-at _ (g .k) (g .words) (g .s .now) (g .at) 7 (c .before .match .keys6) _ (c .truth-end .ensures))
 
 returns-8 : tie.Need-returns-8
 unfolding valueEnd begins isValue
 returns-8 c =
     let g = c .before .before .before .before .args in
-    end-at _ (g .k) (g .words) (g .s .now) (g .at) 8 (c .before .match .keys7) _ (c .natural-end .ensures)
+    means (g .kind) (g .k) (g .words) (g .s .now) (g .at) _ (end-at _ (g .k) (g .words) (g .s .now) (g .at) 8 (c .before .match .keys7) _ (c .natural-end .ensures))
 
 returns-9 : tie.Need-returns-9
 unfolding valueEnd begins isValue
 returns-9 c =
     let g = c .before .before .before .before .args in
-    end-at _ (g .k) (g .words) (g .s .now) (g .at) 9 (c .before .match .keys8) _ (c .amount-end .ensures)
+    means (g .kind) (g .k) (g .words) (g .s .now) (g .at) _ (end-at _ (g .k) (g .words) (g .s .now) (g .at) 9 (c .before .match .keys8) _ (c .amount-end .ensures))
 
 returns-10 : tie.Need-returns-10
 unfolding valueEnd begins isValue
 returns-10 c =
     let g = c .before .before .before .before .args in
-    end-at _ (g .k) (g .words) (g .s .now) (g .at) 10 (c .before .match .keys9) _ (c .day-end .ensures)
+    means (g .kind) (g .k) (g .words) (g .s .now) (g .at) _ (end-at _ (g .k) (g .words) (g .s .now) (g .at) 10 (c .before .match .keys9) _ (c .day-end .ensures))
 
 returns-11 : tie.Need-returns-11
 unfolding valueEnd begins isValue
 returns-11 c =
     let g = c .before .before .before .before .args in
-    end-at _ (g .k) (g .words) (g .s .now) (g .at) 11 (c .before .match .keys10) _ (c .moment-end .ensures)
+    means (g .kind) (g .k) (g .words) (g .s .now) (g .at) _ (end-at _ (g .k) (g .words) (g .s .now) (g .at) 11 (c .before .match .keys10) _ (c .moment-end .ensures))
 
 returns-12 : tie.Need-returns-12
 returns-12 c =
     let r = c .match .rest in
-    end-none _ _ _ _ _ (λ b. sym (other-value _ _ _ b (r .0 .0 .0 .0 .0 .0 .0 .0 .0 .1) (r .0 .0 .0 .0 .0 .0 .0 .0 .1) (r .0 .0 .0 .0 .0 .0 .0 .1) (r .0 .0 .0 .0 .0 .0 .1) (r .0 .0 .0 .0 .0 .1) (r .0 .0 .0 .0 .1) (r .0 .0 .0 .1) (r .0 .0 .1) (r .0 .1) (r .1)))
+    means _ _ _ _ _ _ (end-none _ _ _ _ _ (λ b. sym (other-value _ _ _ b (r .0 .0 .0 .0 .0 .0 .0 .0 .0 .1) (r .0 .0 .0 .0 .0 .0 .0 .0 .1) (r .0 .0 .0 .0 .0 .0 .0 .1) (r .0 .0 .0 .0 .0 .0 .1) (r .0 .0 .0 .0 .0 .1) (r .0 .0 .0 .0 .1) (r .0 .0 .0 .1) (r .0 .0 .1) (r .0 .1) (r .1))))
 
 pub value-end-spec : {M : Type 1} → statement M
 value-end-spec =
