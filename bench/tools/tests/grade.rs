@@ -62,7 +62,7 @@ fn images_are_kept_and_shown() {
     let folder = empty_folder("images");
     assert_eq!(grade(&["--write", folder.to_str().unwrap(), "."]).0, Some(1));
     let kept = ["rent-account.kto", "several-statements.kto"].map(|name| folder.join(name));
-    assert_eq!(fs::read_dir(&folder).unwrap().count(), 2);
+    assert_eq!(fs::read_dir(&folder).unwrap().count(), 3);
 
     let (status, tree) = grade(&["show", kept[0].to_str().unwrap()]);
     assert_eq!(status, Some(0));
@@ -133,7 +133,7 @@ fn a_closed_pipe_ends_it_quietly() {
 fn one_object_for_each_file() {
     let (status, said) = grade(&["--json", ".", "no-such-file.xml"]);
     assert_eq!(status, Some(2));
-    assert_eq!(said.lines().count(), 16);
+    assert_eq!(said.lines().count(), 19);
     assert!(said.lines().all(|line| line.starts_with("{\"file\":\"") && line.ends_with('}')), "{said}");
     assert!(
         said.contains("{\"file\":\"./rent-account.xml\",\"code\":0,\"name\":\"accepted\",\"row\":0,\"place\":3948}")
@@ -151,7 +151,7 @@ fn a_page_for_a_browser() {
     let page = folder.join("report.html");
     assert_eq!(grade(&["--html", page.to_str().unwrap(), "."]).0, Some(1));
     let text = fs::read_to_string(&page).unwrap();
-    assert_eq!(text.matches("<article>").count(), 13);
+    assert_eq!(text.matches("<article>").count(), 15);
     assert_eq!(text.matches("<section id=\"code-").count(), 13);
     let section = between(&text, "<section id=\"code-12\">", "</section>");
     assert!(
