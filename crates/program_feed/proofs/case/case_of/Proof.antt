@@ -44,7 +44,13 @@ number-requires-4 c κs = search needs
 
 returns-5 : tie.Need-returns-5
 returns-5 c =
-    case-pick (c .before .before .before .before .before .before .before .before .before .before .args .head .now) (c .before .before .before .before .before .before .before .number .result) (omega arith) (c .before .before .before .before .before .before .before .number .ensures) (omega arith) (c .before .before .before .before .if3 .left) (c .before .before .before .if4 .left) (c .before .number3 .result) (c .number4 .result) (c .before .number3 .ensures) (c .number4 .ensures) (c .before .before .if5 .taken)
+    let at-if5 = c .before .before in
+    let at-if4 = at-if5 .before in
+    let at-if3 = at-if4 .before in
+    let at-number = at-if3 .before .before .before in
+    let start = at-number .before .before .before in
+    case-pick (start .args .head .now) (at-number .number .result) (omega arith) (at-number .number .ensures) (omega arith) (at-if3 .if3 .left)
+    (at-if4 .if4 .left) (c .before .number3 .result) (c .number4 .result) (c .before .number3 .ensures) (c .number4 .ensures) (at-if5 .if5 .taken)
 
 returns-6 : tie.Need-returns-6
 returns-6 c =
