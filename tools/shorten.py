@@ -19,12 +19,6 @@ LONGEST = 400
 EXCEPTED = '''
     file_measure/proofs/measure/Proof.antt
     file_walk/proofs/attributes/is_currency/Proof.antt
-    image/proofs/order/beside/Proof.antt
-    image/proofs/order/climbs/Proof.antt
-    image/proofs/order/follows/Proof.antt
-    image/proofs/order/inside/Proof.antt
-    image/proofs/order/rests/Proof.antt
-    image/proofs/reader/items/Proof.antt
     replay/proofs/reply/reply/Proof.antt
     text_characters/proofs/piece/entity/Proof.antt
     text_characters/proofs/utf8/decode_four/Proof.antt
@@ -39,12 +33,6 @@ EXCEPTED = '''
     value_dates/proofs/moment/fraction/Proof.antt
     value_dates/proofs/moment/three/Proof.antt
     value_dates/proofs/moment/zone/Proof.antt
-    value_to_bytes/proofs/chars/put_chars/Proof.antt
-    value_to_bytes/proofs/values/is_currency/Proof.antt
-    value_to_bytes/proofs/values/write_amount/Proof.antt
-    value_to_bytes/proofs/values/write_day/Proof.antt
-    value_to_bytes/proofs/values/write_moment/Proof.antt
-    value_to_bytes/proofs/values/write_text/Proof.antt
     xml/proofs/Lang.antt
     xml_scan/proofs/attribute/attribute/Proof.antt
     xml_scan/proofs/attribute/equals/Proof.antt
