@@ -3,8 +3,8 @@
 
 Every page: a file that it names is there, and prose is at most 100 columns wide. docs/ARCHITECTURE.md has a row for each crate.
 docs/DECISIONS.md has each decision once, and those that pages name. docs/RULES.md: a definition stands in a file of its section, and
-each file of docs/BELIEVE.md but a mirror is in some section. docs/CODES.md: numbers and names are those of `answer`, of the C header and
-of `grade`, and each example gets the code that examples/ANSWERS.txt says.
+each file of docs/BELIEVE.md but a mirror is in some section. docs/CODES.md: numbers and names are those of `answer`, of the C header, of
+`grade` and of the Python module, and each example gets the code that examples/ANSWERS.txt says.
 """
 import pathlib
 import re
@@ -87,6 +87,7 @@ def codes():
     known = {int(n): name for name, n in re.findall(r'pub const (\w+): u8 = (\d+);', source)}
     header = {int(n): name for name, n in re.findall(r'\bKTO_(?!\w*ROW_)(\w+) = (\d+)', (ROOT / 'include' / 'kto.h').read_text())}
     graded = {int(n): name for n, name in re.findall(r'\((\d+), "(\w+)"\)', (ROOT / 'bench/tools/src/grade/names.rs').read_text())}
+    python = {int(n): name for n, name in re.findall(r"^    (\d+): '(\w+)',$", (ROOT / 'examples/python/kto.py').read_text(), re.M)}
     answers = dict(re.findall(r'^(\S+\.xml) +(\d+) ', (ROOT / 'examples' / 'ANSWERS.txt').read_text(), re.M))
     seen, shown = set(), set()
     for cells in rows((DOCS / 'CODES.md').read_text()):
@@ -98,13 +99,15 @@ def codes():
             yield f'{code} is {known.get(code)} in answer, not {name}'
         if header.get(code, name) != name:
             yield f'{code} is KTO_{header[code]} in include/kto.h, not KTO_{name}'
+        if python.get(code, name) != name:
+            yield f'{code} is {python[code]} in examples/python/kto.py, not {name}'
         if graded.get(code) != name:
             yield f'{code} is {graded.get(code)} in bench/tools/src/grade/names.rs, not {name}'
         for example in ticked(' '.join(cells[6:])):
             shown.add(example)
             if answers.get(example) != str(code):
                 yield f'{example} gets {answers.get(example)}, not {code}'
-    yield from (f'{code}: not in the tables' for code in sorted((set(known) | set(header) | set(graded)) - seen))
+    yield from (f'{code}: not in the tables' for code in sorted((set(known) | set(header) | set(graded) | set(python)) - seen))
     yield from (f'{file}: not in the tables' for file in sorted(answers) if file.startswith('damaged/') and file not in shown)
 
 
