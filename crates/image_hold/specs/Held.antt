@@ -25,13 +25,13 @@ pub record Steps (run : List ℕ) (at : ℕ) (r : Step) : Type 0 where
   pub reads : HouseReads (drop at run) (r .answer)
   pub moves : Moves (r .answer) at (r .at)
 
--- the held reader before and behind a call that reads: "it answers as they do on the rest of the run", and moves; its run stays
+-- the held reader before and after a call that reads: "it answers as they do on the rest of the run", and moves; its run stays
 pub record Next (h : Held) (a : Answer) (h′ : Held) : Type 0 where
   pub reads : HouseReads (left h) a
   pub moves : Moves a (h .at) (h′ .at)
   pub holds : h′ .run ≡ h .run
 
--- calls that read, one behind the other, with what each answers
+-- calls that read, one after the other, with what each answers
 pub data Calls : Held → List Answer → Held → Type 0 where
   rested : {h : Held} → Calls h [] h
   called : {h p q : Held} {a : Answer} {answers : List Answer} → Next h a p → Calls p answers q → Calls h (a ∷ answers) q
