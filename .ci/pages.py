@@ -4,7 +4,8 @@
 Every page: a file that it names is there, and prose is at most 100 columns wide. docs/ARCHITECTURE.md has a row for each crate.
 docs/DECISIONS.md has each decision once, and those that pages name. docs/RULES.md: a definition stands in a file of its section, and
 each file of docs/BELIEVE.md but a mirror is in some section. docs/CODES.md: numbers and names are those of `answer`, of the C header, of
-`grade` and of the Python module, and each example gets the code that examples/ANSWERS.txt says.
+`grade` and of the Python module, and each example gets the code that examples/ANSWERS.txt says. docs/GLOSSARY.md: each word
+once, the types and the number of rows as tools/lists has them.
 """
 import pathlib
 import re
@@ -12,6 +13,9 @@ import sys
 
 sys.dont_write_bytecode = True
 import believe  # noqa: E402
+
+sys.path.insert(0, str(pathlib.Path(__file__).resolve().parent.parent / 'tools' / 'lists'))
+import source  # noqa: E402
 
 ROOT = pathlib.Path(__file__).resolve().parent.parent
 CRATES = ROOT / 'crates'
@@ -111,9 +115,23 @@ def codes():
     yield from (f'{file}: not in the tables' for file in sorted(answers) if file.startswith('damaged/') and file not in shown)
 
 
+def glossary():
+    meaning = {}
+    for word, *rest in rows((DOCS / 'GLOSSARY.md').read_text()):
+        for each in () if word == 'Word' else word.split(', '):
+            if each in meaning:
+                yield f'{each}: stands there more than once'
+            meaning[each] = ' '.join(rest)
+    house = source.read(ROOT / 'tools' / 'lists')[0]
+    types = {kind.removesuffix('k') for kind in re.findall(r'[A-Z]+k?', meaning.get('type', '').partition(':')[2])}
+    yield from (f'type: {kind} is not among them, or no type of tools/lists' for kind in sorted(types ^ set(source.KINDS[2:])))
+    if f'{len(house.rows)} rows' not in meaning.get('list', ''):
+        yield f'list: the house list has {len(house.rows)} rows'
+
+
 def main():
     faults = [f'{page.relative_to(ROOT)}: {fault}' for page in pages() for check in (paths, width) for fault in check(page)]
-    for name, check in (('ARCHITECTURE', architecture), ('DECISIONS', decisions), ('RULES', rules), ('CODES', codes)):
+    for name, check in (('ARCHITECTURE', architecture), ('DECISIONS', decisions), ('RULES', rules), ('CODES', codes), ('GLOSSARY', glossary)):
         faults += [f'docs/{name}.md: {fault}' for fault in check()]
     for fault in faults:
         print(f'pages: {fault}')
