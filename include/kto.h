@@ -1,7 +1,8 @@
 /* kto.h: the reconciliation unit for C.
  *
  * Four calls: a statement file (camt.053.001.08, Austrian subset) is checked and its record image written; a run of bytes is read as an image;
- * a value is picked from an image; the statement file of an image is written. Link with libunit.a (x86-64 Linux); it needs the C library and nothing else.
+ * a value is picked from an image; the statement file of an image is written. Link with libunit.a (x86-64 Linux); it needs the C library and
+ * nothing else.
  *
  * Every call takes any bytes and any numbers. There is nothing to set up, no memory is allocated, nothing is kept between calls, and
  * calls from several threads do not meet as long as they lend different buffers.
@@ -141,9 +142,9 @@ uint64_t kto_read(const uint8_t *run, uint64_t run_len, uint64_t *place);
  */
 uint64_t kto_pick(const uint8_t *run, uint64_t run_len, uint64_t row, uint64_t n, uint64_t *place, uint64_t *len);
 
-/* Writes the statement file of the image that run[0 .. run_len) begins with into out; what stands behind the image does not matter.
+/* Writes the statement file of the image that run[0 .. run_len) begins with into out; what stands after the image does not matter.
  *
- * KTO_ACCEPTED: out[0 .. *place) is the file, the bytes of out behind it are as they were, *row is 0. kto_check accepts that file and gives the
+ * KTO_ACCEPTED: out[0 .. *place) is the file, the bytes of out after it are as they were, *row is 0. kto_check accepts that file and gives the
  * image back.
  * Any other code: no byte of out is changed, *row is 0. 1, 15, 16 or 17 as kto_read answers; then KTO_TOO_LARGE; then KTO_NO_ROOM, where *place
  * says how many bytes the file needs. A buffer of KTO_LIMIT bytes is always long enough. A file may be longer than its image, and longer than the

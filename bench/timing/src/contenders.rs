@@ -1,4 +1,4 @@
-//! Who is timed. Each judges a whole file, or a whole image, in one call, and says whether it accepts.
+//! Who is timed. Each judges a whole file, or a whole image, or writes a file from an image, in one call, and says whether it accepts.
 
 use crate::files::File;
 
@@ -14,6 +14,8 @@ pub struct Contender {
     pub name: &'static str,
     pub takes: Input,
     pub is_unit: bool,
+    /// By how many bytes a call is timed: those that it is handed, or those that it writes.
+    pub counts: fn(&[u8]) -> usize,
     pub judge: fn(&[u8]) -> bool,
 }
 
@@ -30,15 +32,36 @@ impl Contender {
 /// The unit's check comes first: the others are compared with it.
 pub fn all(schema: &str) -> Result<Vec<Contender>, String> {
     let mut all = vec![
-        Contender { name: "unit check", takes: Input::File, is_unit: true, judge: unit::check },
-        Contender { name: "unit UTF-8 and scan", takes: Input::Foreign, is_unit: true, judge: unit::scan },
-        Contender { name: "unit read", takes: Input::Image, is_unit: true, judge: unit::read },
-        Contender { name: "independent check", takes: Input::File, is_unit: false, judge: independent_check },
+        Contender { name: "unit check", takes: Input::File, is_unit: true, counts: <[u8]>::len, judge: unit::check },
+        Contender {
+            name: "unit UTF-8 and scan",
+            takes: Input::Foreign,
+            is_unit: true,
+            counts: <[u8]>::len,
+            judge: unit::scan,
+        },
+        Contender { name: "unit read", takes: Input::Image, is_unit: true, counts: <[u8]>::len, judge: unit::read },
+        Contender { name: "unit write", takes: Input::Image, is_unit: true, counts: unit::written, judge: unit::write },
+        Contender {
+            name: "independent check",
+            takes: Input::File,
+            is_unit: false,
+            counts: <[u8]>::len,
+            judge: independent_check,
+        },
         Contender {
             name: "independent read",
             takes: Input::Image,
             is_unit: false,
+            counts: <[u8]>::len,
             judge: |image| independent::read(image).code.number() == 0,
+        },
+        Contender {
+            name: "independent write",
+            takes: Input::Image,
+            is_unit: false,
+            counts: |image| independent_write(image).unwrap_or(0),
+            judge: |image| independent_write(image).is_some(),
         },
     ];
     others::add(&mut all, schema)?;
@@ -49,6 +72,12 @@ fn independent_check(text: &[u8]) -> bool {
     // An image is never longer than its file.
     let mut image = vec![0; text.len()];
     independent::check(text, &mut image).code.number() == 0
+}
+
+/// The length of the file; none where the image is refused.
+fn independent_write(image: &[u8]) -> Option<usize> {
+    let answer = independent::write(image, &mut vec![0; independent::LIMIT]);
+    (answer.code.number() == 0).then_some(answer.place)
 }
 
 /// The unit, by its C exports (include/kto.h).
@@ -65,18 +94,26 @@ mod unit {
             place: *mut u64,
         ) -> u64;
         fn kto_read(run: *const u8, run_len: usize, place: *mut u64) -> u64;
+        fn kto_write(
+            run: *const u8,
+            run_len: usize,
+            out: *mut u8,
+            out_len: usize,
+            row: *mut u64,
+            place: *mut u64,
+        ) -> u64;
     }
 
     // Lent to every call, so that no sample pays for making it.
     thread_local! {
-        static IMAGE: RefCell<Vec<u8>> = RefCell::new(vec![0; independent::LIMIT]);
+        static OUT: RefCell<Vec<u8>> = RefCell::new(vec![0; independent::LIMIT]);
     }
 
     fn code(text: &[u8]) -> u64 {
-        IMAGE.with_borrow_mut(|image| {
+        OUT.with_borrow_mut(|out| {
             let (mut row, mut place) = (0, 0);
             // SAFETY: the lengths are those of the slices, and the two numbers live on this stack.
-            unsafe { kto_check(text.as_ptr(), text.len(), image.as_mut_ptr(), image.len(), &mut row, &mut place) }
+            unsafe { kto_check(text.as_ptr(), text.len(), out.as_mut_ptr(), out.len(), &mut row, &mut place) }
         })
     }
 
@@ -93,6 +130,25 @@ mod unit {
         let mut place = 0;
         // SAFETY: as above.
         unsafe { kto_read(image.as_ptr(), image.len(), &mut place) == 0 && place == image.len() as u64 }
+    }
+
+    /// The length of the file that is written from an image; none where it is refused.
+    fn file_length(image: &[u8]) -> Option<usize> {
+        OUT.with_borrow_mut(|out| {
+            let (mut row, mut place) = (0, 0);
+            // SAFETY: as above.
+            let code =
+                unsafe { kto_write(image.as_ptr(), image.len(), out.as_mut_ptr(), out.len(), &mut row, &mut place) };
+            (code == 0).then_some(place as usize)
+        })
+    }
+
+    pub fn write(image: &[u8]) -> bool {
+        file_length(image).is_some()
+    }
+
+    pub fn written(image: &[u8]) -> usize {
+        file_length(image).unwrap_or(0)
     }
 }
 
@@ -118,18 +174,21 @@ mod others {
             name: "expat",
             takes: Input::File,
             is_unit: false,
+            counts: <[u8]>::len,
             judge: |file| unsafe { others_expat(file.as_ptr(), file.len()) == 1 },
         });
         all.push(Contender {
             name: "libxml2 schema, tree",
             takes: Input::File,
             is_unit: false,
+            counts: <[u8]>::len,
             judge: |file| unsafe { others_tree(file.as_ptr(), file.len()) == 1 },
         });
         all.push(Contender {
             name: "libxml2 schema, stream",
             takes: Input::File,
             is_unit: false,
+            counts: <[u8]>::len,
             judge: |file| unsafe { others_stream(file.as_ptr(), file.len()) == 1 },
         });
         Ok(())

@@ -46,7 +46,7 @@ fn measure(contenders: &[Contender], files: &[File], rounds: usize) -> Vec<Vec<S
         for (file, row) in files.iter().zip(&mut samples) {
             for (contender, sample) in contenders.iter().zip(row) {
                 let input = contender.input(file);
-                sample.add(clock::megabytes_per_second(input.len(), || (contender.judge)(input)));
+                sample.add(clock::megabytes_per_second((contender.counts)(input), || (contender.judge)(input)));
             }
         }
     }
@@ -76,7 +76,7 @@ fn print_table(contenders: &[Contender], files: &[File], samples: &[Vec<Sample>]
     if !cfg!(others) {
         println!("\nexpat and libxml2 are missing: their development packages are not installed");
     }
-    println!("\nWho reads an image is timed by the image's bytes.");
+    println!("\nWho reads an image is timed by the image's bytes, who writes a file by the file's.");
 }
 
 /// The deepest of the unit's calls over all the files.

@@ -26,10 +26,11 @@ pub fn write(run: &[u8], out: &mut [u8]) -> Answer
     let pool = pool();
     let mut nothing = [0u8; 1];
     let n = emit(&table, &pool, run, read.from, &mut nothing);
+    let room = out.len();
     if Answer::LIMIT < n {
         return Answer::too_large(n);
     }
-    if out.len() < n {
+    if room < n {
         return Answer::no_room(n);
     }
     emit(&table, &pool, run, read.from, out);

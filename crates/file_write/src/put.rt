@@ -1,4 +1,4 @@
-// Tags, put at a place of a buffer: each answers the place behind what it put, whether there is room for it or not. A name has at most as
+// Tags, put at a place of a buffer: each answers the place after what it put, whether there is room for it or not. A name has at most as
 // many bytes as the pool, and no place is beyond 10^14, so that no sum overflows.
 use list::lookup::cell;
 use list::table::NAME;

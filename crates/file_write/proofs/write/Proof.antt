@@ -35,39 +35,86 @@ slice-aggregate-emit-2 c = search needs
 
 emit-requires : tie.Need-emit-requires
 emit-requires c κs =
-    write-held _ _ (c .before .before .before .before .before .before .before .before .before .before .reading .ensures) (omega (arith, c .before .before .before .before .before .before .before .before .if1 .left)) _ (laid-says _ (laid-over _ _ _ _ (c .before .before .before .before .before .before .before .rows .ensures) refl (c .before .before .before .before .lay .ensures))) _ (c .before .before .before .pool .ensures)
+    let at-pool = c .before .before .before in
+    let at-lay = at-pool .before in
+    let at-rows = at-lay .before .before .before in
+    let at-if1 = at-rows .before in
+    let at-reading = at-if1 .before .before in
+    write-held _ _ (at-reading .reading .ensures) (omega (arith, at-if1 .if1 .left)) _
+    (laid-says _ (laid-over _ _ _ _ (at-rows .rows .ensures) refl (at-lay .lay .ensures))) _ (at-pool .pool .ensures)
 
 too-large-requires : tie.Need-too-large-requires
 too-large-requires c κs = search needs
 
 returns-2 : tie.Need-returns-2
 returns-2 c =
-    write-large _ _ (c .before .before .before .before .before .before .before .before .before .before .before .before .before .before .reading .ensures) (omega (arith, c .before .before .before .before .before .before .before .before .before .before .before .before .if1 .left)) _ (laid-says _ (laid-over _ _ _ _ (c .before .before .before .before .before .before .before .before .before .before .before .rows .ensures) refl (c .before .before .before .before .before .before .before .before .lay .ensures))) _ (c .before .before .before .before .before .before .before .pool .ensures) _ _ _ (c .before .before .before .emit .ensures) _ _ (c .before .if2 .taken) (c .too-large .ensures)
+    let at-emit = c .before .before .before in
+    let at-pool = at-emit .before .before .before .before in
+    let at-lay = at-pool .before in
+    let at-rows = at-lay .before .before .before in
+    let at-if1 = at-rows .before in
+    let at-reading = at-if1 .before .before in
+    write-large _ _ (at-reading .reading .ensures) (omega (arith, at-if1 .if1 .left)) _
+    (laid-says _ (laid-over _ _ _ _ (at-rows .rows .ensures) refl (at-lay .lay .ensures))) _ (at-pool .pool .ensures) _ _ _ (at-emit .emit .ensures) _
+    _ (c .before .if2 .taken) (c .too-large .ensures)
 
 no-room-requires : tie.Need-no-room-requires
 no-room-requires c κs = search needs
 
 returns-3 : tie.Need-returns-3
 returns-3 c =
-    write-short _ _ (c .before .before .before .before .before .before .before .before .before .before .before .before .before .before .before .reading .ensures) (omega (arith, c .before .before .before .before .before .before .before .before .before .before .before .before .before .if1 .left)) _ (laid-says _ (laid-over _ _ _ _ (c .before .before .before .before .before .before .before .before .before .before .before .before .rows .ensures) refl (c .before .before .before .before .before .before .before .before .before .lay .ensures))) _ (c .before .before .before .before .before .before .before .before .pool .ensures) _ _ _ (c .before .before .before .before .emit .ensures) _ _ (omega (arith, c .before .before .if2 .left)) (c .before .if3 .taken) (c .no-room .ensures)
+    let at-if2 = c .before .before in
+    let at-emit = at-if2 .before .before in
+    let at-pool = at-emit .before .before .before .before in
+    let at-lay = at-pool .before in
+    let at-rows = at-lay .before .before .before in
+    let at-if1 = at-rows .before in
+    let at-reading = at-if1 .before .before in
+    write-short _ _ (at-reading .reading .ensures) (omega (arith, at-if1 .if1 .left)) _
+    (laid-says _ (laid-over _ _ _ _ (at-rows .rows .ensures) refl (at-lay .lay .ensures))) _ (at-pool .pool .ensures) _ _ _ (at-emit .emit .ensures) _
+    _ (omega (arith, at-if2 .if2 .left)) (c .before .if3 .taken) (c .no-room .ensures)
 
 slice-aggregate-emit-3 : tie.Need-slice-aggregate-emit-3
 slice-aggregate-emit-3 c = search needs
 
 emit-requires-2 : tie.Need-emit-requires-2
 emit-requires-2 c κs =
-    write-held _ _ (c .before .before .before .before .before .before .before .before .before .before .before .before .before .before .before .before .before .reading .ensures) (omega (arith, c .before .before .before .before .before .before .before .before .before .before .before .before .before .before .before .if1 .left)) _ (laid-says _ (laid-over _ _ _ _ (c .before .before .before .before .before .before .before .before .before .before .before .before .before .before .rows .ensures) refl (c .before .before .before .before .before .before .before .before .before .before .before .lay .ensures))) _ (c .before .before .before .before .before .before .before .before .before .before .pool .ensures)
+    let at-pool = c .before .before .before .before .before .before .before .before .before .before in
+    let at-lay = at-pool .before in
+    let at-rows = at-lay .before .before .before in
+    let at-if1 = at-rows .before in
+    let at-reading = at-if1 .before .before in
+    write-held _ _ (at-reading .reading .ensures) (omega (arith, at-if1 .if1 .left)) _
+    (laid-says _ (laid-over _ _ _ _ (at-rows .rows .ensures) refl (at-lay .lay .ensures))) _ (at-pool .pool .ensures)
 
 accepted-requires : tie.Need-accepted-requires
 accepted-requires c κs = search needs
 
 same-length : tie.Need-same-length
 same-length c =
-    write-long _ _ (c .before .before .before .before .before .before .before .before .before .before .before .before .before .before .before .before .before .before .before .before .before .reading .ensures) (omega (arith, c .before .before .before .before .before .before .before .before .before .before .before .before .before .before .before .before .before .before .before .if1 .left)) _ (laid-says _ (laid-over _ _ _ _ (c .before .before .before .before .before .before .before .before .before .before .before .before .before .before .before .before .before .before .rows .ensures) refl (c .before .before .before .before .before .before .before .before .before .before .before .before .before .before .before .lay .ensures))) _ (c .before .before .before .before .before .before .before .before .before .before .before .before .before .before .pool .ensures) _ _ _ (c .before .before .before .emit2 .ensures)
+    let at-emit2 = c .before .before .before in
+    let at-pool = at-emit2 .before .before .before .before .before .before .before .before .before .before .before in
+    let at-lay = at-pool .before in
+    let at-rows = at-lay .before .before .before in
+    let at-if1 = at-rows .before in
+    let at-reading = at-if1 .before .before in
+    write-long _ _ (at-reading .reading .ensures) (omega (arith, at-if1 .if1 .left)) _
+    (laid-says _ (laid-over _ _ _ _ (at-rows .rows .ensures) refl (at-lay .lay .ensures))) _ (at-pool .pool .ensures) _ _ _ (at-emit2 .emit2 .ensures)
 
 returns-4 : tie.Need-returns-4
 returns-4 c =
-    write-whole _ _ (c .before .before .before .before .before .before .before .before .before .before .before .before .before .before .before .before .before .before .before .before .before .reading .ensures) (omega (arith, c .before .before .before .before .before .before .before .before .before .before .before .before .before .before .before .before .before .before .before .if1 .left)) _ (laid-says _ (laid-over _ _ _ _ (c .before .before .before .before .before .before .before .before .before .before .before .before .before .before .before .before .before .before .rows .ensures) refl (c .before .before .before .before .before .before .before .before .before .before .before .before .before .before .before .lay .ensures))) _ (c .before .before .before .before .before .before .before .before .before .before .before .before .before .before .pool .ensures) _ _ _ (c .before .before .before .before .before .before .before .before .before .before .emit .ensures) _ _ (omega (arith, c .before .before .before .before .before .before .before .before .if2 .left)) (omega (arith, c .before .before .before .before .before .before .before .if3 .left)) (c .accepted .ensures) _ _ (c .before .before .before .emit2 .ensures)
+    let at-emit2 = c .before .before .before in
+    let at-if3 = at-emit2 .before .before .before .before in
+    let at-if2 = at-if3 .before in
+    let at-emit = at-if2 .before .before in
+    let at-pool = at-emit .before .before .before .before in
+    let at-lay = at-pool .before in
+    let at-rows = at-lay .before .before .before in
+    let at-if1 = at-rows .before in
+    let at-reading = at-if1 .before .before in
+    write-whole _ _ (at-reading .reading .ensures) (omega (arith, at-if1 .if1 .left)) _
+    (laid-says _ (laid-over _ _ _ _ (at-rows .rows .ensures) refl (at-lay .lay .ensures))) _ (at-pool .pool .ensures) _ _ _ (at-emit .emit .ensures) _
+    _ (omega (arith, at-if2 .if2 .left)) (omega (arith, at-if3 .if3 .left)) (c .accepted .ensures) _ _ (at-emit2 .emit2 .ensures)
 
 pub write-spec : {M : Type 1} → statement M
 write-spec =

@@ -40,11 +40,22 @@ close-to-requires c κs =
 
 same-length : tie.Need-same-length Inv-loop μ-loop
 same-length c =
-    c .before .before .close-to .ensures .long ∙ held-long _ _ _ _ (c .before .before .before .before .before .before .before .before .before .before .before .before .before .before .before .before .before .pre) _ _ _ _ _ _ (c .before .before .before .before .before .before .before .before .loop .inv) ∙ c .before .before .before .before .before .before .before .before .before .before .before .put-root .ensures .long
+    let at-close-to = c .before .before in
+    let at-loop = at-close-to .before .before .before .before .before .before in
+    let at-put-root = at-loop .before .before .before in
+    let start = at-put-root .before .before .before .before .before .before in
+    at-close-to .close-to .ensures .long ∙ held-long _ _ _ _ (start .pre) _ _ _ _ _ _ (at-loop .loop .inv) ∙ at-put-root .put-root .ensures .long
 
 returns : tie.Need-returns Inv-loop μ-loop
 returns c =
-    held-end _ _ _ _ (c .before .before .before .before .before .before .before .before .before .before .before .before .before .before .before .before .before .pre) _ _ _ _ _ _ (c .before .before .before .before .before .before .before .before .loop .inv) _ (c .before .before .before .before .before .before .wide .ensures) (c .before .before .before .before .before .if1 .taken) _ (c .before .before .before .before .before .before .before .before .before .before .before .put-root .ensures) _ _ (c .before .before .close-to .ensures)
+    let at-close-to = c .before .before in
+    let at-if1 = at-close-to .before .before .before in
+    let at-wide = at-if1 .before in
+    let at-loop = at-wide .before .before in
+    let at-put-root = at-loop .before .before .before in
+    let start = at-put-root .before .before .before .before .before .before in
+    held-end _ _ _ _ (start .pre) _ _ _ _ _ _ (at-loop .loop .inv) _ (at-wide .wide .ensures) (at-if1 .if1 .taken) _ (at-put-root .put-root .ensures)
+    _ _ (at-close-to .close-to .ensures)
 
 cell-requires : tie.Need-cell-requires Inv-loop μ-loop
 cell-requires c κs =
@@ -64,19 +75,41 @@ is-group-requires c κs =
 
 put-open-requires : tie.Need-put-open-requires Inv-loop μ-loop
 put-open-requires c κs =
-    (c .before .before .before .before .before .before .before .before .before .before .before .before .before .before .before .before .before .before .before .before .before .before .before .before .before .pre .small, omega (arith, held-low _ _ _ _ (c .before .before .before .before .before .before .before .before .before .before .before .before .before .before .before .before .before .before .before .before .before .before .before .before .before .pre) _ _ _ _ _ _ (c .before .before .before .before .before .before .before .before .before .before .before .before .before .before .before .before .loop .inv) _ (c .before .before .before .before .before .before .before .before .before .before .before .before .before .before .wide .ensures) (c .before .before .before .before .before .before .before .before .before .before .before .before .before .if1 .left) _ (c .before .before .before .before .before .before .before .before .before .before .before .cell .ensures) _ _ (c .before .before .before .before .before .before .before .before .close-to2 .ensures)))
+    let at-close-to2 = c .before .before .before .before .before .before .before .before in
+    let at-cell = at-close-to2 .before .before .before in
+    let at-if1 = at-cell .before .before in
+    let at-wide = at-if1 .before in
+    let at-loop = at-wide .before .before in
+    let start = at-loop .before .before .before .before .before .before .before .before .before in
+    (start .pre .small, omega (arith, held-low _ _ _ _ (start .pre) _ _ _ _ _ _ (at-loop .loop .inv) _ (at-wide .wide .ensures) (at-if1 .if1 .left) _ (at-cell .cell .ensures) _ _ (at-close-to2 .close-to2 .ensures)))
 
 add-i-2 : tie.Need-add-i-2 Inv-loop μ-loop
 add-i-2 c =
-    omega (arith, held-in _ _ _ _ (c .before .before .before .before .before .before .before .before .before .before .before .before .before .before .before .before .before .before .before .before .before .before .before .before .before .before .before .before .pre) _ _ _ _ _ _ (c .before .before .before .before .before .before .before .before .before .before .before .before .before .before .before .before .before .before .before .loop .inv))
+    let at-loop = c .before .before .before .before .before .before .before .before .before .before .before .before .before .before .before .before .before .before .before in
+    let start = at-loop .before .before .before .before .before .before .before .before .before in
+    omega (arith, held-in _ _ _ _ (start .pre) _ _ _ _ _ _ (at-loop .loop .inv))
 
 loop-less : tie.Need-loop-less Inv-loop μ-loop
 loop-less c =
-    omega (arith, held-in _ _ _ _ (c .before .before .before .before .before .before .before .before .before .before .before .before .before .before .before .before .before .before .before .before .before .before .before .before .before .before .before .before .pre) _ _ _ _ _ _ (c .before .before .before .before .before .before .before .before .before .before .before .before .before .before .before .before .before .before .before .loop .inv))
+    let at-loop = c .before .before .before .before .before .before .before .before .before .before .before .before .before .before .before .before .before .before .before in
+    let start = at-loop .before .before .before .before .before .before .before .before .before in
+    omega (arith, held-in _ _ _ _ (start .pre) _ _ _ _ _ _ (at-loop .loop .inv))
 
 loop-again : tie.Need-loop-again Inv-loop μ-loop
 loop-again c =
-    held-group _ _ _ _ (c .before .before .before .before .before .before .before .before .before .before .before .before .before .before .before .before .before .before .before .before .before .before .before .before .before .before .before .before .pre) _ _ _ _ _ _ (c .before .before .before .before .before .before .before .before .before .before .before .before .before .before .before .before .before .before .before .loop .inv) _ (c .before .before .before .before .before .before .before .before .before .before .before .before .before .before .before .before .before .wide .ensures) (c .before .before .before .before .before .before .before .before .before .before .before .before .before .before .before .before .if1 .left) _ (c .before .before .before .before .before .before .before .before .before .before .before .before .before .before .cell .ensures) _ _ (c .before .before .before .before .before .before .before .before .before .before .before .close-to2 .ensures) _ (c .before .before .before .before .before .before .before .cell2 .ensures) _ (c .before .before .before .before .before .before .is-group .ensures) (c .before .before .before .before .before .if2 .taken) _ _ (c .before .before .put-open .ensures)
+    let at-put-open = c .before .before in
+    let at-if2 = at-put-open .before .before .before in
+    let at-is-group = at-if2 .before in
+    let at-cell2 = at-is-group .before in
+    let at-close-to2 = at-cell2 .before .before .before .before in
+    let at-cell = at-close-to2 .before .before .before in
+    let at-if1 = at-cell .before .before in
+    let at-wide = at-if1 .before in
+    let at-loop = at-wide .before .before in
+    let start = at-loop .before .before .before .before .before .before .before .before .before in
+    held-group _ _ _ _ (start .pre) _ _ _ _ _ _ (at-loop .loop .inv) _ (at-wide .wide .ensures) (at-if1 .if1 .left) _ (at-cell .cell .ensures) _ _
+    (at-close-to2 .close-to2 .ensures) _ (at-cell2 .cell2 .ensures) _ (at-is-group .is-group .ensures) (at-if2 .if2 .taken) _ _
+    (at-put-open .put-open .ensures)
 
 add-put-leaf : tie.Need-add-put-leaf Inv-loop μ-loop
 add-put-leaf c =
@@ -84,7 +117,13 @@ add-put-leaf c =
 
 put-leaf-requires : tie.Need-put-leaf-requires Inv-loop μ-loop
 put-leaf-requires c κs =
-    (c .before .before .before .before .before .before .before .before .before .before .before .before .before .before .before .before .before .before .before .before .before .before .before .before .before .pre .small, c .before .before .before .before .before .before .before .before .before .before .before .before .before .before .before .before .before .before .before .before .before .before .before .before .before .pre .within, omega (arith, held-in _ _ _ _ (c .before .before .before .before .before .before .before .before .before .before .before .before .before .before .before .before .before .before .before .before .before .before .before .before .before .pre) _ _ _ _ _ _ (c .before .before .before .before .before .before .before .before .before .before .before .before .before .before .before .before .loop .inv), c .before .before .before .before .before .before .before .before .before .before .before .before .before .before .before .before .before .before .before .before .before .before .before .before .before .pre .within), omega (arith, held-low _ _ _ _ (c .before .before .before .before .before .before .before .before .before .before .before .before .before .before .before .before .before .before .before .before .before .before .before .before .before .pre) _ _ _ _ _ _ (c .before .before .before .before .before .before .before .before .before .before .before .before .before .before .before .before .loop .inv) _ (c .before .before .before .before .before .before .before .before .before .before .before .before .before .before .wide .ensures) (c .before .before .before .before .before .before .before .before .before .before .before .before .before .if1 .left) _ (c .before .before .before .before .before .before .before .before .before .before .before .cell .ensures) _ _ (c .before .before .before .before .before .before .before .before .close-to2 .ensures)))
+    let at-close-to2 = c .before .before .before .before .before .before .before .before in
+    let at-cell = at-close-to2 .before .before .before in
+    let at-if1 = at-cell .before .before in
+    let at-wide = at-if1 .before in
+    let at-loop = at-wide .before .before in
+    let start = at-loop .before .before .before .before .before .before .before .before .before in
+    (start .pre .small, start .pre .within, omega (arith, held-in _ _ _ _ (start .pre) _ _ _ _ _ _ (at-loop .loop .inv), start .pre .within), omega (arith, held-low _ _ _ _ (start .pre) _ _ _ _ _ _ (at-loop .loop .inv) _ (at-wide .wide .ensures) (at-if1 .if1 .left) _ (at-cell .cell .ensures) _ _ (at-close-to2 .close-to2 .ensures)))
 
 cell-requires-3 : tie.Need-cell-requires-3 Inv-loop μ-loop
 cell-requires-3 c κs =
@@ -96,7 +135,9 @@ cell-requires-4 c κs =
 
 add-value-end : tie.Need-add-value-end Inv-loop μ-loop
 add-value-end c =
-    omega (arith, held-in _ _ _ _ (c .before .before .before .before .before .before .before .before .before .before .before .before .before .before .before .before .before .before .before .before .before .before .before .before .before .before .before .before .before .before .before .before .pre) _ _ _ _ _ _ (c .before .before .before .before .before .before .before .before .before .before .before .before .before .before .before .before .before .before .before .before .before .before .before .loop .inv), c .before .before .before .before .before .before .before .before .before .before .before .before .before .before .before .before .before .before .before .before .before .before .before .before .before .before .before .before .before .before .before .before .pre .within)
+    let at-loop = c .before .before .before .before .before .before .before .before .before .before .before .before .before .before .before .before .before .before .before .before .before .before .before in
+    let start = at-loop .before .before .before .before .before .before .before .before .before in
+    omega (arith, held-in _ _ _ _ (start .pre) _ _ _ _ _ _ (at-loop .loop .inv), start .pre .within)
 
 value-end-requires : tie.Need-value-end-requires Inv-loop μ-loop
 value-end-requires c κs =
@@ -104,11 +145,38 @@ value-end-requires c κs =
 
 loop-less-2 : tie.Need-loop-less-2 Inv-loop μ-loop
 loop-less-2 c =
-    omega (arith, held-in _ _ _ _ (c .before .before .before .before .before .before .before .before .before .before .before .before .before .before .before .before .before .before .before .before .before .before .before .before .before .before .before .before .before .before .before .before .before .pre) _ _ _ _ _ _ (c .before .before .before .before .before .before .before .before .before .before .before .before .before .before .before .before .before .before .before .before .before .before .before .before .loop .inv), held-less _ _ _ _ (c .before .before .before .before .before .before .before .before .before .before .before .before .before .before .before .before .before .before .before .before .before .before .before .before .before .before .before .before .before .before .before .before .before .pre) _ _ _ _ _ _ (c .before .before .before .before .before .before .before .before .before .before .before .before .before .before .before .before .before .before .before .before .before .before .before .before .loop .inv) _ (c .before .before .before .before .before .before .before .before .before .before .before .before .before .before .before .before .before .before .before .before .before .before .wide .ensures) (c .before .before .before .before .before .before .before .before .before .before .before .before .before .before .before .before .before .before .before .before .before .if1 .left) _ (c .before .before .before .before .before .before .before .before .before .before .before .before .before .before .before .before .before .before .before .cell .ensures) _ _ (c .before .before .before .before .before .before .before .before .before .before .before .before .before .before .before .before .close-to2 .ensures) _ (c .before .before .before .before .before .before .before .before .before .before .before .before .cell2 .ensures) _ (c .before .before .before .before .before .before .before .before .before .before .before .is-group .ensures) (c .before .before .before .before .before .before .before .before .before .before .if2 .left) _ (c .before .before .before .cell3 .ensures) _ (c .before .cell4 .ensures) _ (c .value-end .ensures))
+    let at-cell3 = c .before .before .before in
+    let at-if2 = at-cell3 .before .before .before .before .before .before .before in
+    let at-is-group = at-if2 .before in
+    let at-cell2 = at-is-group .before in
+    let at-close-to2 = at-cell2 .before .before .before .before in
+    let at-cell = at-close-to2 .before .before .before in
+    let at-if1 = at-cell .before .before in
+    let at-wide = at-if1 .before in
+    let at-loop = at-wide .before .before in
+    let start = at-loop .before .before .before .before .before .before .before .before .before in
+    let less =
+    held-less _ _ _ _ (start .pre) _ _ _ _ _ _ (at-loop .loop .inv) _ (at-wide .wide .ensures) (at-if1 .if1 .left) _ (at-cell .cell .ensures) _ _
+    (at-close-to2 .close-to2 .ensures) _ (at-cell2 .cell2 .ensures) _ (at-is-group .is-group .ensures) (at-if2 .if2 .left) _ (at-cell3 .cell3 .ensures) _
+    (c .before .cell4 .ensures) _ (c .value-end .ensures) in
+    omega (arith, held-in _ _ _ _ (start .pre) _ _ _ _ _ _ (at-loop .loop .inv), less)
 
 loop-again-2 : tie.Need-loop-again-2 Inv-loop μ-loop
 loop-again-2 c =
-    held-leaf _ _ _ _ (c .before .before .before .before .before .before .before .before .before .before .before .before .before .before .before .before .before .before .before .before .before .before .before .before .before .before .before .before .before .before .before .before .before .pre) _ _ _ _ _ _ (c .before .before .before .before .before .before .before .before .before .before .before .before .before .before .before .before .before .before .before .before .before .before .before .before .loop .inv) _ (c .before .before .before .before .before .before .before .before .before .before .before .before .before .before .before .before .before .before .before .before .before .before .wide .ensures) (c .before .before .before .before .before .before .before .before .before .before .before .before .before .before .before .before .before .before .before .before .before .if1 .left) _ (c .before .before .before .before .before .before .before .before .before .before .before .before .before .before .before .before .before .before .before .cell .ensures) _ _ (c .before .before .before .before .before .before .before .before .before .before .before .before .before .before .before .before .close-to2 .ensures) _ (c .before .before .before .before .before .before .before .before .before .before .before .before .cell2 .ensures) _ (c .before .before .before .before .before .before .before .before .before .before .before .is-group .ensures) (c .before .before .before .before .before .before .before .before .before .before .if2 .left) _ (c .before .before .before .cell3 .ensures) _ (c .before .cell4 .ensures) _ (c .value-end .ensures) _ _ (c .before .before .before .before .before .before .before .put-leaf .ensures)
+    let at-cell3 = c .before .before .before in
+    let at-put-leaf = at-cell3 .before .before .before .before in
+    let at-if2 = at-put-leaf .before .before .before in
+    let at-is-group = at-if2 .before in
+    let at-cell2 = at-is-group .before in
+    let at-close-to2 = at-cell2 .before .before .before .before in
+    let at-cell = at-close-to2 .before .before .before in
+    let at-if1 = at-cell .before .before in
+    let at-wide = at-if1 .before in
+    let at-loop = at-wide .before .before in
+    let start = at-loop .before .before .before .before .before .before .before .before .before in
+    held-leaf _ _ _ _ (start .pre) _ _ _ _ _ _ (at-loop .loop .inv) _ (at-wide .wide .ensures) (at-if1 .if1 .left) _ (at-cell .cell .ensures) _ _
+    (at-close-to2 .close-to2 .ensures) _ (at-cell2 .cell2 .ensures) _ (at-is-group .is-group .ensures) (at-if2 .if2 .left) _
+    (at-cell3 .cell3 .ensures) _ (c .before .cell4 .ensures) _ (c .value-end .ensures) _ _ (at-put-leaf .put-leaf .ensures)
 
 pub emit-spec : {M : Type 1} → statement M
 emit-spec =

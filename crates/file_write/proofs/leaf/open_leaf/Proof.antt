@@ -27,7 +27,9 @@ put-start-requires c κs = search needs
 
 put-coin-requires : tie.Need-put-coin-requires
 put-coin-requires c κs =
-    (c .before .before .before .before .before .before .before .before .before .before .before .pre .1, c .before .before .before .before .before .before .before .before .before .before .before .pre .2, omega (arith, start-end _ _ _ _ _ _ _ (c .before .before .before .put-start .ensures), c .before .before .before .before .before .before .before .before .before .before .before .pre .0, c .before .before .before .before .before .before .before .before .before .before .before .pre .3))
+    let at-put-start = c .before .before .before in
+    let start = at-put-start .before .before .before .before .before .before .before .before in
+    (start .pre .1, start .pre .2, omega (arith, start-end _ _ _ _ _ _ _ (at-put-start .put-start .ensures), start .pre .0, start .pre .3))
 
 slice-aggregate-copy : tie.Need-slice-aggregate-copy
 slice-aggregate-copy c = search needs
@@ -37,14 +39,25 @@ copy-requires c κs = search needs
 
 add-result : tie.Need-add-result
 add-result c =
-    omega (arith, start-end _ _ _ _ _ _ _ (c .before .before .before .before .before .before .before .before .before .before .before .put-start .ensures), coin-end (c .before .before .before .before .before .before .before .before .before .before .before .before .before .before .before .before .before .before .before .args .run .now) _ (c .before .before .before .before .before .before .before .before .before .before .before .before .before .before .before .before .before .before .before .args .i) _ _ _ (c .before .before .before .before .before .before .before .put-coin .ensures), c .before .before .before .before .before .before .before .before .before .before .before .before .before .before .before .before .before .before .before .pre .0, c .before .before .before .before .before .before .before .before .before .before .before .before .before .before .before .before .before .before .before .pre .3)
+    let at-put-coin = c .before .before .before .before .before .before .before in
+    let at-put-start = at-put-coin .before .before .before .before in
+    let start = at-put-start .before .before .before .before .before .before .before .before in
+    omega
+    (arith, start-end _ _ _ _ _ _ _ (at-put-start .put-start .ensures), coin-end (start .args .run .now) _ (start .args .i) _ _ _ (at-put-coin .put-coin .ensures), start .pre .0, start .pre .3)
 
 same-length-2 : tie.Need-same-length-2
 same-length-2 c = search needs
 
 returns-2 : tie.Need-returns-2
 returns-2 c =
-    open-amount _ _ (c .before .before .before .before .before .before .before .before .before .before .before .before .before .before .before .before .before .before .before .args .run .now) _ (c .before .before .before .before .before .before .before .before .before .before .before .before .before .before .before .before .before .before .before .args .i) _ (c .before .before .before .before .before .before .before .before .before .before .before .before .before .before .cell .ensures) (c .before .before .before .before .before .before .before .before .before .before .before .before .before .if1 .left) _ _ _ _ (puts-then _ _ _ _ _ _ _ _ (c .before .before .before .before .before .before .before .before .before .before .before .put-start .ensures) (before-word _ _ _ _ _ (ascii ">") 1 _ (c .before .before .before .before .before .before .before .put-coin .ensures) refl (c .before .before .copy .ensures)))
+    let at-copy = c .before .before in
+    let at-put-coin = at-copy .before .before .before .before .before in
+    let at-put-start = at-put-coin .before .before .before .before in
+    let at-if1 = at-put-start .before .before in
+    let at-cell = at-if1 .before in
+    let start = at-cell .before .before .before .before .before in
+    open-amount _ _ (start .args .run .now) _ (start .args .i) _ (at-cell .cell .ensures) (at-if1 .if1 .left) _ _ _ _
+    (puts-then _ _ _ _ _ _ _ _ (at-put-start .put-start .ensures) (before-word _ _ _ _ _ (ascii ">") 1 _ (at-put-coin .put-coin .ensures) refl (at-copy .copy .ensures)))
 
 pub open-leaf-spec : {M : Type 1} → statement M
 open-leaf-spec =

@@ -14,18 +14,32 @@ put-requires c κs = search needs
 
 add-text : tie.Need-add-text
 add-text c =
-    omega (arith, leaf-text-end _ _ (c .before .before .before .before .before .before .before .before .before .before .before .before .args .run .now) _ (c .before .before .before .before .before .before .before .before .before .before .before .before .args .i) (c .before .before .before .before .before .before .before .before .before .before .before .before .pre .0) _ _ _ _ (c .before .before .before .before .before .before .open-leaf .ensures) _ (c .before .before .put .ensures .1 .0), c .before .before .before .before .before .before .before .before .before .before .before .before .pre .3)
+    let at-put = c .before .before in
+    let at-open-leaf = at-put .before .before .before .before in
+    let start = at-open-leaf .before .before .before .before .before .before in
+    omega
+    (arith, leaf-text-end _ _ (start .args .run .now) _ (start .args .i) (start .pre .0) _ _ _ _ (at-open-leaf .open-leaf .ensures) _ (at-put .put .ensures .1 .0), start .pre .3)
 
 put-close-requires : tie.Need-put-close-requires
 put-close-requires c κs =
-    (c .before .before .before .before .before .before .before .before .before .before .before .before .before .pre .0, omega (arith, leaf-text-end _ _ (c .before .before .before .before .before .before .before .before .before .before .before .before .before .args .run .now) _ (c .before .before .before .before .before .before .before .before .before .before .before .before .before .args .i) (c .before .before .before .before .before .before .before .before .before .before .before .before .before .pre .0) _ _ _ _ (c .before .before .before .before .before .before .before .open-leaf .ensures) _ (c .before .before .before .put .ensures .1 .0), c .before .before .before .before .before .before .before .before .before .before .before .before .before .pre .3))
+    let at-put = c .before .before .before in
+    let at-open-leaf = at-put .before .before .before .before in
+    let start = at-open-leaf .before .before .before .before .before .before in
+    (start .pre .0, omega (arith, leaf-text-end _ _ (start .args .run .now) _ (start .args .i) (start .pre .0) _ _ _ _ (at-open-leaf .open-leaf .ensures) _ (at-put .put .ensures .1 .0), start .pre .3))
 
 same-length : tie.Need-same-length
 same-length c = search needs
 
 returns : tie.Need-returns
 returns c =
-    record { most = leaf-end _ _ (c .before .before .before .before .before .before .before .before .before .before .before .before .before .before .before .before .args .run .now) _ (c .before .before .before .before .before .before .before .before .before .before .before .before .before .before .before .before .args .i) (c .before .before .before .before .before .before .before .before .before .before .before .before .before .before .before .before .pre .0) _ _ _ _ (c .before .before .before .before .before .before .before .before .before .before .open-leaf .ensures) _ (c .before .before .before .before .before .before .put .ensures .1 .0) _ _ _ (c .before .before .put-close .ensures); value = leaf-puts _ _ (c .before .before .before .before .before .before .before .before .before .before .before .before .before .before .before .before .args .run .now) _ (c .before .before .before .before .before .before .before .before .before .before .before .before .before .before .before .before .args .i) (c .before .before .before .before .before .before .before .before .before .before .before .before .before .before .before .before .pre .0) _ _ _ _ (c .before .before .before .before .before .before .before .before .before .before .open-leaf .ensures) _ (c .before .before .before .before .before .before .put .ensures .1 .0) _ _ _ (c .before .before .put-close .ensures) (c .before .before .before .before .before .before .put .ensures) }
+    let at-put-close = c .before .before in
+    let at-put = at-put-close .before .before .before .before in
+    let at-open-leaf = at-put .before .before .before .before in
+    let start = at-open-leaf .before .before .before .before .before .before in
+    record {
+      most = leaf-end _ _ (start .args .run .now) _ (start .args .i) (start .pre .0) _ _ _ _ (at-open-leaf .open-leaf .ensures) _ (at-put .put .ensures .1 .0) _ _ _ (at-put-close .put-close .ensures);
+      value = leaf-puts _ _ (start .args .run .now) _ (start .args .i) (start .pre .0) _ _ _ _ (at-open-leaf .open-leaf .ensures) _ (at-put .put .ensures .1 .0) _ _ _ (at-put-close .put-close .ensures) (at-put .put .ensures);
+    }
 
 pub put-leaf-spec : {M : Type 1} → statement M
 put-leaf-spec =

@@ -28,7 +28,10 @@ copy-requires-2 c κs = search needs
 
 add-result : tie.Need-add-result
 add-result c =
-    omega (arith, part-end _ _ (cell (c .before .before .before .before .before .before .before .before .before .before .before .before .before .before .before .before .before .args .rows .now) (c .before .before .before .before .before .before .before .before .before .before .before .before .before .before .before .before .before .args .r) 4) (cell (c .before .before .before .before .before .before .before .before .before .before .before .before .before .before .before .before .before .args .rows .now) (c .before .before .before .before .before .before .before .before .before .before .before .before .before .before .before .before .before .args .r) 5) (c .before .before .before .before .before .before .before .before .before .before .before .before .before .before .before .before .before .args .pool .now) _ _ (c .before .before .before .before .before .before .before .put-name .ensures))
+    let at-put-name = c .before .before .before .before .before .before .before in
+    let start = at-put-name .before .before .before .before .before .before .before .before .before .before in
+    omega
+    (arith, part-end _ _ (cell (start .args .rows .now) (start .args .r) 4) (cell (start .args .rows .now) (start .args .r) 5) (start .args .pool .now) _ _ (at-put-name .put-name .ensures))
 
 same-length : tie.Need-same-length
 same-length c = search needs

@@ -31,7 +31,9 @@ copy-requires-2 c κs = search needs
 
 add-result : tie.Need-add-result
 add-result c =
-    omega (arith, part-end _ _ (c .before .before .before .before .before .before .before .before .before .before .before .before .before .before .before .before .args .i) (c .before .before .before .before .before .before .before .before .before .before .before .before .before .before .before .before .args .i + 3) (c .before .before .before .before .before .before .before .before .before .before .before .before .before .before .before .before .args .run .now) _ _ (c .before .before .before .before .before .before .before .put-part .ensures))
+    let at-put-part = c .before .before .before .before .before .before .before in
+    let start = at-put-part .before .before .before .before .before .before .before .before .before in
+    omega (arith, part-end _ _ (start .args .i) (start .args .i + 3) (start .args .run .now) _ _ (at-put-part .put-part .ensures))
 
 same-length : tie.Need-same-length
 same-length c = search needs

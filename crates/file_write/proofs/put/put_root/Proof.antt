@@ -39,15 +39,28 @@ copy-requires-2 c κs = search needs
 
 add-result : tie.Need-add-result
 add-result c =
-    omega (arith, start-end _ _ _ _ _ _ _ (c .before .before .before .before .before .before .before .before .before .before .before .before .before .before .before .before .before .before .put-start .ensures), part-end _ _ (c .before .before .before .before .before .before .before .before .before .before .cell .result) (c .before .before .before .before .before .before .before .before .before .cell2 .result) (c .before .before .before .before .before .before .before .before .before .before .before .before .before .before .before .before .before .before .before .before .before .before .before .args .pool .now) _ _ (c .before .before .before .before .before .before .before .put-part .ensures))
+    let at-put-part = c .before .before .before .before .before .before .before in
+    let at-cell2 = at-put-part .before .before in
+    let at-cell = at-cell2 .before in
+    let at-put-start = at-cell .before .before .before .before .before .before .before .before in
+    let start = at-put-start .before .before .before .before .before in
+    omega
+    (arith, start-end _ _ _ _ _ _ _ (at-put-start .put-start .ensures), part-end _ _ (at-cell .cell .result) (at-cell2 .cell2 .result) (start .args .pool .now) _ _ (at-put-part .put-part .ensures))
 
 same-length : tie.Need-same-length
 same-length c = search needs
 
 returns : tie.Need-returns
 returns c =
-    let p = rw (c .before .before .before .before .before .before .before .before .before .before .cell .ensures, c .before .before .before .before .before .before .before .before .before .cell2 .ensures) at (c .before .before .before .before .before .before .before .put-part .ensures) in
-    puts-then _ 0 _ _ _ _ _ _ (c .before .before .before .before .before .before .before .before .before .before .before .before .before .before .before .before .before .before .put-start .ensures) (behind-word _ _ (ascii " xmlns=\"") 8 _ _ _ _ refl (c .before .before .before .before .before .before .before .before .before .before .before .before .before .copy .ensures) (before-word _ _ _ _ _ (ascii "\">") 2 _ p refl (c .before .before .copy2 .ensures)))
+    let at-copy2 = c .before .before in
+    let at-put-part = at-copy2 .before .before .before .before .before in
+    let at-cell2 = at-put-part .before .before in
+    let at-cell = at-cell2 .before in
+    let at-copy = at-cell .before .before .before in
+    let at-put-start = at-copy .before .before .before .before .before in
+    let p = rw (at-cell .cell .ensures, at-cell2 .cell2 .ensures) at (at-put-part .put-part .ensures) in
+    puts-then _ 0 _ _ _ _ _ _ (at-put-start .put-start .ensures)
+    (behind-word _ _ (ascii " xmlns=\"") 8 _ _ _ _ refl (at-copy .copy .ensures) (before-word _ _ _ _ _ (ascii "\">") 2 _ p refl (at-copy2 .copy2 .ensures)))
 
 pub put-root-spec : {M : Type 1} → statement M
 put-root-spec =
