@@ -1,10 +1,14 @@
--- What the programs need of writing's answers: the file fits, and does not depend on what stood in the buffer. Assumes nothing.
+-- What the programs need of writing's answers: the file fits, in a buffer of the limit's length always, and does not depend on what stood there. Assumes nothing.
 use mathlib.Core.Path.{_≡_, refl, sym, _∙_, ap}
+use mathlib.Core.Logic.{_≢_}
 use mathlib.Core.List.{List, _++_}
 use Prim.Native.Nat.{ℕ, _≤_}
 use native.Mathlib.Omega.{arith}
 use lib.ListN.{length, take, drop}
 use Rattle.answer.specs.declared.Answer.{Answer}
+use Rattle.answer.specs.Table.{limit}
+use Rattle.image.specs.Place.{over, foreign, version, broken, whole as read}
+use Rattle.image_reading.specs.Reads.{HouseReads}
 use Rattle.file_letter.specs.Writes.{letterIn, Delivers, large, short, delivered, Writes, unread, begun}
 use Rattle.file_letter.proofs.Writing.{writes-one, written-file}
 
@@ -16,6 +20,24 @@ delivers-fits s d a d′ (delivered h k e f) z = omega (arith, ap (λ (x : Answe
 pub written-fits : (run d : List ℕ) (a : Answer) (d′ : List ℕ) → Writes run d a d′ → a .code ≡ 0 → a .place ≤ length d
 written-fits run d a d′ (unread r k e) z = absurd (k z)
 written-fits run d a d′ (begun h n w p) z = delivers-fits (letterIn w) d a d′ p z
+
+-- ---- with room for every file that may be written 14 is not answered
+
+read-code : (run : List ℕ) (a : Answer) → HouseReads run a → a .code ≢ 14
+read-code run a (over h e) z = omega (arith, ap (λ (x : Answer). x .code) e, z)
+read-code run a (foreign h k e) z = omega (arith, ap (λ (x : Answer). x .code) e, z)
+read-code run a (version h i k m e) z = omega (arith, ap (λ (x : Answer). x .code) e, z)
+read-code run a (broken h l m t f s g n b e) z = omega (arith, ap (λ (x : Answer). x .code) e, z)
+read-code run a (read h n w e) z = omega (arith, ap (λ (x : Answer). x .code) e, z)
+
+delivers-code : (s d : List ℕ) (a : Answer) (d′ : List ℕ) → limit ≤ length d → Delivers s d a d′ → a .code ≢ 14
+delivers-code s d a d′ r (large h e f) z = omega (arith, ap (λ (x : Answer). x .code) e, z)
+delivers-code s d a d′ r (short h k e f) z = omega (arith, h, k, r)
+delivers-code s d a d′ r (delivered h k e f) z = omega (arith, ap (λ (x : Answer). x .code) e, z)
+
+pub limit-enough : (run d : List ℕ) (a : Answer) (d′ : List ℕ) → limit ≤ length d → Writes run d a d′ → a .code ≢ 14
+limit-enough run d a d′ r (unread q k e) = read-code run a q
+limit-enough run d a d′ r (begun h n w p) = delivers-code (letterIn w) d a d′ r p
 
 -- ---- another buffer of the same length: the same answer and the same file
 
