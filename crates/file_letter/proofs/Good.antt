@@ -23,7 +23,8 @@ use Rattle.value.specs.Value.{Value, IsValue, Spelt}
 use Rattle.value.proofs.Classes.{each-all}
 use Rattle.xml.specs.House.{IsName, double, GoodValue, GoodAttr, GoodTag, Content as Tags, end as over, piece, empty, full, render, isChar, begins, behind, cut, Good as Fine, GoodTree}
 use Rattle.value_to_text.specs.Script.{scriptOf, currencyOf}
-use Rattle.file_letter.specs.Letter.{pieceOf, textIn, plainly, attrOf, tagOf, coinOf, wordsIn, treeIn, rootIn, treeOf}
+use Rattle.value_to_text.specs.Raw.{pieceOf, rawOf}
+use Rattle.file_letter.specs.Letter.{textIn, plainly, attrOf, tagOf, coinOf, wordsIn, treeIn, rootIn, treeOf}
 use Rattle.value_to_text.proofs.Scripts.{script-spelt}
 use Rattle.file_letter.proofs.Chars.{script-inked, script-chars}
 use Rattle.file_letter.proofs.Has.{one-piece, rooted}
@@ -80,6 +81,11 @@ rendered : (cs : List ℕ) → render (textIn cs) ≡ spells (piecesOf cs)
 unfolding piecesOf
 rendered [] = refl
 rendered (c ∷ cs) = ap (λ (u : List ℕ). spell (pieceOf c) ++ u) (rendered cs)
+
+-- which are the bytes that are written for them
+pub text-raw : (cs : List ℕ) → render (textIn cs) ≡ rawOf cs
+text-raw [] = refl
+text-raw (c ∷ cs) = ap (λ (u : List ℕ). spell (pieceOf c) ++ u) (text-raw cs)
 
 resolves : (cs : List ℕ) → cs ≡ resolvedAll (piecesOf cs)
 unfolding piecesOf

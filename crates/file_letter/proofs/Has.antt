@@ -19,7 +19,8 @@ use Rattle.file_walk.specs.First.{textOf, currency}
 use Rattle.file_walk.specs.Denotes.{plain, LeafAttrs, Spells, Denotes, Has}
 use Rattle.file.specs.Instance.{houseTypes}
 use Rattle.value_to_text.specs.Script.{scriptOf, currencyOf}
-use Rattle.file_letter.specs.Letter.{pieceOf, textIn, plainly, attrOf, coinOf, wordsIn, treeIn, treeOf}
+use Rattle.value_to_text.specs.Raw.{pieceOf}
+use Rattle.file_letter.specs.Letter.{textIn, plainly, attrOf, coinOf, wordsIn, treeIn, treeOf}
 use Rattle.value_to_text.proofs.Scripts.{script-spelt}
 
 -- ---- texts

@@ -29,33 +29,42 @@ module _ (l : Listing) (wf : WellFormed l) where
       go false = sym (rw (eq-eqb g 0 e))
   enough (suc k) g p e = ap (λ (u : List ℕ). cond (eqb g p) [] (cond (eqb g 0) [] (shuts l g ++ u))) (enough k (rowAt l g .parent) p e)
 
-  same-group : (g : ℕ) → closes l 17 g g ≡ []
+  -- at that group nothing is closed, nor above the root
+  pub same-group : (g : ℕ) → closes l 17 g g ≡ []
   unfolding closes
   same-group g = rw (eq-eqb g g refl)
 
-  -- one closing tag, where the group is not that one
-  one-up : (g p q : ℕ) → g ≢ q → g ≢ 0 → rowAt l g .parent ≡ p → up l 16 p ≡ 0 → closes l 17 g q ≡ shuts l g ++ closes l 17 p q
+  pub no-group : (q : ℕ) → closes l 17 0 q ≡ []
   unfolding closes
-  one-up g p q n z e u = rw (ne-eqb g q n, ne-eqb g 0 z) (ap (λ (x : ℕ). shuts l g ++ closes l 16 x q) e ∙ ap (λ (x : List ℕ). shuts l g ++ x) (enough 16 p q u))
+  no-group q = go (eqb 0 q)
+    where
+      go : (b : Bool) → _≡_ {A = List ℕ} (cond b [] []) []
+      go true = refl
+      go false = refl
+
+  -- one closing tag, where the group is not that one
+  one-step : (g p q : ℕ) → g ≢ q → g ≢ 0 → rowAt l g .parent ≡ p → up l 16 p ≡ 0 → closes l 17 g q ≡ shuts l g ++ closes l 17 p q
+  unfolding closes
+  one-step g p q n z e u = rw (ne-eqb g q n, ne-eqb g 0 z) (ap (λ (x : ℕ). shuts l g ++ closes l 16 x q) e ∙ ap (λ (x : List ℕ). shuts l g ++ x) (enough 16 p q u))
 
   -- what follows begins with no child of p
   abbrev Stop : ℕ → List (ℕ × Option Value) → Type 0
   Stop p [] = Unit {0}
   Stop p (i ∷ is) = rowAt l (i .0) .parent < p
 
-  low : (p : ℕ) → p ≤ size l → up l 16 p ≡ 0
-  low p h = wf .levels p h
+  pub one-up : (g p q : ℕ) → g ≢ q → g ≢ 0 → rowAt l g .parent ≡ p → p ≤ size l → closes l 17 g q ≡ shuts l g ++ closes l 17 p q
+  one-up g p q n z e h = one-step g p q n z e (wf .levels p h)
 
   -- out of a group
   out : (r p : ℕ) (u : List (ℕ × Option Value)) → Child l p r → p ≤ size l → Stop r u → tell l r u ≡ shuts l r ++ tell l p u
   unfolding tell
-  out r p [] c h s = one-up r p 0 (λ e. absurd (omega (arith, c .first, e))) (λ e. absurd (omega (arith, c .first, e))) (c .parent) (low p h)
+  out r p [] c h s = one-up r p 0 (λ e. absurd (omega (arith, c .first, e))) (λ e. absurd (omega (arith, c .first, e))) (c .parent) h
   out r p ((x, none) ∷ u) c h s =
-      ap (λ (z : List ℕ). z ++ (opens l x [] ++ tell l x u)) (one-up r p (rowAt l x .parent) (λ e. absurd (omega (arith, s, e))) (λ e. absurd (omega (arith, c .first, e))) (c .parent) (low p h))
+      ap (λ (z : List ℕ). z ++ (opens l x [] ++ tell l x u)) (one-up r p (rowAt l x .parent) (λ e. absurd (omega (arith, s, e))) (λ e. absurd (omega (arith, c .first, e))) (c .parent) h)
       ∙ append-assoc (shuts l r) (closes l 17 p (rowAt l x .parent)) (opens l x [] ++ tell l x u)
   out r p ((x, some v) ∷ u) c h s =
       let w = opens l x (coinOf v) ++ (render (textIn (wordsIn (rowAt l x .kind) v)) ++ (shuts l x ++ tell l (rowAt l x .parent) u)) in
-      ap (λ (z : List ℕ). z ++ w) (one-up r p (rowAt l x .parent) (λ e. absurd (omega (arith, s, e))) (λ e. absurd (omega (arith, c .first, e))) (c .parent) (low p h))
+      ap (λ (z : List ℕ). z ++ w) (one-up r p (rowAt l x .parent) (λ e. absurd (omega (arith, s, e))) (λ e. absurd (omega (arith, c .first, e))) (c .parent) h)
       ∙ append-assoc (shuts l r) (closes l 17 p (rowAt l x .parent)) w
 
   stop-on : (p r : ℕ) (k : Content Value) (u : List (ℕ × Option Value)) → p < r → Each (Child l p) (rows k) → Stop p u → Stop r (items k ++ u)
@@ -101,7 +110,7 @@ module _ (l : Listing) (wf : WellFormed l) where
       let g : Good IsValue l (node 1 kids end) = subst (Good IsValue l) e (m .good) in
       let t = tag (tagOf (rowAt l 1 .name) (attrOf (ascii "xmlns") (l .space) ∷ [])) in
       let f : tell l 1 (items kids ++ []) ≡ render (treeIn l kids) ++ tell l 1 [] = told kids 1 [] (omega arith) (wf .root .0) (g .0 .1 .theirs) (g .1) tt in
-      let z : tell l 1 [] ≡ shuts l 1 ++ closes l 17 0 0 = one-up 1 0 0 (omega arith) (omega arith) (wf .root .2) (low 0 (omega arith)) in
+      let z : tell l 1 [] ≡ shuts l 1 ++ closes l 17 0 0 = one-up 1 0 0 (omega arith) (omega arith) (wf .root .2) (omega arith) in
       let n : closes l 17 0 0 ≡ [] = same-group 0 in
       ap (letterOf l) e
       ∙ sym (element (rowAt l 1 .name) t (render (treeIn l kids)) [] [])

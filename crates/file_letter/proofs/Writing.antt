@@ -11,9 +11,7 @@ use Rattle.answer.specs.declared.Answer.{Answer}
 use Rattle.answer.specs.Table.{limit, accepted, noRoom, tooLarge}
 use Rattle.list.specs.Listing.{Listing}
 use Rattle.list.specs.Content.{Content}
-use Rattle.text_characters.specs.Utf8.{Utf8}
 use Rattle.value.specs.Value.{Value}
-use Rattle.xml.specs.House.{HouseXml}
 use Rattle.image.specs.Kinds.{values}
 use Rattle.image.specs.Place.{whole as read}
 use Rattle.image.proofs.Answers.{accepting}
@@ -21,7 +19,7 @@ use Rattle.image_reading.specs.Reads.{stored, HouseAccepts, HouseReads}
 use Rattle.image_reading.proofs.House.{only, house-accepts-one, house-reads-one, house-reads-some}
 use Rattle.file.specs.Checks.{Checks}
 use Rattle.file_letter.specs.Letter.{letterOf}
-use Rattle.file_letter.specs.Writes.{letterIn, Delivers, large, short, whole, Writes, unread, begun}
+use Rattle.file_letter.specs.Writes.{letterIn, Delivers, large, short, delivered, Writes, unread, begun}
 use Rattle.file_letter.proofs.Files.{same-image}
 
 code-of : (a b : Answer) → a ≡ b → a .code ≡ b .code
@@ -33,33 +31,33 @@ module _ (s d : List ℕ) where
   delivers-one : (a b : Answer) (x z : List ℕ) → Delivers s d a x → Delivers s d b z → (a ≡ b) × (x ≡ z)
   delivers-one a b x z (large h e f) (large i g k) = (e ∙ sym g, f ∙ sym k)
   delivers-one a b x z (large h e f) (short i j g k) = absurd (omega arith)
-  delivers-one a b x z (large h e f) (whole i j g k) = absurd (omega arith)
+  delivers-one a b x z (large h e f) (delivered i j g k) = absurd (omega arith)
   delivers-one a b x z (short h j e f) (large i g k) = absurd (omega arith)
   delivers-one a b x z (short h j e f) (short i m g k) = (e ∙ sym g, f ∙ sym k)
-  delivers-one a b x z (short h j e f) (whole i m g k) = absurd (omega arith)
-  delivers-one a b x z (whole h j e f) (large i g k) = absurd (omega arith)
-  delivers-one a b x z (whole h j e f) (short i m g k) = absurd (omega arith)
-  delivers-one a b x z (whole h j e f) (whole i m g k) = (e ∙ sym g, f ∙ sym k)
+  delivers-one a b x z (short h j e f) (delivered i m g k) = absurd (omega arith)
+  delivers-one a b x z (delivered h j e f) (large i g k) = absurd (omega arith)
+  delivers-one a b x z (delivered h j e f) (short i m g k) = absurd (omega arith)
+  delivers-one a b x z (delivered h j e f) (delivered i m g k) = (e ∙ sym g, f ∙ sym k)
 
   delivers-some : (a : Answer) × (d′ : List ℕ) × Delivers s d a d′
   delivers-some = elim (decLt limit (length s)) [
     | yes h ↦ (tooLarge (length s), d, large h refl refl)
     | no h ↦ elim (decLt (length d) (length s)) [
       | yes g ↦ (noRoom (length s), d, short (omega arith) g refl refl)
-      | no g ↦ (accepted (length s), s ++ drop (length s) d, whole (omega arith) (omega arith) refl refl)
+      | no g ↦ (accepted (length s), s ++ drop (length s) d, delivered (omega arith) (omega arith) refl refl)
     ]
   ]
 
   delivers-leaves : (a : Answer) (d′ : List ℕ) → Delivers s d a d′ → a .code ≢ 0 → d′ ≡ d
   delivers-leaves a d′ (large h e f) n = f
   delivers-leaves a d′ (short h j e f) n = f
-  delivers-leaves a d′ (whole h j e f) n = absurd (n (code-of a (accepted (length s)) e))
+  delivers-leaves a d′ (delivered h j e f) n = absurd (n (code-of a (accepted (length s)) e))
 
   -- what stands in the buffer where the code is 0
   delivers-file : (a : Answer) (d′ : List ℕ) → Delivers s d a d′ → a .code ≡ 0 → (length s ≤ limit) × (a .place ≡ length s) × (take (a .place) d′ ≡ s)
   delivers-file a d′ (large h e f) z = absurd (omega (arith, code-of a (tooLarge (length s)) e))
   delivers-file a d′ (short h j e f) z = absurd (omega (arith, code-of a (noRoom (length s)) e))
-  delivers-file a d′ (whole h j e f) z =
+  delivers-file a d′ (delivered h j e f) z =
       let p : a .place ≡ length s = ap (λ (x : Answer). x .place) e in
       (h, p, ap₂ take p f ∙ take-append-seam s (drop (length s) d))
 
@@ -108,8 +106,8 @@ module _ (run : List ℕ) where
         delivers-file (letterIn w) d a d′ (subst (λ (s : List ℕ). Delivers s d a d′) (same-letter m n v w) p) z
 
   -- "The written file is accepted and gives the same image": by check with every buffer that has room for it
-  pub write-back : (utf8 : (s : List ℕ) → HouseXml s → Utf8 s) → (d : List ℕ) (a : Answer) (d′ : List ℕ) → Writes run d a d′ → a .code ≡ 0 → (n : ℕ) → HouseAccepts run n
+  pub write-back : (d : List ℕ) (a : Answer) (d′ : List ℕ) → Writes run d a d′ → a .code ≡ 0 → (n : ℕ) → HouseAccepts run n
       → (e : List ℕ) (b : Answer) (e′ : List ℕ) → Checks (take (a .place) d′) e b e′ → n ≤ length e → (b ≡ accepted n) × (e′ ≡ take n run ++ drop n e)
-  write-back utf8 d a d′ p z n w e b e′ q r =
+  write-back d a d′ p z n w e b e′ q r =
       let f = written-file d a d′ p z n w in
-      same-image utf8 run n w (f .0) e b e′ (subst (λ (s : List ℕ). Checks s e b e′) (f .2) q) r
+      same-image run n w (f .0) e b e′ (subst (λ (s : List ℕ). Checks s e b e′) (f .2) q) r

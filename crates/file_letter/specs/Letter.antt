@@ -1,20 +1,17 @@
 -- The tree that is written for a content: "no declaration, no blanks that could be left out, double quotes". Assumes nothing.
-use mathlib.Core.Bool.{false, cond}
+use mathlib.Core.Bool.{false}
 use mathlib.Core.List.{List, [], _∷_}
 use Prim.Native.Nat.{ℕ}
-use lib.Dec.{eqb}
 use Rattle.text.specs.Bytes.{ascii}
-use Rattle.text_characters.specs.Pieces.{Piece, char, entity, amp, lt, gt}
+use Rattle.text_characters.specs.Pieces.{Piece, char}
 use Rattle.list.specs.Listing.{Kind, group, choice, leaf, Listing, rowAt}
 use Rattle.list.specs.Content.{Content, end, value, node}
 use Rattle.value.specs.Value.{Value, text, place, truth, natural, amount, day, moment}
 use Rattle.xml.specs.House.{double, Attr, Tag, Content as Tags, end as over, piece, full, Tree, whole}
 use Rattle.value_to_text.specs.Script.{scriptOf}
+use Rattle.value_to_text.specs.Raw.{pieceOf}
 
--- "`&` and `<` and `>` as entities in text"
-abbrev pub pieceOf : ℕ → Piece
-pieceOf c = cond (eqb c 38) (entity amp) (cond (eqb c 60) (entity lt) (cond (eqb c 62) (entity gt) (char c)))
-
+-- the characters of a text, "`&` and `<` and `>` as entities"
 abbrev pub textIn : List ℕ → Tags
 textIn [] = over
 textIn (c ∷ cs) = piece (pieceOf c) (textIn cs)

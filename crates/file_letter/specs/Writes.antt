@@ -20,7 +20,7 @@ pub data Delivers (s d : List ℕ) (a : Answer) (d′ : List ℕ) : Type 0 where
   -- "then 14 where the buffer is too short"
   short : length s ≤ limit → length d < length s → a ≡ noRoom (length s) → d′ ≡ d → Delivers s d a d′
   -- "Success is code 0, row 0, the file's length; bytes beyond it stay"
-  whole : length s ≤ limit → length s ≤ length d → a ≡ accepted (length s) → d′ ≡ s ++ drop (length s) d → Delivers s d a d′
+  delivered : length s ≤ limit → length s ≤ length d → a ≡ accepted (length s) → d′ ≡ s ++ drop (length s) d → Delivers s d a d′
 
 -- a run: the buffer d before, the answer a and the buffer d′ after
 pub data Writes (run d : List ℕ) (a : Answer) (d′ : List ℕ) : Type 0 where
