@@ -125,9 +125,12 @@ pub picked-rest : (run rest : RefT (List ℕ)) (at r n : ℕ) (s : RefT (List �
 picked-rest run rest at r n s e l p = record {
   hands = rw (sym e) (p .hands);
   lies = λ a h z. elim (decLt (length (now run)) at) [
-    | yes k ↦ absurd (picks-nothing r n a (subst (λ (y : List ℕ). HouseAnswers y r n a) (drop-of-length-le (now run) (omega arith)) h) z)
+    | yes k ↦
+        let past : length (now run) ≤ at = omega (arith, k) in
+        absurd (picks-nothing r n a (subst (λ (y : List ℕ). HouseAnswers y r n a) (drop-of-length-le (now run) past) h) z)
     | no k ↦
-        let m = l (omega arith) in
+        let within : at ≤ length (now run) = omega (arith, k) in
+        let m = l within in
         let q = p .lies a (subst (λ (y : List ℕ). HouseAnswers y r n a) (sym e) h) z in
         (q .0 ∙ m .0, omega (arith, q .1, m .1))
   ];

@@ -158,7 +158,7 @@ loop-less-2 c =
     let less =
     held-less _ _ _ _ (start .pre) _ _ _ _ _ _ (at-loop .loop .inv) _ (at-wide .wide .ensures) (at-if1 .if1 .left) _ (at-cell .cell .ensures) _ _
     (at-close-to2 .close-to2 .ensures) _ (at-cell2 .cell2 .ensures) _ (at-is-group .is-group .ensures) (at-if2 .if2 .left) _ (at-cell3 .cell3 .ensures) _
-    (c .before .cell4 .ensures) _ (c .value-end .ensures) in
+    (c .before .cell4 .ensures) _ (c .value-end .ensures .0) in
     omega (arith, held-in _ _ _ _ (start .pre) _ _ _ _ _ _ (at-loop .loop .inv), less)
 
 loop-again-2 : tie.Need-loop-again-2 Inv-loop μ-loop
@@ -176,7 +176,7 @@ loop-again-2 c =
     let start = at-loop .before .before .before .before .before .before .before .before .before in
     held-leaf _ _ _ _ (start .pre) _ _ _ _ _ _ (at-loop .loop .inv) _ (at-wide .wide .ensures) (at-if1 .if1 .left) _ (at-cell .cell .ensures) _ _
     (at-close-to2 .close-to2 .ensures) _ (at-cell2 .cell2 .ensures) _ (at-is-group .is-group .ensures) (at-if2 .if2 .left) _
-    (at-cell3 .cell3 .ensures) _ (c .before .cell4 .ensures) _ (c .value-end .ensures) _ _ (at-put-leaf .put-leaf .ensures)
+    (at-cell3 .cell3 .ensures) _ (c .before .cell4 .ensures) _ (c .value-end .ensures .0) _ _ (at-put-leaf .put-leaf .ensures)
 
 pub emit-spec : {M : Type 1} → statement M
 emit-spec =

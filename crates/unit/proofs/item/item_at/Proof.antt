@@ -87,7 +87,7 @@ returns-4 c =
     let at-if1 = at-wide .before .before in
     let at-start = at-if1 .before .before in
     house-unfit _ _ _ (at-wide .wide .result) (at-rows .rows .ensures) (omega (arith, at-if1 .if1 .left)) (at-wide .wide .ensures) (at-if2 .if2 .left)
-    (omega (arith, at-if3 .if3 .left, at-cell .cell .ensures)) _ (at-item-end .item-end .ensures) _ _ (at-if4 .if4 .taken) (at-broken3 .broken3 .ensures)
+    (omega (arith, at-if3 .if3 .left, at-cell .cell .ensures)) _ (at-item-end .item-end .ensures .0) _ _ (at-if4 .if4 .taken) (at-broken3 .broken3 .ensures)
 
 told-requires-2 : tie.Need-told-requires-2
 told-requires-2 c κs = search needs
@@ -106,7 +106,7 @@ returns-5 c =
     let at-if1 = at-wide .before .before in
     let at-start = at-if1 .before .before in
     house-simple _ _ _ (at-wide .wide .result) (at-rows .rows .ensures) (omega (arith, at-if1 .if1 .left)) (at-wide .wide .ensures) (at-if2 .if2 .left)
-    (omega (arith, at-if3 .if3 .left, at-cell .cell .ensures)) _ (at-item-end .item-end .ensures) _ _
+    (omega (arith, at-if3 .if3 .left, at-cell .cell .ensures)) _ (at-item-end .item-end .ensures .0) _ _
     (at-if4 .if4 .left) (at-if5 .if5 .taken) (at-told2 .told2 .ensures)
 
 slice-aggregate-head : tie.Need-slice-aggregate-head
@@ -148,7 +148,7 @@ sub-told c =
     let at-start = at-if1 .before .before in
     let fit = house-fits (at-rows .rows .result) (at-start .args .run .now) (at-start .args .from) (at-wide .wide .result) (at-rows .rows .ensures)
     (omega (arith, at-if1 .if1 .left)) (at-wide .wide .ensures) (at-if2 .if2 .left)
-    (omega (arith, at-if3 .if3 .left, at-cell .cell .ensures)) (at-item-end .item-end .result) (at-item-end .item-end .ensures)
+    (omega (arith, at-if3 .if3 .left, at-cell .cell .ensures)) (at-item-end .item-end .result) (at-item-end .item-end .ensures .0)
     (at-if4 .if4 .left) (at-if5 .if5 .left) in
     omega (arith, at-head .head .ensures, fit)
 
@@ -167,7 +167,7 @@ returns-6 c =
     let at-if1 = at-wide .before .before in
     let at-start = at-if1 .before .before in
     house-valued _ _ _ (at-wide .wide .result) (at-rows .rows .ensures) (omega (arith, at-if1 .if1 .left)) (at-wide .wide .ensures) (at-if2 .if2 .left)
-    (omega (arith, at-if3 .if3 .left, at-cell .cell .ensures)) _ (at-item-end .item-end .ensures)
+    (omega (arith, at-if3 .if3 .left, at-cell .cell .ensures)) _ (at-item-end .item-end .ensures .0)
     (at-if4 .if4 .left) (at-if5 .if5 .left) _ _ _ (at-head .head .ensures) (at-told3 .told3 .ensures)
 
 pub item-at-spec : {M : Type 1} → statement M
