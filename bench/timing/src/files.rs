@@ -91,7 +91,7 @@ fn statement(style: Style, entries: usize, extra: usize) -> String {
         page.group("BkToCstmrStmt", |page| {
             page.group("GrpHdr", |page| {
                 page.leaf("MsgId", "KA-20240329-00471");
-                page.leaf("CreDtTm", "2024-03-29T21:14:05.120+01:00");
+                page.leaf("CreDtTm", "2024-03-29T21:14:05.125+01:00");
             });
             page.group("Stmt", |page| {
                 page.leaf("Id", "2024/003/L12");

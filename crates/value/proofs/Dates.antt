@@ -8,7 +8,7 @@ use native.Mathlib.Omega.{arith}
 use lib.Dec.{leb, eqb}
 use Rattle.text.specs.Lists.{Each}
 use Rattle.value.specs.Day.{Real, pair, dayText, monthDays, leap}
-use Rattle.value.specs.Moment.{Rule, former, present, clockText, Fraction, absent, digits, figures, fractionText, FractionOk, micros, Zone, zulu, ahead, behind, zoneText, Offset, ZoneOk, offset, Parts, MomentText, plain, midnight}
+use Rattle.value.specs.Moment.{DateRule, former, present, clockText, Fraction, absent, decimals, figures, fractionText, FractionOk, micros, Zone, zulu, ahead, behind, zoneText, Offset, ZoneOk, offset, Parts, MomentText, ordinary, midnight}
 use Rattle.value.proofs.Classes.{Solid}
 use Rattle.value.proofs.Trim.{Dense}
 
@@ -50,7 +50,7 @@ figures-solid (suc k) n t s = figures-solid k (n / 10) ((48 + n % 10) ∷ t) (om
 
 fraction-solid : (f : Fraction) (t : List ℕ) → Each Solid t → Each Solid (fractionText f t)
 fraction-solid absent t s = s
-fraction-solid (digits k n) t s = (omega arith, figures-solid k n t s)
+fraction-solid (decimals k n) t s = (omega arith, figures-solid k n t s)
 
 offset-solid : (x y : ℕ) → Offset x y → Each Solid (pair x (58 ∷ pair y []))
 offset-solid x y h =
@@ -78,8 +78,8 @@ whole-dense t y mo d h mi s f z r i j k o e =
     subst (λ (x : List ℕ). Dense x) (sym e)
     (record { solid = day-solid y mo d (84 ∷ clockText h mi s l) r (omega arith, clock-solid h mi s l i j k (fraction-solid f (zoneText z []) (zone-solid z o))); some = omega arith })
 
-pub moment-dense : {rule : Rule} {t : List ℕ} {y mo d h mi s u z : ℕ} → MomentText rule t y mo d h mi s u z → Dense t
-moment-dense (plain w) =
+pub moment-dense : {rule : DateRule} {t : List ℕ} {y mo d h mi s u z : ℕ} → MomentText rule t y mo d h mi s u z → Dense t
+moment-dense (ordinary w) =
     whole-dense _ _ _ _ _ _ _ (w .fraction) (w .zone) (w .day) (omega (arith, w .clock .hour)) (w .clock .minute) (w .clock .second) (w .good .1) (w .is)
 moment-dense (midnight e w) = whole-dense _ (w .year) (w .month) (w .date) 24 0 0 absent (w .zone) (w .day) (omega arith) (omega arith) (omega arith) (w .good) (w .is)
 
@@ -87,25 +87,25 @@ moment-dense (midnight e w) = whole-dense _ (w .year) (w .month) (w .date) 24 0 
 -- by the present rule so many thousands
 pub few : (f : Fraction) → FractionOk present f → (micros f < 1000000) × (micros f % 1000 ≡ 0)
 few absent g = (omega arith, omega arith)
-few (digits zero n) g = absurd (omega (arith, g .0 .0))
-few (digits (suc zero) n) g = (omega (arith, g .1), omega arith)
-few (digits (suc (suc zero)) n) g = (omega (arith, g .1), omega arith)
-few (digits (suc (suc (suc zero))) n) g = (omega (arith, g .1), omega arith)
-few (digits (suc (suc (suc (suc k)))) n) g = absurd (omega (arith, g .0 .1))
+few (decimals zero n) g = absurd (omega (arith, g .0 .0))
+few (decimals (suc zero) n) g = (omega (arith, g .1), omega arith)
+few (decimals (suc (suc zero)) n) g = (omega (arith, g .1), omega arith)
+few (decimals (suc (suc (suc zero))) n) g = (omega (arith, g .1), omega arith)
+few (decimals (suc (suc (suc (suc k)))) n) g = absurd (omega (arith, g .0 .1))
 
-below : (rule : Rule) (f : Fraction) → FractionOk rule f → micros f < 1000000
+below : (rule : DateRule) (f : Fraction) → FractionOk rule f → micros f < 1000000
 below present f g = few f g .0
 below former absent g = omega arith
-below former (digits k n) (inl e, h) = subst (λ (j : ℕ). n < 10 ^ j → n * 10 ^ (6 - j) < 1000000) (sym e) (λ i. omega arith) h
-below former (digits k n) (inr e, h) = subst (λ (j : ℕ). n < 10 ^ j → n * 10 ^ (6 - j) < 1000000) (sym e) (λ i. omega arith) h
+below former (decimals k n) (inl e, h) = subst (λ (j : ℕ). n < 10 ^ j → n * 10 ^ (6 - j) < 1000000) (sym e) (λ i. omega arith) h
+below former (decimals k n) (inr e, h) = subst (λ (j : ℕ). n < 10 ^ j → n * 10 ^ (6 - j) < 1000000) (sym e) (λ i. omega arith) h
 
 within : (z : Zone) → ZoneOk z → offset z ≤ 1680
 within zulu g = omega arith
 within (ahead x y) g = omega (arith, g .most)
 within (behind x y) g = omega (arith, g .most)
 
-pub moment-parts : {rule : Rule} {t : List ℕ} {y mo d h mi s u z : ℕ} → MomentText rule t y mo d h mi s u z → Parts y mo d h mi s u z
-moment-parts {rule} (plain w) =
+pub moment-parts : {rule : DateRule} {t : List ℕ} {y mo d h mi s u z : ℕ} → MomentText rule t y mo d h mi s u z → Parts y mo d h mi s u z
+moment-parts {rule} (ordinary w) =
     record { day = w .day; clock = w .clock; fraction = omega (arith, w .parts .0, below rule (w .fraction) (w .good .0)); zone = omega (arith, w .parts .1, within (w .zone) (w .good .1)) }
 moment-parts (midnight e w) =
     record { day = w .real; clock = record { hour = omega (arith, w .clock .0); minute = omega (arith, w .clock .1); second = omega (arith, w .clock .2) }; fraction = omega (arith, w .parts .0); zone = omega (arith, w .parts .1, within (w .zone) (w .good)) }

@@ -18,7 +18,7 @@ use Rattle.list.specs.Listing.{date, dtm}
 use Rattle.value.specs.declared.judged.Judged.{Judged}
 use Rattle.value.specs.declared.judged.Judged.the-variants as J
 use Rattle.value.specs.Day.{Real, pair, dayText, monthDays, nextDay}
-use Rattle.value.specs.Moment.{present, Clock, clockText, Fraction, absent, digits, figures, FractionOk, fractionText, Zone, zulu, ahead, behind, Offset, ZoneOk, zoneText, offset, plain, midnight}
+use Rattle.value.specs.Moment.{present, Clock, clockText, Fraction, absent, decimals, figures, FractionOk, fractionText, Zone, zulu, ahead, behind, Offset, ZoneOk, zoneText, offset, ordinary, midnight}
 use Rattle.value.specs.Value.{Value, Form}
 use Rattle.value.specs.Judged.{Formed, formed, formless, FormedAny}
 use Rattle.value.specs.Digits.{One, Two, Mark, DayAt, FractionAt, NextAt, ZoneAt, ClockText, ClockAt, MidnightAt}
@@ -189,7 +189,7 @@ fraction-bare l w = record { fraction = absent; good = tt; is = refl; count = re
   where
     go : (f : Fraction) (z : Zone) → FractionOk present f → l ≡ fractionText f (zoneText z []) → l ≡ zoneText z []
     go absent z h e = e
-    go (digits k n) z h e = absurd (no-mark l 46 false (figures k n (zoneText z [])) w refl e)
+    go (decimals k n) z h e = absurd (no-mark l 46 false (figures k n (zoneText z [])) w refl e)
 
 same-three : (a b c x y z : ℕ) (t : List ℕ) → a ≡ x → b ≡ y → c ≡ z → 46 ∷ (48 + a) ∷ (48 + b) ∷ (48 + c) ∷ t ≡ 46 ∷ (48 + x) ∷ (48 + y) ∷ (48 + z) ∷ t
 same-three a b c x y z t e f g = rw (e, f, g)
@@ -205,20 +205,20 @@ module _ (l : List ℕ) (a b c : ℕ) (p : Mark l 46 true) (u : One (drop 1 l) a
   fraction-read : (f : Fraction) (z : Zone) → FractionOk present f → l ≡ fractionText f (zoneText z []) → Said (zoneText z [])
   unfolding figures
   fraction-read absent z h e = point-first (drop 1 l) z (sym (p .sound refl) ∙ e)
-  fraction-read (digits zero n) z h e = absurd (omega (arith, h .0 .0))
-  fraction-read (digits (suc zero) n) z h e =
+  fraction-read (decimals zero n) z h e = absurd (omega (arith, h .0 .0))
+  fraction-read (decimals (suc zero) n) z h e =
       let i = u .complete (n % 10) (zoneText z []) (omega arith) (ap (drop 1) e) in
       one (omega arith) (λ k. h .2 (omega arith)) (no-one (drop 2 l) b z v (ap (drop 2) e)) (ap (drop 2) e)
-  fraction-read (digits (suc (suc zero)) n) z h e =
+  fraction-read (decimals (suc (suc zero)) n) z h e =
       let i = u .complete (n / 10 % 10) _ (omega arith) (ap (drop 1) e) in
       let j = v .complete (n % 10) (zoneText z []) (omega arith) (ap (drop 2) e) in
       two (omega arith) (omega arith) (λ k. h .2 (omega arith)) (no-one (drop 3 l) c z w (ap (drop 3) e)) (ap (drop 3) e)
-  fraction-read (digits (suc (suc (suc zero))) n) z h e =
+  fraction-read (decimals (suc (suc (suc zero))) n) z h e =
       let i = u .complete (n / 10 / 10 % 10) _ (omega arith) (ap (drop 1) e) in
       let j = v .complete (n / 10 % 10) _ (omega arith) (ap (drop 2) e) in
       let k = w .complete (n % 10) (zoneText z []) (omega arith) (ap (drop 3) e) in
       three (omega arith) (omega arith) (omega arith) (λ q. h .2 (omega arith)) (ap (drop 4) e)
-  fraction-read (digits (suc (suc (suc (suc k)))) n) z h e = absurd (omega (arith, h .0 .1))
+  fraction-read (decimals (suc (suc (suc (suc k)))) n) z h e = absurd (omega (arith, h .0 .1))
 
   -- no fraction before a zone begins so
   fraction-bad : (a ≤ 9 → a ≢ 0 → 9 < b → ⊥) → (a ≤ 9 → b ≤ 9 → b ≢ 0 → 9 < c → ⊥) → (a ≤ 9 → b ≤ 9 → c ≤ 9 → c ≢ 0 → ⊥) → FractionAt l 0 l
@@ -243,7 +243,7 @@ module _ (l : List ℕ) (a b c : ℕ) (p : Mark l 46 true) (u : One (drop 1 l) a
   fraction-one h i j =
       let n : a ≡ a % 10 = omega arith in
       record {
-        fraction = digits 1 a;
+        fraction = decimals 1 a;
         good = ((omega arith, omega arith), omega arith, omega arith);
         is = one-front h ∙ ap (λ (x : ℕ). 46 ∷ (48 + x) ∷ drop 2 l) n;
         count = refl;
@@ -261,7 +261,7 @@ module _ (l : List ℕ) (a b c : ℕ) (p : Mark l 46 true) (u : One (drop 1 l) a
       let n : a ≡ (a * 10 + b) / 10 % 10 = omega arith in
       let m : b ≡ (a * 10 + b) % 10 = omega arith in
       record {
-        fraction = digits 2 (a * 10 + b);
+        fraction = decimals 2 (a * 10 + b);
         good = ((omega arith, omega arith), omega arith, omega arith);
         is = two-front h i ∙ ap₂ (λ (x y : ℕ). 46 ∷ (48 + x) ∷ (48 + y) ∷ drop 3 l) n m;
         count = refl;
@@ -277,7 +277,7 @@ module _ (l : List ℕ) (a b c : ℕ) (p : Mark l 46 true) (u : One (drop 1 l) a
   unfolding figures
   fraction-three h i j k =
       record {
-        fraction = digits 3 ((a * 10 + b) * 10 + c);
+        fraction = decimals 3 ((a * 10 + b) * 10 + c);
         good = ((omega arith, omega arith), omega arith, omega arith);
         is = three-front h i j ∙ same-three a b c _ _ _ (drop 4 l) (omega arith) (omega arith) (omega arith);
         count = refl;
@@ -484,7 +484,7 @@ moment-no-day t r (DayAt.on y m d real is e) f w cw = absurd (f y m d e)
 moment-no-day t r (DayAt.off e f) g w cw = formless refl go
   where
     go : (v : Value) → Form dtm w t v → ⊥
-    go v (Form.timed (plain m)) = f _ _ _ _ (m .day) (m .is)
+    go v (Form.timed (ordinary m)) = f _ _ _ _ (m .day) (m .is)
     go v (Form.timed (midnight i m)) = f _ _ _ _ (m .day) (m .is)
 
 -- the day that is read is the day that stands there
@@ -512,11 +512,11 @@ module _ (t : List ℕ) (y mo d : ℕ) (q r : Judged) (w : DayAt t q) (g : q ≡
   pub moment-whole : starts lateClock (drop 10 t) ≡ false → ClockAt t y mo d r → FormedAny dtm t r
   moment-whole n (ClockAt.on h mi s u z c i) x cx =
       let k = stands t y mo d q w g in
-      subst (Formed dtm x t) (sym i) (formed _ (Form.timed (plain (record { day = k .real; clock = c .clock; fraction = c .fraction; zone = c .zone; good = c .good; is = k .is ∙ ap (dayText y mo d) (c .is); parts = c .parts }))) refl)
+      subst (Formed dtm x t) (sym i) (formed _ (Form.timed (ordinary (record { day = k .real; clock = c .clock; fraction = c .fraction; zone = c .zone; good = c .good; is = k .is ∙ ap (dayText y mo d) (c .is); parts = c .parts }))) refl)
   moment-whole n (ClockAt.off i f) x cx = subst (Formed dtm x t) (sym i) (formless refl go)
     where
       go : (v : Value) → Form dtm x t v → ⊥
-      go v (Form.timed (plain m)) = f _ _ _ _ _ (record { clock = m .clock; fraction = m .fraction; zone = m .zone; good = m .good; is = ap (drop 10) (m .is); parts = m .parts })
+      go v (Form.timed (ordinary m)) = f _ _ _ _ _ (record { clock = m .clock; fraction = m .fraction; zone = m .zone; good = m .good; is = ap (drop 10) (m .is); parts = m .parts })
       go v (Form.timed (midnight j m)) = starts-not lateClock (drop 10 t) (zoneText (m .zone) []) n (ap (drop 10) (m .is))
 
   pub moment-late : starts lateClock (drop 10 t) ≡ true → MidnightAt (drop 19 t) y mo d r → FormedAny dtm t r
@@ -527,7 +527,7 @@ module _ (t : List ℕ) (y mo d : ℕ) (q r : Judged) (w : DayAt t q) (g : q ≡
   moment-late n (MidnightAt.off i f) x cx = subst (Formed dtm x t) (sym i) (formless refl go)
     where
       go : (v : Value) → Form dtm x t v → ⊥
-      go v (Form.timed {h = h} (plain m)) =
+      go v (Form.timed {h = h} (ordinary m)) =
           let a : lateClock ++ drop 9 (drop 10 t) ≡ 84 ∷ clockText h _ _ _ = sym (starts-is lateClock (drop 10 t) n) ∙ ap (drop 10) (m .is) in
           let b : 50 ≡ 48 + h / 10 = cc in
           let c : 52 ≡ 48 + h % 10 = cc in

@@ -7,9 +7,9 @@ use native.Mathlib.Omega.{arith}
 use native.Mathlib.Decide.{decLt}
 use Rattle.list.specs.Listing.{Leaf, ref, iban, ccy, bool, num, amt, date, dtm, txt, enum}
 use Rattle.value.specs.Day.{Real, dayText, nextDay}
-use Rattle.value.specs.Moment.{Rule, former, present, clockText, absent, digits, fractionText, Zone, ahead, behind, ZoneOk, zoneText, offset, Parts, plain, midnight}
+use Rattle.value.specs.Moment.{DateRule, former, present, clockText, absent, decimals, fractionText, Zone, ahead, behind, ZoneOk, zoneText, offset, Parts, ordinary, midnight}
 use Rattle.value.specs.Value.{Value, moment, IsValue, Form, Spelt}
-use Rattle.value.specs.Rules.{Timeless, FormBy, SpeltBy, Fine}
+use Rattle.value.specs.Rules.{Timeless, FormBy, SpeltBy, InThousandths}
 use Rattle.value.proofs.Dates.{few, moment-parts}
 use Rattle.value.proofs.SpellDays.{read-day}
 use Rattle.value.proofs.Values.{value-laws}
@@ -21,12 +21,12 @@ module _ (y m d y′ m′ d′ : ℕ) (r : Real y m d) (r′ : Real y′ m′ d�
       × Form dtm w (dayText y′ m′ d′ (84 ∷ clockText 0 0 0 (zoneText z []))) (moment y′ m′ d′ 0 0 0 0 (offset z))
   midnight-is = (
     Form.timed (midnight refl (record { year = y; month = m; date = d; day = r; next = e; real = r′; zone = z; good = ok; is = refl; clock = (refl, refl, refl); parts = (refl, refl) })),
-    Form.timed {h = 0} {mi = 0} {s = 0} (plain (record { day = r′; clock = record { hour = omega arith; minute = omega arith; second = omega arith }; fraction = absent; zone = z; good = (tt, ok); is = refl; parts = (refl, refl) })),
+    Form.timed {h = 0} {mi = 0} {s = 0} (ordinary (record { day = r′; clock = record { hour = omega arith; minute = omega arith; second = omega arith }; fraction = absent; zone = z; good = (tt, ok); is = refl; parts = (refl, refl) })),
   )
 
 -- "on 9999-12-31 it is refused"
 pub last-day : (w : List ℕ) (z : Zone) (v : Value) → Form dtm w (dayText 9999 12 31 (84 ∷ clockText 24 0 0 (zoneText z []))) v → ⊥
-last-day w z v (Form.timed {h = h} (plain m)) =
+last-day w z v (Form.timed {h = h} (ordinary m)) =
     let e = m .is in
     let b : 50 ≡ 48 + h / 10 = cc in
     let c : 52 ≡ 48 + h % 10 = cc in
@@ -67,7 +67,7 @@ by-present k w cs v = (
 
 -- ---- how fine
 
-form-fine : (k : Leaf) (w t : List ℕ) (v : Value) → Form k w t v → Fine v
+form-fine : (k : Leaf) (w t : List ℕ) (v : Value) → Form k w t v → InThousandths v
 form-fine k w t v (Form.reference r) = tt
 form-fine k w t v (Form.writing r) = tt
 form-fine k w t v (Form.account r) = tt
@@ -77,11 +77,11 @@ form-fine k w t v (Form.either r) = tt
 form-fine k w t v (Form.count r) = tt
 form-fine k w t v (Form.money r b) = tt
 form-fine k w t v (Form.dated r e) = tt
-form-fine k w t v (Form.timed (plain m)) = omega (arith, m .parts .0, few (m .fraction) (m .good .0) .1)
+form-fine k w t v (Form.timed (ordinary m)) = omega (arith, m .parts .0, few (m .fraction) (m .good .0) .1)
 form-fine k w t v (Form.timed (midnight e m)) = omega (arith, m .parts .0)
 
 -- "a point and one to three digits": what a file says is no finer
-pub spelt-fine : (k : Leaf) (w cs : List ℕ) (v : Value) → Spelt k w cs v → Fine v
+pub spelt-fine : (k : Leaf) (w cs : List ℕ) (v : Value) → Spelt k w cs v → InThousandths v
 spelt-fine k w cs v a = form-fine k w (a .left) v (a .form)
 
 -- ---- the former rule
@@ -98,14 +98,14 @@ zone-of z h = go (decLt z 840)
 pub parts-former : {y mo d h mi s u z : ℕ} (w : List ℕ) → Parts y mo d h mi s u z → (t : List ℕ) × FormBy former dtm w t (moment y mo d h mi s u z)
 parts-former {y} {mo} {d} {h} {mi} {s} {u} {z} w p =
     let x = zone-of z (p .zone) in (
-      dayText y mo d (84 ∷ clockText h mi s (fractionText (digits 6 u) (zoneText (x .0) []))),
-      FormBy.timed {u = u} (plain (record { day = p .day; clock = p .clock; fraction = digits 6 u; zone = x .0; good = ((inr refl, omega (arith, p .fraction)), x .1); is = refl; parts = (omega arith, x .2) })),
+      dayText y mo d (84 ∷ clockText h mi s (fractionText (decimals 6 u) (zoneText (x .0) []))),
+      FormBy.timed {u = u} (ordinary (record { day = p .day; clock = p .clock; fraction = decimals 6 u; zone = x .0; good = ((inr refl, omega (arith, p .fraction)), x .1); is = refl; parts = (omega arith, x .2) })),
     )
 
 -- whichever rule it is, what is spelt is a value of the type
-form-is : (rule : Rule) (k : Leaf) (w cs t : List ℕ) (v : Value) → FormBy rule k w t v → (Form k w t v → IsValue k v) → IsValue k v
+form-is : (rule : DateRule) (k : Leaf) (w cs t : List ℕ) (v : Value) → FormBy rule k w t v → (Form k w t v → IsValue k v) → IsValue k v
 form-is rule k w cs t v (FormBy.timed m) g = IsValue.timed (moment-parts m)
 form-is rule k w cs t v (FormBy.other o f) g = g f
 
-pub by-is : (rule : Rule) (k : Leaf) (w cs : List ℕ) (v : Value) → SpeltBy rule k w cs v → IsValue k v
+pub by-is : (rule : DateRule) (k : Leaf) (w cs : List ℕ) (v : Value) → SpeltBy rule k w cs v → IsValue k v
 by-is rule k w cs v a = form-is rule k w cs (a .left) v (a .form) (λ f. value-laws .is k w cs v (record { left = a .left; lost = a .lost; form = f }))

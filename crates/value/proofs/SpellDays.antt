@@ -17,7 +17,7 @@ use Rattle.text.proofs.Classes.{and-is, in-range, in-range-is}
 use Rattle.text.proofs.Parts.{same-eq, same-of}
 use Rattle.list.specs.Listing.{date, dtm}
 use Rattle.value.specs.Day.{Real, isReal, dayText, nextDay}
-use Rattle.value.specs.Moment.{present, Clock, clockText, Fraction, absent, digits, figures, FractionOk, fractionText, micros, Zone, zulu, ahead, behind, Offset, ZoneOk, zoneText, offset, PlainText, MidnightText, MomentText, plain, midnight}
+use Rattle.value.specs.Moment.{present, Clock, clockText, Fraction, absent, decimals, figures, FractionOk, fractionText, micros, Zone, zulu, ahead, behind, Offset, ZoneOk, zoneText, offset, PlainText, MidnightText, MomentText, ordinary, midnight}
 use Rattle.value.specs.Value.{Value, day, moment, Form}
 use Rattle.value.specs.Spell.{when, twoAt, dayWhen, dayOf, isClock, fractionOf, fractionLength, isFraction, zoneOf, isOffset, isZone, momentWhen, momentBehind, midnightWhen, midnightOn, midnightBehind, momentOf}
 use Rattle.value.proofs.Months.{real-is, real-of}
@@ -82,14 +82,14 @@ not-zero n e z = true≢false (sym e ∙ ap (λ (k : ℕ). not (eqb k 0)) z)
 
 fraction-is : (f : Fraction) → isFraction f ≡ true → FractionOk present f
 fraction-is absent e = tt
-fraction-is (digits k n) e =
+fraction-is (decimals k n) e =
     let a = and-is (inRange 1 3 k) (ltb n (10 ^ k) && not (eqb (n % 10) 0)) e in
     let b = and-is (ltb n (10 ^ k)) (not (eqb (n % 10) 0)) (a .1) in
     (in-range-is 1 3 k (a .0), ltb-true n (10 ^ k) (b .0), not-zero (n % 10) (b .1))
 
 fraction-ok : (f : Fraction) → FractionOk present f → isFraction f ≡ true
 fraction-ok absent h = refl
-fraction-ok (digits k n) h =
+fraction-ok (decimals k n) h =
     and-of (inRange 1 3 k) (ltb n (10 ^ k) && not (eqb (n % 10) 0)) (in-range 1 3 k (h .0 .0) (h .0 .1))
     (and-of (ltb n (10 ^ k)) (not (eqb (n % 10) 0)) (lt-ltb n (10 ^ k) (h .1)) (ap not (ne-eqb (n % 10) 0 (h .2))))
 
@@ -133,15 +133,15 @@ unfolding fractionOf isDigit figures
 fraction-read absent zulu h = refl
 fraction-read absent (ahead i j) h = refl
 fraction-read absent (behind i j) h = refl
-fraction-read (digits zero n) z h = absurd (omega (arith, h .0 .0))
-fraction-read (digits (suc zero) n) zulu h = ap (digits 1) (one n (h .1))
-fraction-read (digits (suc zero) n) (ahead i j) h = ap (digits 1) (one n (h .1))
-fraction-read (digits (suc zero) n) (behind i j) h = ap (digits 1) (one n (h .1))
-fraction-read (digits (suc (suc zero)) n) zulu h = second _ _ _ (digit-in n) ∙ ap (digits 2) (two n (h .1))
-fraction-read (digits (suc (suc zero)) n) (ahead i j) h = second _ _ _ (digit-in n) ∙ ap (digits 2) (two n (h .1))
-fraction-read (digits (suc (suc zero)) n) (behind i j) h = second _ _ _ (digit-in n) ∙ ap (digits 2) (two n (h .1))
-fraction-read (digits (suc (suc (suc zero))) n) z h = chosen _ _ _ _ _ (digit-in (n / 10)) (digit-in n) ∙ ap (digits 3) (three n (h .1))
-fraction-read (digits (suc (suc (suc (suc k)))) n) z h = absurd (omega (arith, h .0 .1))
+fraction-read (decimals zero n) z h = absurd (omega (arith, h .0 .0))
+fraction-read (decimals (suc zero) n) zulu h = ap (decimals 1) (one n (h .1))
+fraction-read (decimals (suc zero) n) (ahead i j) h = ap (decimals 1) (one n (h .1))
+fraction-read (decimals (suc zero) n) (behind i j) h = ap (decimals 1) (one n (h .1))
+fraction-read (decimals (suc (suc zero)) n) zulu h = second _ _ _ (digit-in n) ∙ ap (decimals 2) (two n (h .1))
+fraction-read (decimals (suc (suc zero)) n) (ahead i j) h = second _ _ _ (digit-in n) ∙ ap (decimals 2) (two n (h .1))
+fraction-read (decimals (suc (suc zero)) n) (behind i j) h = second _ _ _ (digit-in n) ∙ ap (decimals 2) (two n (h .1))
+fraction-read (decimals (suc (suc (suc zero))) n) z h = chosen _ _ _ _ _ (digit-in (n / 10)) (digit-in n) ∙ ap (decimals 3) (three n (h .1))
+fraction-read (decimals (suc (suc (suc (suc k)))) n) z h = absurd (omega (arith, h .0 .1))
 
 figures-behind : (k n : ℕ) (l : List ℕ) → drop k (figures k n l) ≡ l
 unfolding figures
@@ -150,7 +150,7 @@ figures-behind (suc k) n l = ap (λ (j : ℕ). drop j (figures k (n / 10) ((48 +
 
 fraction-behind : (f : Fraction) (l : List ℕ) → drop (fractionLength f) (fractionText f l) ≡ l
 fraction-behind absent l = refl
-fraction-behind (digits k n) l = sym (drop-drop k 1 (46 ∷ figures k n l)) ∙ figures-behind k n l
+fraction-behind (decimals k n) l = sym (drop-drop k 1 (46 ∷ figures k n l)) ∙ figures-behind k n l
 
 zone-read : (z : Zone) → zoneOf (zoneText z []) ≡ z
 unfolding zoneOf
@@ -171,7 +171,7 @@ module _ (t : List ℕ) (y mo d h mi s : ℕ) (f : Fraction) (z : Zone) where
       let g = and-is (isFraction f) (isZone z && same t whole) (c .1) in
       let i = and-is (isZone z) (same t whole) (g .1) in
       subst (Form dtm w t) (a .1)
-      (Form.timed (plain (record { day = real-is y mo d (b .0); clock = clock-is h mi s (c .0); fraction = f; zone = z; good = (fraction-is f (g .0), zone-is z (i .0)); is = same-eq t whole (i .1); parts = (refl, refl) })))
+      (Form.timed (ordinary (record { day = real-is y mo d (b .0); clock = clock-is h mi s (c .0); fraction = f; zone = z; good = (fraction-is f (g .0), zone-is z (i .0)); is = same-eq t whole (i .1); parts = (refl, refl) })))
 
   moment-when : Real y mo d → Clock h mi s → FractionOk present f → ZoneOk z → t ≡ whole → momentWhen t y mo d h mi s f z ≡ some (moment y mo d h mi s (micros f) (offset z))
   moment-when r c o p e =
@@ -259,5 +259,5 @@ midnight-complete t y mo d h mi s u o m =
     ∙ ap (λ (n : ℕ). some (moment y mo d n 0 0 u o)) (sym (m .clock .0)) ∙ ap (λ (n : ℕ). some (moment y mo d h n 0 u o)) (sym (m .clock .1)) ∙ ap (λ (n : ℕ). some (moment y mo d h mi n u o)) (sym (m .clock .2))
 
 pub moment-complete : (t : List ℕ) (y mo d h mi s u o : ℕ) → MomentText present t y mo d h mi s u o → momentOf t ≡ some (moment y mo d h mi s u o)
-moment-complete t y mo d h mi s u o (plain m) = plain-complete t y mo d h mi s u o m
+moment-complete t y mo d h mi s u o (ordinary m) = plain-complete t y mo d h mi s u o m
 moment-complete t y mo d h mi s u o (midnight e m) = midnight-complete t y mo d h mi s u o m

@@ -6,8 +6,8 @@ use Prim.Native.Nat.{ℕ, zero, suc, _+_, _*_, _-_, _/_, _%_, _^_, _≤_, _<_}
 use Rattle.value.specs.Day.{Real, pair, dayText, nextDay}
 
 -- "the former and the new date-time rule"
-pub data Rule : Type 0 where
-  former present : Rule
+pub data DateRule : Type 0 where
+  former present : DateRule
 
 -- "`hh:mm:ss` up to 23:59:59"
 pub record Clock (h m s : ℕ) : Type 0 where
@@ -21,7 +21,7 @@ clockText h m s t = pair h (58 ∷ pair m (58 ∷ pair s t))
 -- none, or a point and the last k digits of n
 pub data Fraction : Type 0 where
   absent : Fraction
-  digits : (k n : ℕ) → Fraction
+  decimals : (k n : ℕ) → Fraction
 
 -- the last k digits of n, then t
 unfoldable pub figures : ℕ → ℕ → List ℕ → List ℕ
@@ -30,18 +30,18 @@ figures (suc k) n t = figures k (n / 10) ((48 + n % 10) ∷ t)
 
 abbrev pub fractionText : Fraction → List ℕ → List ℕ
 fractionText absent t = t
-fractionText (digits k n) t = 46 ∷ figures k n t
+fractionText (decimals k n) t = 46 ∷ figures k n t
 
 -- "optionally a point and three or six digits"; "now a point and one to three digits, the last not zero"
-abbrev pub FractionOk : Rule → Fraction → Type 0
+abbrev pub FractionOk : DateRule → Fraction → Type 0
 FractionOk r absent = Unit {0}
-FractionOk former (digits k n) = ((k ≡ 3) ⊎ (k ≡ 6)) × (n < 10 ^ k)
-FractionOk present (digits k n) = ((1 ≤ k) × (k ≤ 3)) × (n < 10 ^ k) × (n % 10 ≢ 0)
+FractionOk former (decimals k n) = ((k ≡ 3) ⊎ (k ≡ 6)) × (n < 10 ^ k)
+FractionOk present (decimals k n) = ((1 ≤ k) × (k ≤ 3)) × (n < 10 ^ k) × (n % 10 ≢ 0)
 
 -- "fractions count in microseconds, an absent one as 0"
 abbrev pub micros : Fraction → ℕ
 micros absent = 0
-micros (digits k n) = n * 10 ^ (6 - k)
+micros (decimals k n) = n * 10 ^ (6 - k)
 
 -- "then `Z` or sign `hh:mm`"
 pub data Zone : Type 0 where
@@ -77,7 +77,7 @@ pub record Parts (y mo d h mi s u z : ℕ) : Type 0 where
   pub zone : z ≤ 1680
 
 -- "DATE, `T`, `hh:mm:ss` .., optionally a point and .. digits, then `Z` or sign `hh:mm`"
-pub record PlainText (rule : Rule) (t : List ℕ) (y mo d h mi s u z : ℕ) : Type 0 where
+pub record PlainText (rule : DateRule) (t : List ℕ) (y mo d h mi s u z : ℕ) : Type 0 where
   pub day : Real y mo d
   pub clock : Clock h mi s
   pub fraction : Fraction
@@ -100,6 +100,6 @@ pub record MidnightText (t : List ℕ) (y mo d h mi s u z : ℕ) : Type 0 where
   pub clock : (h ≡ 0) × (mi ≡ 0) × (s ≡ 0)
   pub parts : (u ≡ 0) × (z ≡ offset zone)
 
-pub data MomentText (rule : Rule) (t : List ℕ) (y mo d h mi s u z : ℕ) : Type 0 where
-  plain : PlainText rule t y mo d h mi s u z → MomentText rule t y mo d h mi s u z
+pub data MomentText (rule : DateRule) (t : List ℕ) (y mo d h mi s u z : ℕ) : Type 0 where
+  ordinary : PlainText rule t y mo d h mi s u z → MomentText rule t y mo d h mi s u z
   midnight : rule ≡ present → MidnightText t y mo d h mi s u z → MomentText rule t y mo d h mi s u z

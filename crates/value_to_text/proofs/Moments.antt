@@ -16,7 +16,7 @@ use Rattle.text.specs.Puts.{Puts}
 use Rattle.text.proofs.Digits.{length-padded}
 use Rattle.text.proofs.Pasting.{length-pasted, slice-pasted, pasted-none}
 use Rattle.text.proofs.Puts.{puts-then}
-use Rattle.value.specs.Moment.{absent, digits}
+use Rattle.value.specs.Moment.{absent, decimals}
 use Rattle.value_to_text.specs.Script.{fractionOf}
 use Rattle.value_to_text.specs.Stored.{threeRaw, placesRaw, fractionRaw, offsetRaw, zoneRaw, dayIn, clockIn, momentIn}
 
@@ -76,19 +76,19 @@ pub none-of : (u : ℕ) → u ≡ 0 → fractionOf u ≡ absent
 unfolding fractionOf
 none-of u e = ap fractionOf e
 
-pub one-of : (u : ℕ) → u ≢ 0 → u % 100000 ≡ 0 → fractionOf u ≡ digits 1 (u / 100000)
+pub one-of : (u : ℕ) → u ≢ 0 → u % 100000 ≡ 0 → fractionOf u ≡ decimals 1 (u / 100000)
 unfolding fractionOf
 one-of u z e = rw (ne-eqb u 0 z, eq-eqb (u % 100000) 0 e) refl
 
-pub two-of : (u : ℕ) → u ≢ 0 → u % 100000 ≢ 0 → u % 10000 ≡ 0 → fractionOf u ≡ digits 2 (u / 10000)
+pub two-of : (u : ℕ) → u ≢ 0 → u % 100000 ≢ 0 → u % 10000 ≡ 0 → fractionOf u ≡ decimals 2 (u / 10000)
 unfolding fractionOf
 two-of u z a e = rw (ne-eqb u 0 z, ne-eqb (u % 100000) 0 a, eq-eqb (u % 10000) 0 e) refl
 
-pub three-of : (u : ℕ) → u ≢ 0 → u % 100000 ≢ 0 → u % 10000 ≢ 0 → u % 1000 ≡ 0 → fractionOf u ≡ digits 3 (u / 1000)
+pub three-of : (u : ℕ) → u ≢ 0 → u % 100000 ≢ 0 → u % 10000 ≢ 0 → u % 1000 ≡ 0 → fractionOf u ≡ decimals 3 (u / 1000)
 unfolding fractionOf
 three-of u z a b e = rw (ne-eqb u 0 z, ne-eqb (u % 100000) 0 a, ne-eqb (u % 10000) 0 b, eq-eqb (u % 1000) 0 e) refl
 
-pub six-of : (u : ℕ) → u ≢ 0 → u % 100000 ≢ 0 → u % 10000 ≢ 0 → u % 1000 ≢ 0 → fractionOf u ≡ digits 6 u
+pub six-of : (u : ℕ) → u ≢ 0 → u % 100000 ≢ 0 → u % 10000 ≢ 0 → u % 1000 ≢ 0 → fractionOf u ≡ decimals 6 u
 unfolding fractionOf
 six-of u z a b e = rw (ne-eqb u 0 z, ne-eqb (u % 100000) 0 a, ne-eqb (u % 10000) 0 b, ne-eqb (u % 1000) 0 e) refl
 
@@ -100,7 +100,7 @@ module _ (u : ℕ) (d : List ℕ) (at : ℕ) where
       let f : fractionRaw u ≡ [] = ap placesRaw (none-of u e) in
       (omega (arith, ap length f), (omega arith, sym (pasted-none d at) ∙ ap (pasted d at) (sym f)))
 
-  pub fraction-put : (k n r : ℕ) (d′ : List ℕ) → fractionOf u ≡ digits k n → k ≤ 6 → (r ≡ at + (1 + k)) × (d′ ≡ pasted d at (46 ∷ padded k n))
+  pub fraction-put : (k n r : ℕ) (d′ : List ℕ) → fractionOf u ≡ decimals k n → k ≤ 6 → (r ≡ at + (1 + k)) × (d′ ≡ pasted d at (46 ∷ padded k n))
       → (r ≡ at + length (fractionRaw u)) × ((r ≤ at + 7) × (d′ ≡ pasted d at (fractionRaw u)))
   unfolding fractionRaw
   fraction-put k n r d′ e h w =

@@ -18,9 +18,9 @@ use Rattle.list.specs.Listing.{Leaf, ref, iban, ccy, bool, num, amt, date, dtm,
 use Rattle.value.specs.Plain.{decimalFrom, decimal, Num, Says, Trimmed}
 use Rattle.value.specs.Amount.{Decimal, Bounded, Amount, absent as whole, point}
 use Rattle.value.specs.Amount as A
-use Rattle.value.specs.Moment.{former, present, Fraction, absent, digits, FractionOk, micros, Zone, zulu, ahead, behind, ZoneOk, offset, Parts, MomentText, plain}
+use Rattle.value.specs.Moment.{former, present, Fraction, absent, decimals, FractionOk, micros, Zone, zulu, ahead, behind, ZoneOk, offset, Parts, MomentText, ordinary}
 use Rattle.value.specs.Value.{Value, text, day, moment, IsValue, Form, Left, Spelt}
-use Rattle.value.specs.Rules.{Fine}
+use Rattle.value.specs.Rules.{InThousandths}
 use Rattle.value.proofs.Classes.{digit-yes}
 use Rattle.value.proofs.Decimals.{canon}
 use Rattle.value.proofs.Trim.{Dense}
@@ -170,10 +170,10 @@ nought = refl
 -- the fraction that is written, and why it is that one
 data Chosen (u : ℕ) : Fraction → Type 0 where
   none : u ≡ 0 → Chosen u absent
-  one : u ≢ 0 → u % 100000 ≡ 0 → Chosen u (digits 1 (u / 100000))
-  two : u % 100000 ≢ 0 → u % 10000 ≡ 0 → Chosen u (digits 2 (u / 10000))
-  three : u % 10000 ≢ 0 → u % 1000 ≡ 0 → Chosen u (digits 3 (u / 1000))
-  six : u % 1000 ≢ 0 → Chosen u (digits 6 u)
+  one : u ≢ 0 → u % 100000 ≡ 0 → Chosen u (decimals 1 (u / 100000))
+  two : u % 100000 ≢ 0 → u % 10000 ≡ 0 → Chosen u (decimals 2 (u / 10000))
+  three : u % 10000 ≢ 0 → u % 1000 ≡ 0 → Chosen u (decimals 3 (u / 1000))
+  six : u % 1000 ≢ 0 → Chosen u (decimals 6 u)
 
 chosen : (u : ℕ) → Chosen u (fractionOf u)
 chosen u = go (ℕ-discrete u 0) (ℕ-discrete (u % 100000) 0) (ℕ-discrete (u % 10000) 0) (ℕ-discrete (u % 1000) 0)
@@ -206,19 +206,19 @@ tens n w e = omega arith
 -- the shortest: the present rule has no other fraction of so many microseconds
 pub only-fraction : (x : Fraction) → FractionOk present x → (u : ℕ) → u ≡ micros x → fractionOf u ≡ x
 only-fraction absent g u e = none-of u e
-only-fraction (digits zero n) g u e = absurd (omega (arith, g .0 .0))
-only-fraction (digits (suc zero) n) g u e =
+only-fraction (decimals zero n) g u e = absurd (omega (arith, g .0 .0))
+only-fraction (decimals (suc zero) n) g u e =
     let q : u / 100000 ≡ n = omega arith in
-    one-of u (λ z. g .2 (omega arith)) (omega arith) ∙ ap (digits 1) q
-only-fraction (digits (suc (suc zero)) n) g u e =
+    one-of u (λ z. g .2 (omega arith)) (omega arith) ∙ ap (decimals 1) q
+only-fraction (decimals (suc (suc zero)) n) g u e =
     let q : u / 10000 ≡ n = omega arith in
-    two-of u (λ z. g .2 (omega arith)) (λ z. g .2 (tens n (u / 100000) (omega arith))) (omega arith) ∙ ap (digits 2) q
-only-fraction (digits (suc (suc (suc zero))) n) g u e =
+    two-of u (λ z. g .2 (omega arith)) (λ z. g .2 (tens n (u / 100000) (omega arith))) (omega arith) ∙ ap (decimals 2) q
+only-fraction (decimals (suc (suc (suc zero))) n) g u e =
     let q : u / 1000 ≡ n = omega arith in
     let a : u % 100000 ≢ 0 = λ z. g .2 (tens n (10 * (u / 100000)) (omega arith)) in
     let b : u % 10000 ≢ 0 = λ z. g .2 (tens n (u / 10000) (omega arith)) in
-    three-of u (λ z. g .2 (omega arith)) a b (omega arith) ∙ ap (digits 3) q
-only-fraction (digits (suc (suc (suc (suc k)))) n) g u e = absurd (omega (arith, g .0 .1))
+    three-of u (λ z. g .2 (omega arith)) a b (omega arith) ∙ ap (decimals 3) q
+only-fraction (decimals (suc (suc (suc (suc k)))) n) g u e = absurd (omega (arith, g .0 .1))
 
 -- the zone of z, behind the tests
 abbrev zoneBy : Bool → Bool → ℕ → Zone
@@ -240,7 +240,7 @@ pub moment-spelt : {y mo d h mi s u z : ℕ} → Parts y mo d h mi s u z → u %
 moment-spelt {y} {mo} {d} {h} {mi} {s} {u} {z} p f =
     let w = zoned z (p .zone) in
     let x = fractionOf u in
-    plain (record { day = p .day; clock = p .clock; fraction = x; zone = zoneOf z; good = (fraction-ok u x (chosen u) (p .fraction) f, w .good); is = refl; parts = (fraction-is u x (chosen u), w .is) })
+    ordinary (record { day = p .day; clock = p .clock; fraction = x; zone = zoneOf z; good = (fraction-ok u x (chosen u) (p .fraction) f, w .good); is = refl; parts = (fraction-is u x (chosen u), w .is) })
 
 -- no blank and no entity stands in it, however fine it is
 moment-firm : {y mo d h mi s u z : ℕ} → Parts y mo d h mi s u z → Dense (scriptOf dtm (moment y mo d h mi s u z))
@@ -253,7 +253,7 @@ says : (b : Bool) → Says (truthText b) b
 says true = inl refl
 says false = inl refl
 
-pub script-form : (f : Leaf) (v : Value) → IsValue f v → Fine v → Form f (currencyOf v) (scriptOf f v) v
+pub script-form : (f : Leaf) (v : Value) → IsValue f v → InThousandths v → Form f (currencyOf v) (scriptOf f v) v
 script-form f v (IsValue.reference r) q = Form.reference r
 script-form f v (IsValue.writing r) q = Form.writing r
 script-form f v (IsValue.account r) q = Form.account r
@@ -295,11 +295,11 @@ left-all (txt k) t = refl
 left-all (enum ws) t = refl
 
 -- the text that is written for a value spells it, where the present rule is fine enough
-pub script-spelt : (f : Leaf) (v : Value) → IsValue f v → Fine v → Spelt f (currencyOf v) (scriptOf f v) v
+pub script-spelt : (f : Leaf) (v : Value) → IsValue f v → InThousandths v → Spelt f (currencyOf v) (scriptOf f v) v
 script-spelt f v h q = record { left = scriptOf f v; lost = left-all f (scriptOf f v); form = script-form f v h q }
 
 -- so these are the values that some text spells by the present rule: what is finer is spelt by none
-pub present-spelt : (f : Leaf) (v : Value) → (IsValue f v × Fine v) ↔ Spelled present f v
+pub present-spelt : (f : Leaf) (v : Value) → (IsValue f v × InThousandths v) ↔ Spelled present f v
 present-spelt f v = (
   (λ h. record { coin = currencyOf v; chars = scriptOf f v; spelt = by-present f (currencyOf v) (scriptOf f v) v .1 (script-spelt f v (h .0) (h .1)) }),
   (λ s. (by-is present f (s .coin) (s .chars) v (s .spelt), spelt-fine f (s .coin) (s .chars) v (by-present f (s .coin) (s .chars) v .0 (s .spelt)))),
@@ -309,7 +309,7 @@ present-spelt f v = (
 pub both-rules : (f : Leaf) (v : Value) → IsValue f v ↔ SpelledByEither f v
 both-rules f v = (there f v, back)
   where
-    now : (f : Leaf) (v : Value) → IsValue f v → Fine v → SpelledByEither f v
+    now : (f : Leaf) (v : Value) → IsValue f v → InThousandths v → SpelledByEither f v
     now f v h q = inr (present-spelt f v .0 (h, q))
 
     there : (f : Leaf) (v : Value) → IsValue f v → SpelledByEither f v

@@ -3,12 +3,12 @@ use mathlib.Core.Logic.{_⊎_}
 use mathlib.Core.List.{List}
 use Prim.Native.Nat.{ℕ}
 use Rattle.list.specs.Listing.{Leaf}
-use Rattle.value.specs.Moment.{Rule, former, present}
+use Rattle.value.specs.Moment.{DateRule, former, present}
 use Rattle.value.specs.Value.{Value}
 use Rattle.value.specs.Rules.{SpeltBy}
 
 -- some characters of a leaf, beside those of a currency, which AMT alone has, spell v by the rule
-pub record Spelled (rule : Rule) (f : Leaf) (v : Value) : Type 0 where
+pub record Spelled (rule : DateRule) (f : Leaf) (v : Value) : Type 0 where
   pub coin : List ℕ
   pub chars : List ℕ
   pub spelt : SpeltBy rule f coin chars v

@@ -9,7 +9,7 @@ use Rattle.text.specs.Bytes.{ascii}
 use Rattle.text.specs.Numbers.{number}
 use Rattle.text.specs.Digits.{inDigits, padded, pointed}
 use Rattle.list.specs.Table.{cell, wordsIn}
-use Rattle.value.specs.Moment.{Fraction, absent, digits}
+use Rattle.value.specs.Moment.{Fraction, absent, decimals}
 use Rattle.value_to_text.specs.Script.{truthText, fractionOf}
 use Rattle.value_to_text.specs.Raw.{escaped}
 
@@ -27,7 +27,7 @@ threeRaw w a sign b c = padded w a ++ (sign ++ (padded 2 b ++ (sign ++ padded 2 
 
 abbrev pub placesRaw : Fraction → List ℕ
 placesRaw absent = []
-placesRaw (digits k n) = 46 ∷ padded k n
+placesRaw (decimals k n) = 46 ∷ padded k n
 
 unfoldable pub fractionRaw : ℕ → List ℕ
 fractionRaw u = placesRaw (fractionOf u)
