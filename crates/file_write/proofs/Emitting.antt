@@ -38,25 +38,8 @@ use Rattle.file_letter.proofs.Has.{rooted}
 use Rattle.file_letter.proofs.Telling.{letter-told}
 use Rattle.file_write.specs.Tags.{startIn, openIn, shutIn, rootIn, Opened}
 use Rattle.file_write.specs.Emit.{coinText, ValueAt, leafIn, LeafPut, Held, Emits}
+use Rattle.file_write.proofs.Standing.{Standing, kids, is-root, stand-first, stand-start, stand-in, stand-end, Ahead, ahead, row-parent, row-parent-in, group-none, group-after, Leafed, leafed, value-at, end-is, leaf-after}
 use Rattle.file_write.proofs.Tagging.{closes-most, open-most, root-most, open-is, shut-is, root-is, leaf-open}
-
-each-both : {A : Type 0} (P : A → Type 0) (a b : List A) → Each P a → Each P b → Each P (a ++ b)
-each-both P [] b h k = k
-each-both P (x ∷ a) b h k = (h .0, each-both P a b (h .1) k)
-
--- what stands at a place of a run
-module _ (run : List ℕ) (i y : ℕ) (u : List ℕ) (e : drop i run ≡ y ∷ u) where
-  inside : i < length run
-  inside = omega (arith, ap length e, length-drop i run)
-
-  split : drop i run ≡ getD run i 0 ∷ drop (i + 1) run
-  split = drop-cons run i 0 inside ∙ ap (λ (z : ℕ). getD run i 0 ∷ drop z run) (sym (add-one i))
-
-  byte-there : getD run i 0 ≡ y
-  byte-there = head-eq-of-cons-eq (sym split ∙ e)
-
-  rest-there : drop (i + 1) run ≡ u
-  rest-there = tail-eq-of-cons-eq (sym split ∙ e)
 
 regroup : (a b c e : List ℕ) → a ++ (b ++ (c ++ e)) ≡ (a ++ (b ++ c)) ++ e
 regroup a b c e = simp append-assoc
@@ -74,28 +57,15 @@ module _ (t pool : List ℕ) where
   abbrev l : Listing
   l = listOf t pool
 
-  -- an item of the list
-  abbrev Fine : Item values → Type 0
-  Fine i = (0 < i .0) × (i .0 ≤ size l) × ItemOk values l (i .0) (i .1)
-
-  fine-in : (c : Content Value) (p : ℕ) → Each (Child l p) (rows c) → Good IsValue l c → Each Fine (items c)
-  fine-in end p a g = tt
-  fine-in (value r v k) p a g = ((a .0 .first, a .0 .last, g .0), fine-in k p (a .1) (g .1))
-  fine-in (node r c k) p a g =
-      ((a .0 .first, a .0 .last, g .0 .0), each-both Fine (items c) (items k) (fine-in c r (g .0 .1 .theirs) (g .1)) (fine-in k p (a .1) (g .2)))
-
   -- ---- where the pass stands: from d₁ on, in which a₁ bytes are put, `all` is to be put
 
   module _ (run d₁ : List ℕ) (a₁ : ℕ) (all : List ℕ) where
     -- g is the innermost open group, i the place of the next item
     pub record Emitting (d : List ℕ) (g i at : ℕ) : Type 0 where
-      pub left : List (Item values)
-      pub rest : List ℕ
-      pub here : drop i run ≡ bytes values l left ++ (0 ∷ rest)
-      pub fine : Each Fine left
+      pub stands : Standing t pool run i
       pub done : List ℕ
       pub put : Puts d₁ a₁ done at d
-      pub told : done ++ tell l g left ≡ all
+      pub told : done ++ tell l g (stands .left) ≡ all
       pub group : g ≤ size l
       pub low : at ≤ 3000000 * i
 
@@ -107,54 +77,31 @@ module _ (t pool : List ℕ) where
     -- ---- the start
 
     module _ (from n : ℕ) (w : Holds values l (drop from run) n) where
-      kids : Content Value
-      kids = rooted l (so .well) (w .content) (w .meets) .kids
-
-      is-root : w .content ≡ node 1 kids end
-      unfolding kids
-      is-root = rooted l (so .well) (w .content) (w .meets) .is
-
-      body-is : drop from run ≡ 1 ∷ (bytes values l (items kids) ++ (0 ∷ w .rest))
-      body-is =
-          w .at ∙ ap (λ (c : Content Value). body values l c ++ w .rest) is-root
-          ∙ ap (λ (k : Kind). (((1 ∷ valueBytes values l k none) ++ bytes values l (items kids ++ [])) ++ (0 ∷ [])) ++ w .rest) (so .well .root .1)
-          ∙ ap (λ (is : List (Item values)). 1 ∷ ((bytes values l is ++ (0 ∷ [])) ++ w .rest)) (append-nil (items kids))
-          ∙ ap (λ (u : List ℕ). 1 ∷ u) (append-assoc (bytes values l (items kids)) (0 ∷ []) (w .rest))
-
       pub emit-first : (d₁ : List ℕ) (a₁ : ℕ) → a₁ ≤ 200000 → Emitting run d₁ a₁ (tell l 1 (items (kidsOf (w .content)))) d₁ 1 (from + 1) a₁
       emit-first d₁ a₁ h =
-          let g : Good IsValue l (node 1 kids end) = subst (Good IsValue l) is-root (w .meets .good) in
           record {
-            left = items kids;
-            rest = w .rest;
-            here = rest-there run from 1 (bytes values l (items kids) ++ (0 ∷ w .rest)) body-is;
-            fine = fine-in kids 1 (g .0 .1 .theirs) (g .1);
+            stands = stand-first t pool so run from n w;
             done = [];
             put = puts-none d₁ a₁;
-            told = ap (λ (c : Content Value). tell l 1 (items (kidsOf c))) (sym is-root);
+            told = ap (λ (c : Content Value). tell l 1 (items (kidsOf c))) (sym (is-root t pool so run from n w));
             group = so .well .root .0;
             low = omega arith;
           }
 
       pub emit-start : from < length run
-      emit-start = inside run from 1 (bytes values l (items kids) ++ (0 ∷ w .rest)) body-is
+      emit-start = stand-start t pool so run from n w
 
       -- the root's tag and what is told behind it are the whole file
       pub emit-whole : rootIn t pool ++ tell l 1 (items (kidsOf (w .content))) ≡ letterOf l (w .content)
       emit-whole =
-          ap₂ _++_ (root-is t pool (so .well)) (ap (λ (c : Content Value). tell l 1 (items (kidsOf c))) is-root)
-          ∙ sym (letter-told l (so .well) (w .content) (w .meets) kids is-root)
+          ap₂ _++_ (root-is t pool (so .well)) (ap (λ (c : Content Value). tell l 1 (items (kidsOf c))) (is-root t pool so run from n w))
+          ∙ sym (letter-told l (so .well) (w .content) (w .meets) (kids t pool so run from n w) (is-root t pool so run from n w))
 
     -- ---- a turn
 
     module _ (d₁ : List ℕ) (a₁ : ℕ) (all d : List ℕ) (g i at : ℕ) (w : Emitting run d₁ a₁ all d g i at) where
-      -- some byte stands there
-      some-byte : (is : List (Item values)) (u : List ℕ) → (y : ℕ) × (r : List ℕ) × (bytes values l is ++ (0 ∷ u) ≡ y ∷ r)
-      some-byte [] u = (0, u, refl)
-      some-byte (j ∷ is) u = (j .0, (valueBytes values l (rowAt l (j .0) .kind) (j .1) ++ bytes values l is) ++ (0 ∷ u), refl)
-
       pub emit-in : i < length run
-      emit-in = let b = some-byte (w .left) (w .rest) in inside run i (b .0) (b .1) (w .here ∙ b .2)
+      emit-in = stand-in t pool so run i (w .stands)
 
       pub emit-low : length run ≤ limit → at ≤ 3200000000000
       emit-low h = omega (arith, w .low, emit-in)
@@ -165,82 +112,28 @@ module _ (t pool : List ℕ) where
       -- the closing 0
       pub emit-end : getD run i 0 ≡ 0 → (r : ℕ) (d′ : List ℕ) → Puts d at (closes l 17 g 0) r d′ → Puts d₁ a₁ all r d′
       unfolding tell
-      emit-end z r d′ x = go (w .left) refl
-        where
-          go : (is : List (Item values)) → w .left ≡ is → Puts d₁ a₁ all r d′
-          go [] e =
-              puts-as d₁ a₁ (w .done ++ closes l 17 g 0) all r d′ (ap (λ (is : List (Item values)). w .done ++ tell l g is) (sym e) ∙ w .told)
-              (puts-then d₁ a₁ (w .done) at d (closes l 17 g 0) r d′ (w .put) x)
-          go (j ∷ is) e =
-              let f : Fine j × Each Fine is = subst (Each Fine) e (w .fine) in
-              let b = byte-there run i (j .0) _ (w .here ∙ ap (λ (is : List (Item values)). bytes values l is ++ (0 ∷ w .rest)) e) in
-              absurd (omega (arith, f .0 .0))
-
-      -- an item: its row, its value, and what stands behind its row byte
-      pub record Ahead (x : ℕ) : Type 0 where
-        pub val : Option Value
-        pub more : List (Item values)
-        pub is : w .left ≡ (x, val) ∷ more
-        pub its : Fine (x, val)
-        pub fines : Each Fine more
-        pub behind : drop (i + 1) run ≡ valueBytes values l (rowAt l x .kind) val ++ (bytes values l more ++ (0 ∷ w .rest))
-
-      ahead : (x : ℕ) → x ≡ getD run i 0 → x ≢ 0 → Ahead x
-      ahead x ex n = go (w .left) refl
-        where
-          go : (is : List (Item values)) → w .left ≡ is → Ahead x
-          go [] e = absurd (n (ex ∙ byte-there run i 0 (w .rest) (w .here ∙ ap (λ (is : List (Item values)). bytes values l is ++ (0 ∷ w .rest)) e)))
-          go (j ∷ is) e =
-              let h : drop i run ≡ j .0 ∷ ((valueBytes values l (rowAt l (j .0) .kind) (j .1) ++ bytes values l is) ++ (0 ∷ w .rest)) = w .here ∙ ap (λ (is : List (Item values)). bytes values l is ++ (0 ∷ w .rest)) e in
-              let b : x ≡ j .0 = ex ∙ byte-there run i (j .0) _ h in
-              let f : Fine j × Each Fine is = subst (Each Fine) e (w .fine) in
-              let r = rest-there run i (j .0) _ h ∙ append-assoc (valueBytes values l (rowAt l (j .0) .kind) (j .1)) (bytes values l is) (0 ∷ w .rest) in
-              record {
-                val = j .1;
-                more = is;
-                is = e ∙ ap (λ (z : ℕ). (z, j .1) ∷ is) (sym b);
-                its = subst (λ (z : ℕ). Fine (z, j .1)) (sym b) (f .0);
-                fines = f .1;
-                behind = r ∙ ap (λ (z : ℕ). valueBytes values l (rowAt l z .kind) (j .1) ++ (bytes values l is ++ (0 ∷ w .rest))) (sym b);
-              }
+      emit-end z r d′ x =
+          puts-as d₁ a₁ (w .done ++ closes l 17 g 0) all r d′ (ap (λ (is : List (Item values)). w .done ++ tell l g is) (sym (stand-end t pool so run i (w .stands) z)) ∙ w .told)
+          (puts-then d₁ a₁ (w .done) at d (closes l 17 g 0) r d′ (w .put) x)
 
       module _ (x : ℕ) (ex : x ≡ getD run i 0) (n : x ≢ 0) where
-        h : Ahead x
-        h = ahead x ex n
+        abbrev h : Ahead t pool so run i (w .stands) x
+        h = ahead t pool so run i (w .stands) x ex n
 
-        row-in : x ≤ cell t 0 0
-        row-in = omega (arith, h .its .1, size-is t pool)
-
-        parent : (p : ℕ) → p ≡ cell t x 0 → p ≡ rowAt l x .parent
-        parent p e = e ∙ sym (parent-is t pool x (h .its .0) row-in)
-
-        parent-in : rowAt l x .parent ≤ size l
-        parent-in = omega (arith, so .well .before (rowAt l x .parent) x (record { first = h .its .0; last = h .its .1; parent = refl }), h .its .1)
+        abbrev parent : (p : ℕ) → p ≡ cell t x 0 → p ≡ rowAt l x .parent
+        parent p e = row-parent t pool so run i (w .stands) x ex n p e
 
         module _ (b : Bool) (eb : b ≡ isGroupIn (cell t x 2)) where
-          sort : b ≡ isGroup (rowAt l x .kind)
-          sort = eb ∙ group-in t pool so x (h .its .0) (h .its .1)
-
           -- ---- of a group
 
-          is-none : (k : Kind) (v : Option Value) → isGroup k ≡ true → OfKind values l k v → (v ≡ none) × (valueBytes values l k v ≡ [])
-          is-none group none e o = (refl, refl)
-          is-none group (some v) e o = absurd o
-          is-none choice none e o = (refl, refl)
-          is-none choice (some v) e o = absurd o
-          is-none (leaf f) v e o = absurd (true≢false (sym e))
-
           module _ (y : b ≡ true) (small : length pool ≤ 65535) (p : ℕ) (ep : p ≡ cell t x 0) (a₂ : ℕ) (d₂ : List ℕ) (c : Puts d at (closes l 17 g p) a₂ d₂) (a₃ : ℕ) (d₃ : List ℕ) (o : Puts d₂ a₂ (openIn t pool x) a₃ d₃) where
-            none-is : (h .val ≡ none) × (valueBytes values l (rowAt l x .kind) (h .val) ≡ [])
-            none-is = is-none (rowAt l x .kind) (h .val) (sym sort ∙ y) (h .its .2)
+            abbrev none-is : (h .val ≡ none) × (valueBytes values l (rowAt l x .kind) (h .val) ≡ [])
+            none-is = group-none t pool so run i (w .stands) x ex n b eb y
 
             pub emit-group : Emitting run d₁ a₁ all d₃ x (i + 1) a₃
             unfolding tell
             emit-group = record {
-              left = h .more;
-              rest = w .rest;
-              here = h .behind ∙ ap (λ (u : List ℕ). u ++ (bytes values l (h .more) ++ (0 ∷ w .rest))) (none-is .1);
-              fine = h .fines;
+              stands = group-after t pool so run i (w .stands) x ex n b eb y;
               done = w .done ++ (closes l 17 g p ++ openIn t pool x);
               put = puts-then d₁ a₁ (w .done) at d (closes l 17 g p ++ openIn t pool x) a₃ d₃ (w .put) (puts-then d at (closes l 17 g p) a₂ d₂ (openIn t pool x) a₃ d₃ c o);
               told =
@@ -255,79 +148,36 @@ module _ (t pool : List ℕ) where
 
           -- ---- of a leaf
 
-          record Leafed (k : Kind) (v : Option Value) : Type 0 where
-            type : Leaf
-            val : Value
-            kind : k ≡ leaf type
-            some′ : v ≡ some val
-            is : IsValue type val
-
-          is-some : (k : Kind) (v : Option Value) → isGroup k ≡ false → OfKind values l k v → Leafed k v
-          is-some group v e o = absurd (true≢false e)
-          is-some choice v e o = absurd (true≢false e)
-          is-some (leaf f) none e o = absurd o
-          is-some (leaf f) (some u) e o = record { type = f; val = u; kind = refl; some′ = refl; is = o }
-
           module _ (y : b ≡ false) where
-            leafed : Leafed (rowAt l x .kind) (h .val)
-            leafed = is-some (rowAt l x .kind) (h .val) (sym sort ∙ y) (h .its .2)
+            abbrev its : Leafed t pool (rowAt l x .kind) (h .val)
+            its = leafed t pool so run i (w .stands) x ex n b eb y
 
-            f : Leaf
-            f = leafed .type
+            abbrev f : Leaf
+            f = its .type
 
-            u : Value
-            u = leafed .val
-
-            leaf-kind : kindOf (cell t x 2) (cell t x 3) (wordsIn t pool x) ≡ leaf f
-            unfolding f
-            leaf-kind = sym (kind-is t pool x (h .its .0) row-in) ∙ leafed .kind
-
-            leaf-ok : LeafOk f
-            unfolding f
-            leaf-ok = subst KindOk (leafed .kind) (so .well .kinds (rowAt l x .parent) x (record { first = h .its .0; last = h .its .1; parent = refl }))
-
-            counted : cell t x 15 ≡ wordCount (leaf f)
-            unfolding f
-            counted = so .derived x (h .its .1) .words ∙ ap wordCount (leafed .kind)
-
-            value-here : drop (i + 1) run ≡ valued u ++ (bytes values l (h .more) ++ (0 ∷ w .rest))
-            unfolding f u
-            value-here = h .behind ∙ ap₂ (λ (k : Kind) (v : Option Value). valueBytes values l k v ++ (bytes values l (h .more) ++ (0 ∷ w .rest))) (leafed .kind) (leafed .some′)
-
-            value-at : ValueAt t pool run x (i + 1) f u
-            unfolding f u
-            value-at = record { kind = leaf-kind; ok = leaf-ok; is = leafed .is; behind = bytes values l (h .more) ++ (0 ∷ w .rest); holds = value-here }
-
-            behind-value : drop (i + 1 + length (valued u)) run ≡ bytes values l (h .more) ++ (0 ∷ w .rest)
-            behind-value = sym (drop-drop (length (valued u)) (i + 1) run) ∙ ap (drop (length (valued u))) value-here ∙ drop-at (valued u) (bytes values l (h .more) ++ (0 ∷ w .rest)) (length (valued u)) refl
+            abbrev u : Value
+            u = its .val
 
             module _ (e : ℕ) (ee : e ≡ valueEnd (cell t x 2) (cell t x 3) (cell t x 15) run (i + 1)) where
-              end-is : e ≡ i + 1 + length (valued u)
-              unfolding f u
-              end-is =
-                  ee ∙ sym (ends-one (cell t x 2) (cell t x 3) (cell t x 15) (wordsIn t pool x) f leaf-ok counted leaf-kind run (i + 1) (i + 1 + length (valued u))
-                  (taken (record { value = u; is = leafed .is; here = value-here ∙ ap (λ (s : List ℕ). valued u ++ s) (sym behind-value); ends = refl })))
+              abbrev ends-at : e ≡ i + 1 + length (valued u)
+              ends-at = end-is t pool so run i (w .stands) x ex n b eb y e ee
 
               pub emit-less : i < e
-              emit-less = omega (arith, end-is)
+              emit-less = omega (arith, ends-at)
 
               module _ (small : length pool ≤ 65535) (p : ℕ) (ep : p ≡ cell t x 0) (a₂ : ℕ) (d₂ : List ℕ) (c : Puts d at (closes l 17 g p) a₂ d₂) (a₃ : ℕ) (d₃ : List ℕ) (o : LeafPut t pool run x (i + 1) d₂ a₂ a₃ d₃) where
                 leaf-is : leafIn t pool run x f u ≡ opens l x (coinOf u) ++ (render (textIn (scriptOf f u)) ++ shuts l x)
-                unfolding f u
                 leaf-is =
                     regroup (startIn t pool x) (coinText u) (ascii ">") (render (textIn (scriptOf f u)) ++ shutIn t pool x)
-                    ∙ ap₂ (λ (a s : List ℕ). a ++ (render (textIn (scriptOf f u)) ++ s)) (leaf-open t pool x (h .its .0) (h .its .1) f u (leafed .is)) (shut-is t pool x (h .its .0) (h .its .1))
+                    ∙ ap₂ (λ (a s : List ℕ). a ++ (render (textIn (scriptOf f u)) ++ s)) (leaf-open t pool x (h .its .0) (h .its .1) f u (its .is)) (shut-is t pool x (h .its .0) (h .its .1))
 
                 pub emit-leaf : Emitting run d₁ a₁ all d₃ p e a₃
-                unfolding tell f u
+                unfolding tell
                 emit-leaf =
-                    let q = o .value f u value-at in
+                    let q = o .value f u (value-at t pool so run i (w .stands) x ex n b eb y) in
                     let z = render (textIn (scriptOf f u)) in
                     record {
-                      left = h .more;
-                      rest = w .rest;
-                      here = ap (λ (r : ℕ). drop r run) end-is ∙ behind-value;
-                      fine = h .fines;
+                      stands = leaf-after t pool so run i (w .stands) x ex n b eb y e ee;
                       done = w .done ++ (closes l 17 g p ++ leafIn t pool run x f u);
                       put = puts-then d₁ a₁ (w .done) at d (closes l 17 g p ++ leafIn t pool run x f u) a₃ d₃ (w .put) (puts-then d at (closes l 17 g p) a₂ d₂ (leafIn t pool run x f u) a₃ d₃ c q);
                       told =
@@ -335,11 +185,11 @@ module _ (t pool : List ℕ) where
                           ∙ ap (λ (s : List ℕ). w .done ++ ((closes l 17 g p ++ s) ++ tell l p (h .more))) leaf-is
                           ∙ ap (λ (s : List ℕ). w .done ++ s) (spread (closes l 17 g p) (opens l x (coinOf u)) z (shuts l x) (tell l p (h .more)))
                           ∙ ap (λ (r : ℕ). w .done ++ (closes l 17 g r ++ (opens l x (coinOf u) ++ (z ++ (shuts l x ++ tell l r (h .more)))))) (parent p ep)
-                          ∙ ap (λ (k : Kind). w .done ++ (closes l 17 g (rowAt l x .parent) ++ (opens l x (coinOf u) ++ (render (textIn (inWords k u)) ++ (shuts l x ++ tell l (rowAt l x .parent) (h .more)))))) (sym (leafed .kind))
-                          ∙ ap (λ (v : Option Value). w .done ++ tell l g ((x, v) ∷ h .more)) (sym (leafed .some′))
+                          ∙ ap (λ (k : Kind). w .done ++ (closes l 17 g (rowAt l x .parent) ++ (opens l x (coinOf u) ++ (render (textIn (inWords k u)) ++ (shuts l x ++ tell l (rowAt l x .parent) (h .more)))))) (sym (its .kind))
+                          ∙ ap (λ (v : Option Value). w .done ++ tell l g ((x, v) ∷ h .more)) (sym (its .some′))
                           ∙ ap (λ (is : List (Item values)). w .done ++ tell l g is) (sym (h .is)) ∙ w .told;
-                      group = subst (λ (r : ℕ). r ≤ size l) (sym (parent p ep)) parent-in;
-                      low = omega (arith, w .low, c .behind, o .most, closes-most t pool small 17 g p, end-is);
+                      group = subst (λ (r : ℕ). r ≤ size l) (sym (parent p ep)) (row-parent-in t pool so run i (w .stands) x ex n);
+                      low = omega (arith, w .low, c .behind, o .most, closes-most t pool small 17 g p, ends-at);
                     }
 
 -- ---- the same of whatever content is held in the run, as the loop asks for it

@@ -7,7 +7,11 @@ pub mod Closing
 pub mod Tagging
 -- a leaf's element
 pub mod Leafing
+-- going over the items of an image
+pub mod Standing
 -- the pass over an image
 pub mod Emitting
+-- the first item that no file may say any more
+pub mod Passing
 -- what is written
 pub mod Writing

@@ -4,18 +4,18 @@ use mathlib.Core.Logic.{_≢_}
 use mathlib.Core.List.{List, _++_}
 use Prim.Native.Nat.{ℕ, _+_, _≤_, _<_}
 use native.Mathlib.Omega.{arith}
-use lib.ListN.{length, drop}
+use lib.ListN.{length, getD, drop}
 use lib.Seq.{drop-at}
 use Rattle.answer.specs.declared.Answer.{Answer}
-use Rattle.answer.specs.Table.{limit, accepted, noRoom, tooLarge}
+use Rattle.answer.specs.Table.{limit, accepted, noRoom, tooLarge, tooFine}
 use Rattle.text.specs.Puts.{Puts}
 use Rattle.text.proofs.Pasting.{pasted-yes}
 use Rattle.list.specs.Listing.{Listing}
-use Rattle.list.specs.Content.{Content, Meets}
+use Rattle.list.specs.Content.{Content, items, Meets}
 use Rattle.list.specs.Table.{listOf}
 use Rattle.list_house.specs.HouseTable.{housePool}
 use Rattle.value.specs.Value.{Value, IsValue}
-use Rattle.image.specs.Image.{body}
+use Rattle.image.specs.Image.{Item, body}
 use Rattle.image.specs.Kinds.{values}
 use Rattle.image.specs.Place.{Holds}
 use Rattle.image_reading.specs.declared.front.Reading.{Reading}
@@ -23,8 +23,10 @@ use Rattle.image_reading.specs.Reads.{HouseAccepts}
 use Rattle.image_reading.specs.Forms.{Begun, refuses, accepts}
 use Rattle.image_reading.proofs.House.{only, Says, begun-reads}
 use Rattle.file_letter.specs.Letter.{letterOf}
-use Rattle.file_letter.specs.Writes.{letterIn, large, short, delivered, Writes, unread, begun}
+use Rattle.file_letter.specs.Writes.{letterIn, large, short, delivered, Writes, unread, finer, begun}
+use Rattle.file_letter.specs.Stale.{NoneOf, FirstAt, Finer}
 use Rattle.file_write.specs.Emit.{Held, Emits}
+use Rattle.file_write.specs.Stale.{FirstFiner, clear, found, Stale}
 
 pool-small : length housePool ≤ 65535
 unfolding housePool
@@ -87,25 +89,55 @@ module _ (run : List ℕ) (x : Reading) (b : Begun run x) where
     pub write-long : (d : List ℕ) (r : ℕ) (d′ : List ℕ) → Emits t p run (x .from) d r d′ → length d′ ≡ length d
     write-long d r d′ e = puts-file d r d′ e .long
 
+    -- what was found of the items
+    module _ (r : ℕ) (s : Stale t p run (x .from) r) where
+      told : FirstFiner (o .image .list) run (length (o .image .head)) (items (o .image .holds .content)) r
+      unfolding l body-there c o
+      told =
+          subst (λ (m : Listing). FirstFiner m run (length (o .image .head)) (items (o .image .holds .content)) r) (sym same-list)
+          (subst (λ (j : ℕ). FirstFiner l run j (items (o .image .holds .content)) r) (o .from)
+          (subst (λ (q : List ℕ). Stale t q run (x .from) r) ep s (o .image .size) body-there))
+
+      pub write-there : r ≢ 0 → r < length run
+      write-there n = go told
+        where
+          go : FirstFiner (o .image .list) run (length (o .image .head)) (items (o .image .holds .content)) r → r < length run
+          go (clear z f) = absurd (n z)
+          go (found h k f) = k
+
+      pub write-finer : r ≢ 0 → (y : ℕ) → y ≡ getD run r 0 → (d : List ℕ) (a : Answer) → a ≡ tooFine y r → Writes run d a d
+      write-finer n y ey d a q = go told
+        where
+          go : FirstFiner (o .image .list) run (length (o .image .head)) (items (o .image .holds .content)) r → Writes run d a d
+          go (clear z f) = absurd (n z)
+          go (found h k f) = finer (o .lim) (o .long) (o .image) (getD run r 0) r f (q ∙ ap (λ (z : ℕ). tooFine z r) ey) refl
+
+      write-clear : r ≡ 0 → NoneOf Finer (items (o .image .holds .content))
+      write-clear z = go told
+        where
+          go : FirstFiner (o .image .list) run (length (o .image .head)) (items (o .image .holds .content)) r → NoneOf Finer (items (o .image .holds .content))
+          go (clear z f) = f
+          go (found h k f) = absurd (omega (arith, z))
+
     -- n bytes by the pass that measures
-    module _ (d₁ : List ℕ) (n : ℕ) (d₂ : List ℕ) (e : Emits t p run (x .from) d₁ n d₂) (d : List ℕ) (a : Answer) where
+    module _ (r₀ : ℕ) (s : Stale t p run (x .from) r₀) (z₀ : r₀ ≡ 0) (d₁ : List ℕ) (n : ℕ) (d₂ : List ℕ) (e : Emits t p run (x .from) d₁ n d₂) (d : List ℕ) (a : Answer) where
       length-is : n ≡ length file
       length-is = let f = puts-file d₁ n d₂ e in omega (arith, f .behind)
 
       pub write-large : limit < n → a ≡ tooLarge n → Writes run d a d
       unfolding file
-      write-large h q = begun (o .lim) (o .long) (o .image) (large (omega (arith, length-is)) (q ∙ ap tooLarge length-is) refl)
+      write-large h q = begun (o .lim) (o .long) (o .image) (write-clear r₀ s z₀) (large (omega (arith, length-is)) (q ∙ ap tooLarge length-is) refl)
 
       module _ (h : n ≤ limit) where
         pub write-short : length d < n → a ≡ noRoom n → Writes run d a d
         unfolding file
-        write-short k q = begun (o .lim) (o .long) (o .image) (short (omega (arith, length-is)) (omega (arith, length-is)) (q ∙ ap noRoom length-is) refl)
+        write-short k q = begun (o .lim) (o .long) (o .image) (write-clear r₀ s z₀) (short (omega (arith, length-is)) (omega (arith, length-is)) (q ∙ ap noRoom length-is) refl)
 
         pub write-whole : n ≤ length d → a ≡ accepted n → (r : ℕ) (d′ : List ℕ) → Emits t p run (x .from) d r d′ → Writes run d a d′
         unfolding file
         write-whole k q r d′ f =
             let k′ = puts-file d r d′ f in
-            let s : 0 + length file ≡ length file = omega arith in
-            begun (o .lim) (o .long) (o .image)
+            let zero-on : 0 + length file ≡ length file = omega arith in
+            begun (o .lim) (o .long) (o .image) (write-clear r₀ s z₀)
             (delivered (omega (arith, length-is)) (omega (arith, length-is)) (q ∙ ap accepted length-is)
-            (k′ .is (omega (arith, length-is)) ∙ pasted-yes d 0 file (omega (arith, length-is)) ∙ ap (λ (j : ℕ). file ++ drop j d) s))
+            (k′ .is (omega (arith, length-is)) ∙ pasted-yes d 0 file (omega (arith, length-is)) ∙ ap (λ (j : ℕ). file ++ drop j d) zero-on))

@@ -3,3 +3,5 @@
 pub mod Tags
 -- a mirror: a leaf's element, and what the pass puts
 pub mod Emit
+-- a mirror: the first item that no file may say any more
+pub mod Stale

@@ -14,7 +14,7 @@ use value_from_bytes::kinds::value_end;
 ghost use mathlib.Core.Path.{_≡_};
 ghost use Rattle.file_write.specs.Emit.{Held, Emits};
 
-fn wide(x: u8) -> usize
+pub(crate) fn wide(x: u8) -> usize
     ensures { λ r. ⌜ r ≡ x ⌝ }
 {
     x as usize

@@ -1,16 +1,19 @@
 // The statement file of the image that a run begins with: measured, then written into a lent buffer.
 use answer::Answer;
 use emit::emit;
+use emit::wide;
 use image_reading::first::reading;
 use list::lay::lay;
 use list_house::tables::pool;
 use list_house::tables::rows;
+use stale::first_stale;
 ghost use Rattle.file_letter.specs.Writes.{Writes};
 
 mod put; // put.rt: tags, put at a place
 mod close; // close.rt: the closing tags up to a group
 mod leaf; // leaf.rt: a leaf's element
 mod emit; // emit.rt: the file, item by item
+mod stale; // stale.rt: the first item that no file may say any more
 
 // The file is measured first, into a buffer of our own, so that a byte is written only where the whole file fits.
 pub fn write(run: &[u8], out: &mut [u8]) -> Answer
@@ -24,6 +27,10 @@ pub fn write(run: &[u8], out: &mut [u8]) -> Answer
     let mut table = [0u16; 4096];
     lay(&rows, &mut table);
     let pool = pool();
+    let stale = first_stale(&table, &pool, run, read.from);
+    if stale != 0 {
+        return Answer::too_fine(wide(run[stale]), stale);
+    }
     let mut nothing = [0u8; 1];
     let n = emit(&table, &pool, run, read.from, &mut nothing);
     let room = out.len();

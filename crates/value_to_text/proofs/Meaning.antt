@@ -223,7 +223,7 @@ codeOf group = 0
 codeOf choice = 1
 codeOf (leaf f) = code f
 
-kind-number : (c k : ℕ) (ws : List (List ℕ)) (f : Leaf) → kindOf c k ws ≡ leaf f → code f ≡ c
+pub kind-number : (c k : ℕ) (ws : List (List ℕ)) (f : Leaf) → kindOf c k ws ≡ leaf f → code f ≡ c
 kind-number c k ws f e = elim (decLt c 12) [
   | yes h ↦ sym (ap codeOf e) ∙ eqb-true (codeOf (kindOf c k ws)) c (classes.passes (λ x. eqb (codeOf (kindOf x k ws)) x) 0 12 refl c (omega arith) (omega arith))
   | no h ↦ let l : 12 ≤ c = omega arith in let z : group ≡ leaf f = sym (List·getD-eq-default (kinds k ws) group l) ∙ e in absurd (let y : _≡_ {A = ℕ} 0 1 = cc in omega arith)

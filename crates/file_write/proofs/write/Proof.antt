@@ -6,14 +6,16 @@ use native.Mathlib.Omega.{arith}
 use mathlib.Core.Path.{refl}
 use Rattle.list.proofs.Laid.{laid-over}
 use Rattle.image_reading.proofs.House.{laid-says}
-use Rattle.file_write.proofs.Writing.{write-unread, write-held, write-long, write-large, write-short, write-whole}
+use Rattle.file_write.proofs.Writing.{write-unread, write-held, write-there, write-finer, write-long, write-large, write-short, write-whole}
 
 reading-requires : tie.Need-reading-requires
 reading-requires c κs = search needs
 
 returns : tie.Need-returns
 returns c =
-    write-unread _ _ (c .before .before .before .reading .ensures) (c .before .if1 .taken) _
+    let at-if1 = c .before in
+    let at-reading = at-if1 .before .before in
+    write-unread _ _ (at-reading .reading .ensures) (at-if1 .if1 .taken) _
 
 rows-requires : tie.Need-rows-requires
 rows-requires c κs = search needs
@@ -27,6 +29,52 @@ lay-requires c κs = search needs
 pool-requires : tie.Need-pool-requires
 pool-requires c κs = search needs
 
+slice-aggregate-first-stale : tie.Need-slice-aggregate-first-stale
+slice-aggregate-first-stale c = search needs
+
+first-stale-requires : tie.Need-first-stale-requires
+first-stale-requires c κs =
+    let at-pool = c .before .before in
+    let at-lay = at-pool .before in
+    let at-rows = at-lay .before .before .before in
+    let at-if1 = at-rows .before in
+    let at-reading = at-if1 .before .before in
+    write-held _ _ (at-reading .reading .ensures) (omega (arith, at-if1 .if1 .left)) _
+    (laid-says _ (laid-over _ _ _ _ (at-rows .rows .ensures) refl (at-lay .lay .ensures))) _ (at-pool .pool .ensures)
+
+shared-slice-read-wide : tie.Need-shared-slice-read-wide
+shared-slice-read-wide c =
+    let at-if2 = c .before in
+    let at-first-stale = at-if2 .before in
+    let at-pool = at-first-stale .before .before .before in
+    let at-lay = at-pool .before in
+    let at-rows = at-lay .before .before .before in
+    let at-if1 = at-rows .before in
+    let at-reading = at-if1 .before .before in
+    write-there _ _ (at-reading .reading .ensures) (omega (arith, at-if1 .if1 .left)) _
+    (laid-says _ (laid-over _ _ _ _ (at-rows .rows .ensures) refl (at-lay .lay .ensures))) _ (at-pool .pool .ensures)
+    _ (at-first-stale .first-stale .ensures) (at-if2 .if2 .taken)
+
+wide-requires : tie.Need-wide-requires
+wide-requires c κs = search needs
+
+too-fine-requires : tie.Need-too-fine-requires
+too-fine-requires c κs = search needs
+
+returns-2 : tie.Need-returns-2
+returns-2 c =
+    let at-wide = c .before in
+    let at-if2 = at-wide .before .before in
+    let at-first-stale = at-if2 .before in
+    let at-pool = at-first-stale .before .before .before in
+    let at-lay = at-pool .before in
+    let at-rows = at-lay .before .before .before in
+    let at-if1 = at-rows .before in
+    let at-reading = at-if1 .before .before in
+    write-finer _ _ (at-reading .reading .ensures) (omega (arith, at-if1 .if1 .left)) _
+    (laid-says _ (laid-over _ _ _ _ (at-rows .rows .ensures) refl (at-lay .lay .ensures))) _ (at-pool .pool .ensures)
+    _ (at-first-stale .first-stale .ensures) (at-if2 .if2 .taken) _ (at-wide .wide .ensures) _ _ (c .too-fine .ensures)
+
 slice-aggregate-emit : tie.Need-slice-aggregate-emit
 slice-aggregate-emit c = search needs
 
@@ -35,7 +83,7 @@ slice-aggregate-emit-2 c = search needs
 
 emit-requires : tie.Need-emit-requires
 emit-requires c κs =
-    let at-pool = c .before .before .before in
+    let at-pool = c .before .before .before .before .before .before .before in
     let at-lay = at-pool .before in
     let at-rows = at-lay .before .before .before in
     let at-if1 = at-rows .before in
@@ -46,40 +94,46 @@ emit-requires c κs =
 too-large-requires : tie.Need-too-large-requires
 too-large-requires c κs = search needs
 
-returns-2 : tie.Need-returns-2
-returns-2 c =
-    let at-emit = c .before .before .before in
-    let at-pool = at-emit .before .before .before .before in
+returns-3 : tie.Need-returns-3
+returns-3 c =
+    let at-if3 = c .before in
+    let at-emit = at-if3 .before .before in
+    let at-if2 = at-emit .before .before .before .before in
+    let at-first-stale = at-if2 .before in
+    let at-pool = at-first-stale .before .before .before in
     let at-lay = at-pool .before in
     let at-rows = at-lay .before .before .before in
     let at-if1 = at-rows .before in
     let at-reading = at-if1 .before .before in
     write-large _ _ (at-reading .reading .ensures) (omega (arith, at-if1 .if1 .left)) _
-    (laid-says _ (laid-over _ _ _ _ (at-rows .rows .ensures) refl (at-lay .lay .ensures))) _ (at-pool .pool .ensures) _ _ _ (at-emit .emit .ensures) _
-    _ (c .before .if2 .taken) (c .too-large .ensures)
+    (laid-says _ (laid-over _ _ _ _ (at-rows .rows .ensures) refl (at-lay .lay .ensures))) _ (at-pool .pool .ensures)
+    _ (at-first-stale .first-stale .ensures) (at-if2 .if2 .left) _ _ _ (at-emit .emit .ensures) _ _ (at-if3 .if3 .taken) (c .too-large .ensures)
 
 no-room-requires : tie.Need-no-room-requires
 no-room-requires c κs = search needs
 
-returns-3 : tie.Need-returns-3
-returns-3 c =
-    let at-if2 = c .before .before in
-    let at-emit = at-if2 .before .before in
-    let at-pool = at-emit .before .before .before .before in
+returns-4 : tie.Need-returns-4
+returns-4 c =
+    let at-if4 = c .before in
+    let at-if3 = at-if4 .before in
+    let at-emit = at-if3 .before .before in
+    let at-if2 = at-emit .before .before .before .before in
+    let at-first-stale = at-if2 .before in
+    let at-pool = at-first-stale .before .before .before in
     let at-lay = at-pool .before in
     let at-rows = at-lay .before .before .before in
     let at-if1 = at-rows .before in
     let at-reading = at-if1 .before .before in
     write-short _ _ (at-reading .reading .ensures) (omega (arith, at-if1 .if1 .left)) _
-    (laid-says _ (laid-over _ _ _ _ (at-rows .rows .ensures) refl (at-lay .lay .ensures))) _ (at-pool .pool .ensures) _ _ _ (at-emit .emit .ensures) _
-    _ (omega (arith, at-if2 .if2 .left)) (c .before .if3 .taken) (c .no-room .ensures)
+    (laid-says _ (laid-over _ _ _ _ (at-rows .rows .ensures) refl (at-lay .lay .ensures))) _ (at-pool .pool .ensures)
+    _ (at-first-stale .first-stale .ensures) (at-if2 .if2 .left) _ _ _ (at-emit .emit .ensures) _ _ (omega (arith, at-if3 .if3 .left)) (at-if4 .if4 .taken) (c .no-room .ensures)
 
 slice-aggregate-emit-3 : tie.Need-slice-aggregate-emit-3
 slice-aggregate-emit-3 c = search needs
 
 emit-requires-2 : tie.Need-emit-requires-2
 emit-requires-2 c κs =
-    let at-pool = c .before .before .before .before .before .before .before .before .before .before in
+    let at-pool = c .before .before .before .before .before .before .before .before .before .before .before .before .before .before in
     let at-lay = at-pool .before in
     let at-rows = at-lay .before .before .before in
     let at-if1 = at-rows .before in
@@ -93,28 +147,32 @@ accepted-requires c κs = search needs
 same-length : tie.Need-same-length
 same-length c =
     let at-emit2 = c .before .before .before in
-    let at-pool = at-emit2 .before .before .before .before .before .before .before .before .before .before .before in
+    let at-pool = at-emit2 .before .before .before .before .before .before .before .before .before .before .before .before .before .before .before in
     let at-lay = at-pool .before in
     let at-rows = at-lay .before .before .before in
     let at-if1 = at-rows .before in
     let at-reading = at-if1 .before .before in
     write-long _ _ (at-reading .reading .ensures) (omega (arith, at-if1 .if1 .left)) _
-    (laid-says _ (laid-over _ _ _ _ (at-rows .rows .ensures) refl (at-lay .lay .ensures))) _ (at-pool .pool .ensures) _ _ _ (at-emit2 .emit2 .ensures)
+    (laid-says _ (laid-over _ _ _ _ (at-rows .rows .ensures) refl (at-lay .lay .ensures))) _ (at-pool .pool .ensures) _ _ _
+    (at-emit2 .emit2 .ensures)
 
-returns-4 : tie.Need-returns-4
-returns-4 c =
+returns-5 : tie.Need-returns-5
+returns-5 c =
     let at-emit2 = c .before .before .before in
-    let at-if3 = at-emit2 .before .before .before .before in
-    let at-if2 = at-if3 .before in
-    let at-emit = at-if2 .before .before in
-    let at-pool = at-emit .before .before .before .before in
+    let at-if4 = at-emit2 .before .before .before .before in
+    let at-if3 = at-if4 .before in
+    let at-emit = at-if3 .before .before in
+    let at-if2 = at-emit .before .before .before .before in
+    let at-first-stale = at-if2 .before in
+    let at-pool = at-first-stale .before .before .before in
     let at-lay = at-pool .before in
     let at-rows = at-lay .before .before .before in
     let at-if1 = at-rows .before in
     let at-reading = at-if1 .before .before in
     write-whole _ _ (at-reading .reading .ensures) (omega (arith, at-if1 .if1 .left)) _
-    (laid-says _ (laid-over _ _ _ _ (at-rows .rows .ensures) refl (at-lay .lay .ensures))) _ (at-pool .pool .ensures) _ _ _ (at-emit .emit .ensures) _
-    _ (omega (arith, at-if2 .if2 .left)) (omega (arith, at-if3 .if3 .left)) (c .accepted .ensures) _ _ (at-emit2 .emit2 .ensures)
+    (laid-says _ (laid-over _ _ _ _ (at-rows .rows .ensures) refl (at-lay .lay .ensures))) _ (at-pool .pool .ensures)
+    _ (at-first-stale .first-stale .ensures) (at-if2 .if2 .left) _ _ _ (at-emit .emit .ensures) _ _ (omega (arith, at-if3 .if3 .left))
+    (omega (arith, at-if4 .if4 .left)) (c .accepted .ensures) _ _ (at-emit2 .emit2 .ensures)
 
 pub write-spec : {M : Type 1} → statement M
 write-spec =
@@ -126,15 +184,21 @@ write-spec =
     slice-aggregate-lay
     lay-requires
     pool-requires
+    slice-aggregate-first-stale
+    first-stale-requires
+    shared-slice-read-wide
+    wide-requires
+    too-fine-requires
+    returns-2
     slice-aggregate-emit
     slice-aggregate-emit-2
     emit-requires
     too-large-requires
-    returns-2
-    no-room-requires
     returns-3
+    no-room-requires
+    returns-4
     slice-aggregate-emit-3
     emit-requires-2
     accepted-requires
     same-length
-    returns-4)
+    returns-5)

@@ -1,0 +1,184 @@
+-- `stale::first_stale` meets its contract. Assumes nothing.
+use mathlib.Core.Path.{_≡_}
+use Prim.Native.Nat.{_-_}
+use native.Mathlib.Omega.{arith}
+use lib.ListN.{length}
+use borrow.Author.Needs.{needs}
+use Rattle.file_write.proofs.stale.first_stale.Statement.{statement}
+use Rattle.file_write.proofs.stale.first_stale.Tie as tie
+use Rattle.file_write.proofs.Passing.{PassingOn, stale-start, stale-first, stale-in, stale-clear, stale-group, stale-found, stale-leaf, stale-less}
+
+abbrev Inv-loop : tie.InvT-loop
+Inv-loop rows pool run from i₀ i = PassingOn rows pool run from i
+
+abbrev μ-loop : tie.MeasureT-loop
+μ-loop rows pool run from i₀ i = length run - i
+
+add-i : tie.Need-add-i Inv-loop μ-loop
+add-i c =
+    let start = c .before .before in
+    omega (arith, stale-start _ _ _ _ (start .pre))
+
+loop-holds : tie.Need-loop-holds Inv-loop μ-loop
+loop-holds c =
+    let start = c .before .before in
+    stale-first _ _ _ _ (start .pre)
+
+shared-slice-read-wide : tie.Need-shared-slice-read-wide Inv-loop μ-loop
+shared-slice-read-wide c =
+    let at-loop = c .before in
+    let start = at-loop .before .before .before in
+    stale-in _ _ _ _ (start .pre) _ (at-loop .loop .inv)
+
+wide-requires : tie.Need-wide-requires Inv-loop μ-loop
+wide-requires c κs =
+    search needs
+
+returns : tie.Need-returns Inv-loop μ-loop
+returns c =
+    let at-if1 = c in
+    let at-wide = at-if1 .before in
+    let at-loop = at-wide .before .before in
+    let start = at-loop .before .before .before in
+    stale-clear _ _ _ _ (start .pre) _ (at-loop .loop .inv) _ (at-wide .wide .ensures) (at-if1 .if1 .taken)
+
+cell-requires : tie.Need-cell-requires Inv-loop μ-loop
+cell-requires c κs =
+    search needs
+
+is-group-requires : tie.Need-is-group-requires Inv-loop μ-loop
+is-group-requires c κs =
+    search needs
+
+add-i-2 : tie.Need-add-i-2 Inv-loop μ-loop
+add-i-2 c =
+    let at-loop = c .before .before .before .before .before .before .before in
+    let start = at-loop .before .before .before in
+    omega (arith, stale-in _ _ _ _ (start .pre) _ (at-loop .loop .inv), start .pre .within)
+
+loop-less : tie.Need-loop-less Inv-loop μ-loop
+loop-less c =
+    let at-loop = c .before .before .before .before .before .before .before in
+    let start = at-loop .before .before .before in
+    omega (arith, stale-in _ _ _ _ (start .pre) _ (at-loop .loop .inv))
+
+loop-again : tie.Need-loop-again Inv-loop μ-loop
+loop-again c =
+    let at-if2 = c in
+    let at-is-group = at-if2 .before in
+    let at-cell = at-is-group .before in
+    let at-if1 = at-cell .before .before in
+    let at-wide = at-if1 .before in
+    let at-loop = at-wide .before .before in
+    let start = at-loop .before .before .before in
+    stale-group _ _ _ _ (start .pre) _ (at-loop .loop .inv) _ (at-wide .wide .ensures) (at-if1 .if1 .left) _ (at-cell .cell .ensures) _ (at-is-group .is-group .ensures) (at-if2 .if2 .taken)
+
+add-is-finer : tie.Need-add-is-finer Inv-loop μ-loop
+add-is-finer c =
+    let at-loop = c .before .before .before .before .before .before .before in
+    let start = at-loop .before .before .before in
+    omega (arith, stale-in _ _ _ _ (start .pre) _ (at-loop .loop .inv), start .pre .within)
+
+is-finer-requires : tie.Need-is-finer-requires Inv-loop μ-loop
+is-finer-requires c κs =
+    let at-loop = c .before .before .before .before .before .before .before in
+    let start = at-loop .before .before .before in
+    omega (arith, stale-in _ _ _ _ (start .pre) _ (at-loop .loop .inv), start .pre .within)
+
+returns-2 : tie.Need-returns-2 Inv-loop μ-loop
+returns-2 c =
+    let at-if3 = c in
+    let at-is-finer = at-if3 .before in
+    let at-if2 = at-is-finer .before in
+    let at-is-group = at-if2 .before in
+    let at-cell = at-is-group .before in
+    let at-if1 = at-cell .before .before in
+    let at-wide = at-if1 .before in
+    let at-loop = at-wide .before .before in
+    let start = at-loop .before .before .before in
+    stale-found _ _ _ _ (start .pre) _ (at-loop .loop .inv) _ (at-wide .wide .ensures) (at-if1 .if1 .left) _ (at-cell .cell .ensures) _ (at-is-group .is-group .ensures)
+    (at-if2 .if2 .left) _ (at-is-finer .is-finer .ensures) (at-if3 .if3 .taken)
+
+cell-requires-2 : tie.Need-cell-requires-2 Inv-loop μ-loop
+cell-requires-2 c κs =
+    search needs
+
+cell-requires-3 : tie.Need-cell-requires-3 Inv-loop μ-loop
+cell-requires-3 c κs =
+    search needs
+
+add-value-end : tie.Need-add-value-end Inv-loop μ-loop
+add-value-end c =
+    let at-loop = c .before .before .before .before .before .before .before .before .before .before .before .before .before in
+    let start = at-loop .before .before .before in
+    omega (arith, stale-in _ _ _ _ (start .pre) _ (at-loop .loop .inv), start .pre .within)
+
+value-end-requires : tie.Need-value-end-requires Inv-loop μ-loop
+value-end-requires c κs =
+    search needs
+
+loop-less-2 : tie.Need-loop-less-2 Inv-loop μ-loop
+loop-less-2 c =
+    let at-value-end = c in
+    let at-cell3 = at-value-end .before in
+    let at-cell2 = at-cell3 .before .before in
+    let at-if3 = at-cell2 .before .before in
+    let at-is-finer = at-if3 .before in
+    let at-if2 = at-is-finer .before in
+    let at-is-group = at-if2 .before in
+    let at-cell = at-is-group .before in
+    let at-if1 = at-cell .before .before in
+    let at-wide = at-if1 .before in
+    let at-loop = at-wide .before .before in
+    let start = at-loop .before .before .before in
+    omega (
+      arith,
+      stale-in _ _ _ _ (start .pre) _ (at-loop .loop .inv),
+      stale-less _ _ _ _ (start .pre) _ (at-loop .loop .inv) _ (at-wide .wide .ensures) (at-if1 .if1 .left) _ (at-cell .cell .ensures) _ (at-is-group .is-group .ensures)
+          (at-if2 .if2 .left) _ (at-is-finer .is-finer .ensures)
+          (at-if3 .if3 .left) _ (at-cell2 .cell2 .ensures) _ (at-cell3 .cell3 .ensures) _ (at-value-end .value-end .ensures .0),
+    )
+
+loop-again-2 : tie.Need-loop-again-2 Inv-loop μ-loop
+loop-again-2 c =
+    let at-value-end = c in
+    let at-cell3 = at-value-end .before in
+    let at-cell2 = at-cell3 .before .before in
+    let at-if3 = at-cell2 .before .before in
+    let at-is-finer = at-if3 .before in
+    let at-if2 = at-is-finer .before in
+    let at-is-group = at-if2 .before in
+    let at-cell = at-is-group .before in
+    let at-if1 = at-cell .before .before in
+    let at-wide = at-if1 .before in
+    let at-loop = at-wide .before .before in
+    let start = at-loop .before .before .before in
+    stale-leaf _ _ _ _ (start .pre) _ (at-loop .loop .inv) _ (at-wide .wide .ensures) (at-if1 .if1 .left) _ (at-cell .cell .ensures) _ (at-is-group .is-group .ensures)
+    (at-if2 .if2 .left) _ (at-is-finer .is-finer .ensures)
+    (at-if3 .if3 .left) _ (at-cell2 .cell2 .ensures) _ (at-cell3 .cell3 .ensures) _ (at-value-end .value-end .ensures .0)
+
+pub first-stale-spec : {M : Type 1} → statement M
+first-stale-spec =
+    tie.close
+    (tie.spec
+    Inv-loop
+    μ-loop
+    add-i
+    loop-holds
+    shared-slice-read-wide
+    wide-requires
+    returns
+    cell-requires
+    is-group-requires
+    add-i-2
+    loop-less
+    loop-again
+    add-is-finer
+    is-finer-requires
+    returns-2
+    cell-requires-2
+    cell-requires-3
+    add-value-end
+    value-end-requires
+    loop-less-2
+    loop-again-2)
