@@ -5,5 +5,7 @@ pub mod Exporting
 pub mod Picking
 -- one item of an image
 pub mod Standing
+-- the items of an image one after the other
+pub mod Walking
 -- what the programs need of check's answers
 pub mod Programs
