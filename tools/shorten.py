@@ -140,6 +140,18 @@ def hinted(facts):
     return [*lines, ')']
 
 
+def terms(lines):
+    """The lines of a file by terms: one that goes on with what the line before it began belongs to that."""
+    term = []
+    for line in lines:
+        goes_on = term and line.startswith('    ') and term[-1].startswith('    ') and not term[-1].endswith((',', '(', '{', ' in', ' ='))
+        if term and not goes_on:
+            yield term
+            term = []
+        term.append(line)
+    yield term
+
+
 def main(words):
     if not words:
         sys.exit(__doc__)
@@ -157,8 +169,12 @@ def main(words):
         print(f'shorten: {len(found)} lines of proofs are longer than {LONGEST} characters, {len(spared)} files are excepted, {len(faults)} faults')
         sys.exit(1 if faults else 0)
     for file in map(pathlib.Path, words):
-        lines = file.read_text().split('\n')
-        file.write_text('\n'.join(part for line in lines for part in (shortened(line) if len(line) > LONGEST else [line])))
+        lines = []
+        for term in terms(file.read_text().split('\n')):
+            if any(len(line) > LONGEST for line in term):
+                term = shortened(' '.join([term[0], *(line.strip() for line in term[1:])]))
+            lines += term
+        file.write_text('\n'.join(lines))
 
 
 if __name__ == '__main__':
