@@ -3,8 +3,9 @@
 
 Every page: a file that it names is there, and prose is at most 100 columns wide. docs/ARCHITECTURE.md has a row for each crate.
 docs/DECISIONS.md has each decision once, and those that pages name. docs/RULES.md: a definition stands in a file of its section, and
-each file of docs/BELIEVE.md but a mirror is in some section. docs/CODES.md: numbers and names are those of `answer`, of the C header and
-of `grade`, and each example gets the code that examples/ANSWERS.txt says.
+each file of docs/BELIEVE.md but a mirror is in some section. docs/CODES.md: numbers and names are those of `answer`, of the C header, of
+`grade` and of the Python module, and each example gets the code that examples/ANSWERS.txt says. docs/GLOSSARY.md: each word
+once, the types and the number of rows as tools/lists has them.
 """
 import pathlib
 import re
@@ -12,6 +13,9 @@ import sys
 
 sys.dont_write_bytecode = True
 import believe  # noqa: E402
+
+sys.path.insert(0, str(pathlib.Path(__file__).resolve().parent.parent / 'tools' / 'lists'))
+import source  # noqa: E402
 
 ROOT = pathlib.Path(__file__).resolve().parent.parent
 CRATES = ROOT / 'crates'
@@ -87,6 +91,7 @@ def codes():
     known = {int(n): name for name, n in re.findall(r'pub const (\w+): u8 = (\d+);', source)}
     header = {int(n): name for name, n in re.findall(r'\bKTO_(?!\w*ROW_)(\w+) = (\d+)', (ROOT / 'include' / 'kto.h').read_text())}
     graded = {int(n): name for n, name in re.findall(r'\((\d+), "(\w+)"\)', (ROOT / 'bench/tools/src/grade/names.rs').read_text())}
+    python = {int(n): name for n, name in re.findall(r"^    (\d+): '(\w+)',$", (ROOT / 'examples/python/kto.py').read_text(), re.M)}
     answers = dict(re.findall(r'^(\S+\.xml) +(\d+) ', (ROOT / 'examples' / 'ANSWERS.txt').read_text(), re.M))
     seen, shown = set(), set()
     for cells in rows((DOCS / 'CODES.md').read_text()):
@@ -98,19 +103,35 @@ def codes():
             yield f'{code} is {known.get(code)} in answer, not {name}'
         if header.get(code, name) != name:
             yield f'{code} is KTO_{header[code]} in include/kto.h, not KTO_{name}'
+        if python.get(code, name) != name:
+            yield f'{code} is {python[code]} in examples/python/kto.py, not {name}'
         if graded.get(code) != name:
             yield f'{code} is {graded.get(code)} in bench/tools/src/grade/names.rs, not {name}'
         for example in ticked(' '.join(cells[6:])):
             shown.add(example)
             if answers.get(example) != str(code):
                 yield f'{example} gets {answers.get(example)}, not {code}'
-    yield from (f'{code}: not in the tables' for code in sorted((set(known) | set(header) | set(graded)) - seen))
+    yield from (f'{code}: not in the tables' for code in sorted((set(known) | set(header) | set(graded) | set(python)) - seen))
     yield from (f'{file}: not in the tables' for file in sorted(answers) if file.startswith('damaged/') and file not in shown)
+
+
+def glossary():
+    meaning = {}
+    for word, *rest in rows((DOCS / 'GLOSSARY.md').read_text()):
+        for each in () if word == 'Word' else word.split(', '):
+            if each in meaning:
+                yield f'{each}: stands there more than once'
+            meaning[each] = ' '.join(rest)
+    house = source.read(ROOT / 'tools' / 'lists')[0]
+    types = {kind.removesuffix('k') for kind in re.findall(r'[A-Z]+k?', meaning.get('type', '').partition(':')[2])}
+    yield from (f'type: {kind} is not among them, or no type of tools/lists' for kind in sorted(types ^ set(source.KINDS[2:])))
+    if f'{len(house.rows)} rows' not in meaning.get('list', ''):
+        yield f'list: the house list has {len(house.rows)} rows'
 
 
 def main():
     faults = [f'{page.relative_to(ROOT)}: {fault}' for page in pages() for check in (paths, width) for fault in check(page)]
-    for name, check in (('ARCHITECTURE', architecture), ('DECISIONS', decisions), ('RULES', rules), ('CODES', codes)):
+    for name, check in (('ARCHITECTURE', architecture), ('DECISIONS', decisions), ('RULES', rules), ('CODES', codes), ('GLOSSARY', glossary)):
         faults += [f'docs/{name}.md: {fault}' for fault in check()]
     for fault in faults:
         print(f'pages: {fault}')

@@ -1,11 +1,14 @@
 /* kto.h: the reconciliation unit for C.
  *
- * Four calls: a statement file (camt.053.001.08, Austrian subset) is checked and its record image written; a run of bytes is read as an image;
- * a value is picked from an image; the statement file of an image is written. Link with libunit.a (x86-64 Linux); it needs the C library and
- * nothing else.
+ * A statement file (camt.053.001.08, Austrian subset) is checked and its record image written (kto_check, kto_size); a run of bytes is read as
+ * an image (kto_read); a value is picked from an image (kto_pick); an image is gone over item by item (kto_item);
+ * the statement file of an image is written (kto_write). What an image's bytes say
+ * is docs/IMAGE.md, what the codes say docs/CODES.md, the rows docs/LIST.md; examples/c/entries.c prints the entries of a statement. Link with
+ * libunit.a, which `rt staticlib unit` makes (x86-64 Linux); it needs the C library and nothing else.
  *
  * Every call takes any bytes and any numbers. There is nothing to set up, no memory is allocated, nothing is kept between calls, and
- * calls from several threads do not meet as long as they lend different buffers.
+ * calls from several threads do not meet as long as they lend different buffers. What a call uses of the stack does not hang on what is lent:
+ * at most 9,520 bytes were seen (docs/SPEED.md); leave it 16 KiB.
  *
  * What is lent. A buffer is a pointer and its length in bytes. While a call runs, nobody else may change what is lent for reading, or read or
  * change what is lent for writing, and what is lent for writing may not overlap anything else that is lent to the same call. Of a
@@ -14,6 +17,15 @@
  *
  * What comes back. The result is the code: KTO_ACCEPTED, or the number of the one refusal. With it go a row (the number of the element in the
  * house list, 0 for none) and a place (a byte offset, from 0).
+ *
+ * A run of more than KTO_LIMIT bytes. kto_read and kto_pick refuse one with KTO_TOO_LONG. No image that kto_check writes is longer than its
+ * file, so lend them of such a run what they can take, and go on from image to image:
+ *
+ *     for (uint64_t at = 0; at < len; at += place) {
+ *         uint64_t lent = len - at < KTO_LIMIT ? len - at : KTO_LIMIT;
+ *         if (kto_read(run + at, lent, &place) != KTO_ACCEPTED)
+ *             break;
+ *     }
  */
 #ifndef KTO_H
 #define KTO_H
@@ -34,7 +46,7 @@ enum {
     KTO_NOT_UTF8 = 2,          /* place: the start of the first bad sequence */
     KTO_NOT_HOUSE_XML = 3,     /* place: the most leading bytes that still begin some good text */
     KTO_WRONG_ROOT = 4,
-    KTO_NO_CHILD = 5,          /* row: the parent's */
+    KTO_NOT_A_CHILD = 5,       /* row: the parent's */
     KTO_OUT_OF_ORDER = 6,
     KTO_TOO_MANY = 7,
     KTO_ABSENT = 8,            /* row: the lowest absent one; place: its parent's */
@@ -47,7 +59,7 @@ enum {
     /* of a run */
     KTO_NO_HEADER = 15,
     KTO_WRONG_VERSION = 16,
-    KTO_BROKEN_IMAGE = 17,     /* place: behind the most whole items that begin some image */
+    KTO_BROKEN_IMAGE = 17,     /* place: after the most whole items that begin some image; of kto_item: from */
     /* of a pick */
     KTO_NO_SUCH_LEAF = 18,
     /* of a file that is to be written */
@@ -118,7 +130,7 @@ enum {
 
 /* Checks the file in[0 .. in_len) and writes its image into out.
  *
- * KTO_ACCEPTED: out[0 .. *place) is the image, the bytes of out behind it are as they were, *row is 0.
+ * KTO_ACCEPTED: out[0 .. *place) is the image, the bytes of out after it are as they were, *row is 0.
  * Any other code: no byte of out is changed. Of the codes 4 to 13, *row is the element's row and *place its '<', but for what is said at the code.
  *
  * A buffer as long as the file is always long enough: an image is never longer than its file. A shorter one is safe: where the image
@@ -126,7 +138,13 @@ enum {
  */
 uint64_t kto_check(const uint8_t *in, uint64_t in_len, uint8_t *out, uint64_t out_len, uint64_t *row, uint64_t *place);
 
-/* Reads the image that run[0 .. run_len) begins with; what stands behind it does not matter.
+/* The buffer that a file needs: kto_check's answer to one that is long enough, and no byte is written.
+ *
+ * KTO_ACCEPTED: *place is the image's length, *row is 0. Any other code is 1 to 13, with row and place as kto_check has them.
+ */
+uint64_t kto_size(const uint8_t *in, uint64_t in_len, uint64_t *row, uint64_t *place);
+
+/* Reads the image that run[0 .. run_len) begins with; what stands after it does not matter.
  *
  * KTO_ACCEPTED: *place is its length. To go over a run of images, call again with run + *place and run_len - *place.
  * Any other code is 1, 15, 16 or 17, and *place says where.
@@ -137,8 +155,9 @@ uint64_t kto_read(const uint8_t *run, uint64_t run_len, uint64_t *place);
  *
  * KTO_ACCEPTED: the value is run[*place .. *place + *len), a part of the run that was lent, without row byte and text length. It is not copied:
  * it lives as long as the run does.
- * Any other code: *len is 0. The whole image is judged first, so an image that is broken behind the value is refused as kto_read refuses it;
- * KTO_NO_SUCH_LEAF (*place 0) where the row is no leaf or has no such item. Any row and any n are safe.
+ * Any other code: *len is 0. The whole image is judged first, so an image that is broken after the value is refused as kto_read refuses it;
+ * KTO_NO_SUCH_LEAF (*place 0) where the row is no leaf or has no such item. Any row and any n are safe. To see every value, or which values
+ * belong to one entry, use kto_item: each call of kto_pick goes over the whole image.
  */
 uint64_t kto_pick(const uint8_t *run, uint64_t run_len, uint64_t row, uint64_t n, uint64_t *place, uint64_t *len);
 
@@ -151,6 +170,20 @@ uint64_t kto_pick(const uint8_t *run, uint64_t run_len, uint64_t row, uint64_t n
  * file that the image was made from.
  */
 uint64_t kto_write(const uint8_t *run, uint64_t run_len, uint8_t *out, uint64_t out_len, uint64_t *row, uint64_t *place);
+
+/* Says which item stands at a place of the image that run[0 .. run_len) begins with.
+ *
+ * KTO_ACCEPTED: *row is the item's row, and its value is run[*place .. *place + *size), as kto_pick hands it out. A group has no value: *size is 0.
+ * *row is 0 at the closing byte. The next item stands at *place + *size; after the closing byte that is the image's end.
+ * KTO_BROKEN_IMAGE: no whole item of the list stands there; *row and *size are 0, *place is from. So it is at the run's end and past it.
+ *
+ * That item alone is judged, not the header, nor what stands before it, nor whether it may come there. So call kto_read first, and then this from
+ * KTO_ITEMS on, until *row is 0: that goes over the image once, whatever its length. Any from and any run_len are safe.
+ */
+uint64_t kto_item(const uint8_t *run, uint64_t run_len, uint64_t from, uint64_t *row, uint64_t *place, uint64_t *size);
+
+/* Where the first item of an image stands: after `KTO` and the version. */
+#define KTO_ITEMS 5
 
 #ifdef __cplusplus
 }

@@ -83,6 +83,30 @@ static void writes(const char *what, const uint8_t *run, uint64_t length, uint64
     }
 }
 
+static void sizes(const char *what, const char *text, uint64_t length, uint64_t code, uint64_t row, uint64_t place) {
+    uint64_t r = 77, p = 77;
+    printf("c: size of %s\n", what);
+    same("the code", kto_size((const uint8_t *)text, length, &r, &p), code);
+    same("the row", r, row);
+    same("the place", p, place);
+}
+
+static void item(uint64_t length, uint64_t from, uint64_t code, uint64_t row, uint64_t place, uint64_t size) {
+    uint64_t r = 77, p = 77, s = 77;
+    printf("c: item at %llu of %llu\n", (unsigned long long)from, (unsigned long long)length);
+    same("the code", kto_item(image, length, from, &r, &p, &s), code);
+    same("the row", r, row);
+    same("the place", p, place);
+    same("the size", s, size);
+}
+
+/* The items of the example as docs/IMAGE.md takes it apart: place of the row byte, row, where the value's own bytes begin, how many they are. */
+static const uint64_t apart[][4] = {
+    {5, 1, 6, 0},    {6, 2, 7, 0},    {7, 3, 8, 0},    {8, 4, 11, 2},   {13, 5, 14, 13}, {27, 6, 28, 0},   {28, 7, 31, 2},
+    {33, 9, 34, 0},  {34, 10, 35, 0}, {35, 12, 36, 0}, {36, 13, 39, 1}, {40, 15, 41, 0}, {41, 16, 42, 0},  {42, 17, 43, 0},
+    {43, 18, 44, 1}, {45, 19, 46, 12}, {58, 20, 59, 1}, {60, 21, 61, 0}, {61, 22, 62, 4}, {66, 0, 67, 0},
+};
+
 int main(void) {
     uint64_t length = sizeof whole - 1;
     checks("nothing", "", 0, sizeof out, KTO_NOT_HOUSE_XML, 0, 0);
@@ -119,6 +143,26 @@ int main(void) {
     writes("all but the image's last byte", image, 66, sizeof out, KTO_BROKEN_IMAGE, 66);
     writes("nothing", image, 0, sizeof out, KTO_NO_HEADER, 0);
     writes("a run that is too long", large, sizeof large, sizeof out, KTO_TOO_LONG, KTO_LIMIT);
+
+    sizes("the whole example", whole, length, KTO_ACCEPTED, 0, 67);
+    sizes("<a></b>", "<a></b>", 7, KTO_NOT_HOUSE_XML, 0, 5);
+    sizes("<Document/>", "<Document/>", 11, KTO_WRONG_ROOT, 1, 0);
+    sizes("a file that is too long", (const char *)large, sizeof large, KTO_TOO_LONG, 0, KTO_LIMIT);
+
+    uint64_t from = KTO_ITEMS;
+    for (uint64_t i = 0; i < sizeof apart / sizeof *apart; i++) {
+        same("the next item's place", apart[i][0], from);
+        item(sizeof image, from, KTO_ACCEPTED, apart[i][1], apart[i][2], apart[i][3]);
+        from = apart[i][2] + apart[i][3];
+    }
+    same("the image's end", from, sizeof image);
+    item(sizeof image, 0, KTO_BROKEN_IMAGE, 0, 0, 0);                   /* 75 is no row */
+    item(sizeof image, 11, KTO_BROKEN_IMAGE, 0, 11, 0);                 /* nor is 77, the M of M1 */
+    item(sizeof image, 12, KTO_ACCEPTED, 49, 13, 0);                    /* its 1 is 49, a group's row: an item is judged alone */
+    item(56, 45, KTO_BROKEN_IMAGE, 0, 45, 0);                           /* an amount that is cut short */
+    item(sizeof image, sizeof image, KTO_BROKEN_IMAGE, 0, sizeof image, 0);
+    item(sizeof image, UINT64_MAX, KTO_BROKEN_IMAGE, 0, UINT64_MAX, 0);
+    item(0, 0, KTO_BROKEN_IMAGE, 0, 0, 0);
 
     printf("c: %d faults\n", faults);
     return faults != 0;

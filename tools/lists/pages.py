@@ -1,8 +1,10 @@
-"""The lists for people: the names of rows in include/kto.h, and docs/LIST.md."""
+"""The lists for people: the names of rows in include/kto.h, the rows in examples/python/kto.py, and docs/LIST.md."""
 import textwrap
 
 BEGIN = '/* The rows of the house list (docs/LIST.md). Written by tools/lists/make, from here .. */'
 END = '/* .. to here. */'
+PYTHON_BEGIN = '# The rows of the house list: path, kind, and of an ENUM its words. Written by tools/lists/make, from here ..'
+PYTHON_END = '# .. to here.'
 
 # How many bytes a value has in an image (document 01, "Content and its image").
 BYTES = {'REF': '2 + 1 to 35', 'IBAN': '2 + 5 to 34', 'CCY': '2 + 3', 'BOOL': '1', 'NUM': '8', 'AMT': '12', 'DATE': '4', 'DTM': '13'}
@@ -15,7 +17,7 @@ WHAT = (
 COLUMNS = (
     'Count: how often the element stands in its parent, n without a limit; a child of a choice has none. '
     'Kind: G is a group in sequence, C a group that is a choice of exactly one child, the others are types. '
-    "Bytes: those of a value in an image, behind its row byte. A text has two bytes of length before it, and each of a TXT's characters "
+    "Bytes: those of a value in an image, after its row byte. A text has two bytes of length before it, and each of a TXT's characters "
     'has one to three; an ENUM has the place of its word.'
 )
 
@@ -51,11 +53,23 @@ def header(lists, text):
         blocks.append('\n'.join(['enum {', *lines, '};']))
     if len(set(names)) < len(names):
         raise SystemExit('lists: two rows have one name for C')
-    before, _, rest = text.partition(BEGIN)
-    _, _, behind = rest.partition(END)
-    if not behind:
-        raise SystemExit('lists: include/kto.h has lost the marks between which its rows stand')
-    return before + '\n'.join([BEGIN, '\n\n'.join(blocks), END]) + behind
+    return between('include/kto.h', text, BEGIN, '\n\n'.join(blocks), END)
+
+
+def between(name, text, begin, new, end):
+    """A file's text with something new between its two marks."""
+    before, _, rest = text.partition(begin)
+    _, _, after = rest.partition(end)
+    if not after:
+        raise SystemExit(f'lists: {name} has lost the marks between which its rows stand')
+    return before + '\n'.join([begin, new, end]) + after
+
+
+def module(lists, text):
+    """examples/python/kto.py with the rows of the first list between its two marks."""
+    found = lists[0]
+    lines = [f'    {row.number}: {("/".join(found.path(row.number)), kind(row), *row.words)!r},' for row in found.rows]
+    return between('examples/python/kto.py', text, PYTHON_BEGIN, '\n'.join(['ROWS = {', *lines, '}']), PYTHON_END)
 
 
 def paragraph(text):

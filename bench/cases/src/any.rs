@@ -7,7 +7,7 @@ use crate::feed::Case;
 use crate::message::chosen::EVERY_ROW;
 use crate::message::{damage, valid, Draft, Size, Style};
 use crate::random::Random;
-use crate::runs::{damaged, filled, image_of};
+use crate::runs::{damaged, filled, image_of, with_microseconds};
 use crate::{writes, xml};
 
 /// What a case is for.
@@ -299,7 +299,22 @@ fn image(random: &mut Random) -> Vec<u8> {
     if file.len() > LIMIT {
         return image(random);
     }
-    image_of(&file)
+    match random.once_in(8) {
+        true => with_microseconds(&image_of(&file), any_microseconds(random)),
+        false => image_of(&file),
+    }
+}
+
+/// Microseconds that an image may hold: mostly more than a file can say.
+fn any_microseconds(random: &mut Random) -> u32 {
+    let microseconds = match random.below(5) {
+        0 => random.below(1000),
+        1 => random.below(100_000) * 10,
+        2 => random.below(10_000) * 100,
+        3 => random.below(1000) * 1000,
+        _ => random.below(1_000_000),
+    };
+    microseconds as u32
 }
 
 fn joined(random: &mut Random) -> Vec<u8> {

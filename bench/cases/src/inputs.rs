@@ -4,7 +4,7 @@ use independent::program::{images_program, program, write_program, PROGRAM_LIMIT
 use independent::LIMIT;
 
 use crate::message::chosen::{EVERY_ROW, WHOLE};
-use crate::runs::{filled, image_of};
+use crate::runs::{filled, image_of, with_microseconds};
 use crate::writes::image_for_file_of;
 
 /// An input, and what the independent program says to it.
@@ -53,6 +53,8 @@ pub fn writes() -> Vec<Said> {
         image_for_file_of(LIMIT),
         image_for_file_of(LIMIT + 1),
         image_for_file_of(4 * LIMIT),
+        with_microseconds(&image_of(WHOLE.as_bytes()), 123_456),
+        with_microseconds(&image_for_file_of(LIMIT + 1), 1),
     ];
     said(inputs, write_program)
 }
@@ -133,6 +135,8 @@ mod tests {
         assert_eq!(said[10].1, b"refused 1 0 1048576\n");
         assert_eq!(said[12].1.len(), LIMIT);
         assert_eq!(said[13].1, b"refused 19 0 1048577\n");
+        assert_eq!(said[15].1, b"refused 20 5 13\n");
+        assert_eq!(said[16].1, b"refused 20 5 13\n");
     }
 
     #[test]

@@ -2,14 +2,15 @@
 //! the same image.
 //!
 //! So the reader accepts nothing but images of rule-meeting contents, and "The written file is accepted and gives the same
-//! image." Written again it is the same file, and no blank of it could be left out.
+//! image." Written again it is the same file, and no blank of it could be left out. What has a finer fraction than a file says
+//! "is still read", and of it that without what is finer is written.
 
 use cases::any::{Class, Source};
 use cases::runs;
 use independent::read::first_image;
-use independent::{check, read, write, LIMIT};
+use independent::{check, read, write, Code, LIMIT};
 
-/// The file of an accepted run; none where it would be over the limit.
+/// The file of an accepted run; none where it would be over the limit, or a fraction is finer than a file says.
 fn written(run: &[u8]) -> Option<Vec<u8>> {
     let mut room = vec![0; LIMIT];
     let answer = write(run, &mut room);
@@ -32,6 +33,8 @@ fn examine(run: &[u8]) {
         let text = String::from_utf8_lossy(&file);
         assert_eq!(image(&file).as_deref(), Some(&run[..length]), "{text}");
         assert_eq!(written(&run[..length]).unwrap(), file, "{text}");
+    } else if write(run, &mut []).code == Code::FinerThanAFile {
+        examine(&runs::with_microseconds(&run[..length], 120_000));
     }
 }
 

@@ -59,11 +59,21 @@ fn tidied_time(time: &str) -> String {
         None => time.split_at(time.len() - 6),
     };
     let zone = if zone.ends_with("00:00") { "Z" } else { zone };
-    match clock.split_once('.') {
-        Some((clock, digits)) if digits.contains(|digit| digit != '0') => format!("{clock}.{digits:0<6}{zone}"),
-        Some((clock, _)) => format!("{clock}{zone}"),
+    match clock.strip_suffix("T24:00:00") {
+        Some(day) => format!("{}T00:00:00{zone}", day_after(day)),
         None => format!("{clock}{zone}"),
     }
+}
+
+/// The day after a day, which is not the last one of the calendar.
+fn day_after(day: &str) -> String {
+    let numbers: Vec<u32> = day.split('-').map(|number| number.parse().expect("a number")).collect();
+    let (year, month, day) = (numbers[0], numbers[1], numbers[2]);
+    let long = if year % 400 == 0 || year % 100 != 0 && year % 4 == 0 { 29 } else { 28 };
+    let days = [31, long, 31, 30, 31, 30, 31, 31, 30, 31, 30, 31][month as usize - 1];
+    let (day, carry) = if day == days { (1, 1) } else { (day + 1, 0) };
+    let (month, carry) = if month + carry == 13 { (1, 1) } else { (month + carry, 0) };
+    format!("{:04}-{month:02}-{day:02}", year + carry)
 }
 
 #[test]

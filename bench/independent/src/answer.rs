@@ -18,7 +18,7 @@ impl Answer {
     }
 }
 
-/// The codes of document 01, and 19 of document 02, in the order of their numbers.
+/// The codes of document 01, and 19 and 20 of document 02, in the order of their numbers.
 #[derive(Clone, Copy, PartialEq, Eq, PartialOrd, Ord, Debug, Hash)]
 pub enum Code {
     Accepted = 0,
@@ -41,10 +41,11 @@ pub enum Code {
     NoWholeImage = 17,
     NoSuchItem = 18,
     FileTooLong = 19,
+    FinerThanAFile = 20,
 }
 
 impl Code {
-    pub const ALL: [Code; 20] = [
+    pub const ALL: [Code; 21] = [
         Code::Accepted,
         Code::TooLong,
         Code::NotUtf8,
@@ -65,6 +66,7 @@ impl Code {
         Code::NoWholeImage,
         Code::NoSuchItem,
         Code::FileTooLong,
+        Code::FinerThanAFile,
     ];
 
     pub fn number(self) -> u8 {
@@ -98,6 +100,7 @@ impl Code {
             Code::NoWholeImage => "no whole image",
             Code::NoSuchItem => "no such item",
             Code::FileTooLong => "file would be too long",
+            Code::FinerThanAFile => "fraction finer than a file says",
         }
     }
 }
@@ -112,6 +115,6 @@ mod tests {
             assert_eq!(code.number() as usize, number);
             assert_eq!(Code::from_number(number as u8), Some(code));
         }
-        assert_eq!(Code::from_number(20), None);
+        assert_eq!(Code::from_number(21), None);
     }
 }

@@ -14,10 +14,16 @@ use crate::LIMIT;
 /// stay."
 pub fn write(run: &[u8], out: &mut [u8]) -> Answer {
     // "Refusals: 1 and 15 to 17 as in the reader"
-    let file = match first_image(run) {
-        Ok(image) => message(&image.items),
+    let image = match first_image(run) {
+        Ok(image) => image,
         Err(refused) => return refused,
     };
+    // Section 3: "Stored images with finer fractions are still read; §1 refuses to write them. .. Refusals: 20, before 19, row
+    // of the date-time, place of its item."
+    if let Some(item) = image.items.iter().find(|item| is_finer(item)) {
+        return Answer::new(Code::FinerThanAFile, item.row, item.at);
+    }
+    let file = message(&image.items);
     // "then 19 where the file would be over 1,048,576 bytes", with "the bytes needed, row 0"
     if file.len() > LIMIT {
         return Answer::new(Code::FileTooLong, 0, file.len());
@@ -30,6 +36,11 @@ pub fn write(run: &[u8], out: &mut [u8]) -> Answer {
         }
         None => Answer::new(Code::NoRoom, 0, file.len()),
     }
+}
+
+/// A date-time that no fraction of "one to three digits" says.
+fn is_finer(item: &Item) -> bool {
+    matches!(&item.leaf, Some((Value::Dtm(time), _)) if time.microsecond % 1000 != 0)
 }
 
 /// The message of an image's items. "no declaration": it begins with the root.
@@ -115,11 +126,11 @@ fn date_characters(date: &Date) -> String {
     format!("{:04}-{:02}-{:02}", date.year, date.month, date.day)
 }
 
-/// "fractions of a second only where not zero and then six digits, offset zero as `Z`"
+/// "The writer of §1 writes the shortest fraction", "offset zero as `Z`"
 fn date_time_characters(time: &DateTime) -> String {
     let fraction = match time.microsecond {
         0 => String::new(),
-        microsecond => format!(".{microsecond:06}"),
+        microsecond => format!(".{microsecond:06}").trim_end_matches('0').to_string(),
     };
     let zone = match time.offset {
         0 => "Z".to_string(),

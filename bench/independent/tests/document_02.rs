@@ -149,7 +149,7 @@ fn numbers_without_leading_zeros() {
     );
 }
 
-/// "fractions of a second only where not zero and then six digits, offset zero as `Z`"
+/// "The writer of §1 writes the shortest fraction", "offset zero as `Z`"; "24:00:00 .. its content is 00:00:00 of the next day"
 #[test]
 fn times() {
     let made = |text: &str| whole_example().replace("2024-03-01T06:00:00Z", text);
@@ -159,20 +159,77 @@ fn times() {
             ("2024-03-01T06:00:00Z", "2024-03-01T06:00:00Z"),
             ("2024-03-01T06:00:00+00:00", "2024-03-01T06:00:00Z"),
             ("2024-03-01T06:00:00-00:00", "2024-03-01T06:00:00Z"),
-            ("2024-03-01T06:00:00.000Z", "2024-03-01T06:00:00Z"),
-            ("2024-03-01T06:00:00.000000Z", "2024-03-01T06:00:00Z"),
-            ("2024-03-01T06:00:00.120Z", "2024-03-01T06:00:00.120000Z"),
-            ("2024-03-01T06:00:00.001Z", "2024-03-01T06:00:00.001000Z"),
-            ("2024-03-01T06:00:00.000001Z", "2024-03-01T06:00:00.000001Z"),
-            ("2024-03-01T23:59:59.999999+14:00", "2024-03-01T23:59:59.999999+14:00"),
+            ("2024-03-01T06:00:00.1Z", "2024-03-01T06:00:00.1Z"),
+            ("2024-03-01T06:00:00.12Z", "2024-03-01T06:00:00.12Z"),
+            ("2024-03-01T06:00:00.001Z", "2024-03-01T06:00:00.001Z"),
+            ("2024-03-01T06:00:00.01Z", "2024-03-01T06:00:00.01Z"),
+            ("2024-03-01T23:59:59.999+14:00", "2024-03-01T23:59:59.999+14:00"),
+            ("2024-02-29T24:00:00Z", "2024-03-01T00:00:00Z"),
+            ("2023-12-31T24:00:00-14:00", "2024-01-01T00:00:00-14:00"),
             ("0001-01-01T00:00:00-14:00", "0001-01-01T00:00:00-14:00"),
             ("9999-12-31T09:08:07+01:00", "9999-12-31T09:08:07+01:00"),
             ("2024-03-01T06:00:00-00:30", "2024-03-01T06:00:00-00:30"),
             ("2024-03-01T06:00:00+00:05", "2024-03-01T06:00:00+00:05"),
             ("2024-03-01T06:00:00-13:59", "2024-03-01T06:00:00-13:59"),
-            (" 2024-03-01T06:00:00.500+10:00\n", "2024-03-01T06:00:00.500000+10:00"),
+            (" 2024-03-01T06:00:00.5+10:00\n", "2024-03-01T06:00:00.5+10:00"),
         ],
     );
+}
+
+/// The whole example's image with so many microseconds in its date-time, whose item stands at 13: behind the header, three
+/// groups, and the row byte, the length and the two letters of `M1`.
+fn with_microseconds(microseconds: u32) -> Vec<u8> {
+    let mut image = whole_image();
+    assert_eq!(image[13..27], *b"\x05\x07\xe8\x03\x01\x06\x00\x00\x00\x00\x00\x00\x03\x48");
+    image[21..25].copy_from_slice(&microseconds.to_be_bytes());
+    image
+}
+
+/// Section 3: "Stored images with finer fractions are still read; §1 refuses to write them." "Refusals: 20, before 19, row of the
+/// date-time, place of its item." And what is no finer has the shortest fraction.
+#[test]
+fn finer_fractions() {
+    for microseconds in [1, 10, 100, 999, 1_001, 120_500, 123_456, 500_001, 999_999] {
+        let image = with_microseconds(microseconds);
+        assert_eq!(numbers(read(&image)), (0, 0, 67), "{microseconds}");
+        for room in [0, 1000] {
+            let mut out = vec![0xaa; room];
+            assert_eq!(numbers(write(&image, &mut out)), (20, 5, 13), "{microseconds}");
+            assert_eq!(out, vec![0xaa; room], "a refusal changes no byte");
+        }
+    }
+    let shortest = [
+        (0, ""),
+        (100_000, ".1"),
+        (120_000, ".12"),
+        (123_000, ".123"),
+        (1_000, ".001"),
+        (10_000, ".01"),
+        (20_000, ".02"),
+        (250_000, ".25"),
+        (900_000, ".9"),
+        (909_000, ".909"),
+        (990_000, ".99"),
+        (999_000, ".999"),
+    ];
+    for (microseconds, fraction) in shortest {
+        let file = file_of(&with_microseconds(microseconds));
+        assert!(file.contains(&format!("<CreDtTm>2024-03-01T06:00:00{fraction}Z</CreDtTm>")), "{microseconds}");
+        assert_eq!(image(file), with_microseconds(microseconds));
+    }
+}
+
+/// "20, before 19": where the file would be over the limit too. "1 and 15 to 17" come before it.
+#[test]
+fn finer_fractions_in_order() {
+    let mut over = image_for_file_of(LIMIT + 1);
+    over[21..25].copy_from_slice(&1_u32.to_be_bytes());
+    assert_eq!(numbers(write(&over, &mut [])), (20, 5, 13));
+    let finer = with_microseconds(1);
+    assert_eq!(numbers(write(&finer[..66], &mut [])), (17, 0, 66));
+    assert_eq!(numbers(write(&[b"KTO\x00\x02", &finer[5..]].concat(), &mut [])), (16, 0, 3));
+    assert_eq!(numbers(write(&[&finer[..], &vec![0; LIMIT]].concat(), &mut [])), (1, 0, 1_048_576));
+    assert_eq!(numbers(write(&[&finer[..], b"behind"].concat(), &mut [])), (20, 5, 13));
 }
 
 /// DATE, ENUM, IBAN and CCY have one spelling but for blanks around a DATE.

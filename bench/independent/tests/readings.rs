@@ -263,25 +263,25 @@ fn point_16_zeros() {
     assert_eq!(judge(amount(&format!("5.{zeros}1"))).0, 12);
 }
 
-/// Point 17: "DTM: the zone is required; 24:00:00 and second 60 are refused; the fraction has three or six digits; the offset is
-/// -14:00 to +14:00."
+/// Point 17: "DTM: the zone is required; .. second 60 [is] refused; .. the offset is -14:00 to +14:00." What it says of 24:00:00
+/// and of the fraction, section 3 of document 02 changed.
 #[test]
 fn point_17_times() {
     let time = |text: &str| judge(whole_example().replace("2024-03-01T06:00:00Z", text)).0;
     for good in [
-        "2024-03-01T23:59:59.123Z", "2024-03-01T06:00:00.123456+14:00", "2024-03-01T06:00:00-14:00",
-        " 2024-03-01T06:00:00Z\n",
+        "2024-03-01T23:59:59.123Z", "2024-03-01T06:00:00.12+14:00", "2024-03-01T06:00:00-14:00",
+        "2024-03-01T24:00:00Z", " 2024-03-01T06:00:00Z\n",
     ] {
         assert_eq!(time(good), 0, "{good}");
     }
     let bad = [
-        "T06:00:00", "T24:00:00Z", "T23:59:60Z", "T06:00:00.12Z", "T06:00:00.1234Z", "T06:00:00+14:01",
-        "T06:00:00-14:01",
+        "T06:00:00", "T24:00:01Z", "T23:59:60Z", "T06:00:00.120Z", "T06:00:00.1234Z", "T06:00:00.123456Z",
+        "T06:00:00+14:01", "T06:00:00-14:01", "T06:00:00.000Z",
     ];
     for rest in bad {
         assert_eq!(time(&format!("2024-03-01{rest}")), 12, "{rest}");
     }
-    for zero in ["Z", "+00:00", "-00:00", ".000Z", ".000000-00:00"] {
+    for zero in ["Z", "+00:00", "-00:00"] {
         assert_eq!(image(whole_example().replace("00Z", &format!("00{zero}"))), whole_image(), "{zero}");
     }
 }

@@ -31,17 +31,8 @@ impl Contender {
 
 /// The unit's check comes first: the others are compared with it.
 pub fn all(schema: &str) -> Result<Vec<Contender>, String> {
-    let mut all = vec![
-        Contender { name: "unit check", takes: Input::File, is_unit: true, counts: <[u8]>::len, judge: unit::check },
-        Contender {
-            name: "unit UTF-8 and scan",
-            takes: Input::Foreign,
-            is_unit: true,
-            counts: <[u8]>::len,
-            judge: unit::scan,
-        },
-        Contender { name: "unit read", takes: Input::Image, is_unit: true, counts: <[u8]>::len, judge: unit::read },
-        Contender { name: "unit write", takes: Input::Image, is_unit: true, counts: unit::written, judge: unit::write },
+    let mut all = units();
+    all.extend([
         Contender {
             name: "independent check",
             takes: Input::File,
@@ -63,9 +54,29 @@ pub fn all(schema: &str) -> Result<Vec<Contender>, String> {
             counts: |image| independent_write(image).unwrap_or(0),
             judge: |image| independent_write(image).is_some(),
         },
-    ];
+    ]);
     others::add(&mut all, schema)?;
     Ok(all)
+}
+
+/// The unit, and one that was built before where there is one. A foreign root is code 4, which is found after codes 1 to 3 over the whole
+/// file and before anything else.
+pub fn units() -> Vec<Contender> {
+    use unit::{code, reads};
+    #[rustfmt::skip]
+    let units = vec![
+        Contender { name: "unit check", takes: Input::File, is_unit: true, counts: <[u8]>::len, judge: |text| code(unit::kto_check, text) == 0 },
+        Contender { name: "unit UTF-8 and scan", takes: Input::Foreign, is_unit: true, counts: <[u8]>::len, judge: |text| code(unit::kto_check, text) == 4 },
+        Contender { name: "unit read", takes: Input::Image, is_unit: true, counts: <[u8]>::len, judge: |image| reads(unit::kto_read, image) },
+        Contender { name: "unit write", takes: Input::Image, is_unit: true, counts: unit::written, judge: unit::write },
+        #[cfg(before)]
+        Contender { name: "before check", takes: Input::File, is_unit: true, counts: <[u8]>::len, judge: |text| code(unit::before_check, text) == 0 },
+        #[cfg(before)]
+        Contender { name: "before UTF-8 and scan", takes: Input::Foreign, is_unit: true, counts: <[u8]>::len, judge: |text| code(unit::before_check, text) == 4 },
+        #[cfg(before)]
+        Contender { name: "before read", takes: Input::Image, is_unit: true, counts: <[u8]>::len, judge: |image| reads(unit::before_read, image) },
+    ];
+    units
 }
 
 fn independent_check(text: &[u8]) -> bool {
@@ -84,24 +95,21 @@ fn independent_write(image: &[u8]) -> Option<usize> {
 mod unit {
     use std::cell::RefCell;
 
+    type Check = unsafe extern "C" fn(*const u8, usize, *mut u8, usize, *mut u64, *mut u64) -> u64;
+    type Read = unsafe extern "C" fn(*const u8, usize, *mut u64) -> u64;
+
+    #[rustfmt::skip]
     extern "C" {
-        fn kto_check(
-            input: *const u8,
-            input_len: usize,
-            out: *mut u8,
-            out_len: usize,
-            row: *mut u64,
-            place: *mut u64,
-        ) -> u64;
-        fn kto_read(run: *const u8, run_len: usize, place: *mut u64) -> u64;
-        fn kto_write(
-            run: *const u8,
-            run_len: usize,
-            out: *mut u8,
-            out_len: usize,
-            row: *mut u64,
-            place: *mut u64,
-        ) -> u64;
+        pub fn kto_check(input: *const u8, input_len: usize, out: *mut u8, out_len: usize, row: *mut u64, place: *mut u64) -> u64;
+        pub fn kto_read(run: *const u8, run_len: usize, place: *mut u64) -> u64;
+        fn kto_write(run: *const u8, run_len: usize, out: *mut u8, out_len: usize, row: *mut u64, place: *mut u64) -> u64;
+    }
+
+    #[cfg(before)]
+    #[rustfmt::skip]
+    extern "C" {
+        pub fn before_check(input: *const u8, input_len: usize, out: *mut u8, out_len: usize, row: *mut u64, place: *mut u64) -> u64;
+        pub fn before_read(run: *const u8, run_len: usize, place: *mut u64) -> u64;
     }
 
     // Lent to every call, so that no sample pays for making it.
@@ -109,27 +117,18 @@ mod unit {
         static OUT: RefCell<Vec<u8>> = RefCell::new(vec![0; independent::LIMIT]);
     }
 
-    fn code(text: &[u8]) -> u64 {
+    pub fn code(check: Check, text: &[u8]) -> u64 {
         OUT.with_borrow_mut(|out| {
             let (mut row, mut place) = (0, 0);
             // SAFETY: the lengths are those of the slices, and the two numbers live on this stack.
-            unsafe { kto_check(text.as_ptr(), text.len(), out.as_mut_ptr(), out.len(), &mut row, &mut place) }
+            unsafe { check(text.as_ptr(), text.len(), out.as_mut_ptr(), out.len(), &mut row, &mut place) }
         })
     }
 
-    pub fn check(text: &[u8]) -> bool {
-        code(text) == 0
-    }
-
-    /// A foreign root is code 4, which is found behind codes 1 to 3 over the whole file and before anything else.
-    pub fn scan(text: &[u8]) -> bool {
-        code(text) == 4
-    }
-
-    pub fn read(image: &[u8]) -> bool {
+    pub fn reads(read: Read, image: &[u8]) -> bool {
         let mut place = 0;
         // SAFETY: as above.
-        unsafe { kto_read(image.as_ptr(), image.len(), &mut place) == 0 && place == image.len() as u64 }
+        unsafe { read(image.as_ptr(), image.len(), &mut place) == 0 && place == image.len() as u64 }
     }
 
     /// The length of the file that is written from an image; none where it is refused.

@@ -1,10 +1,12 @@
-//! What is judged: statements of an Austrian rent account, as long as wanted, in three styles.
+//! What is judged: statements of an Austrian rent account, as long as wanted, in four styles.
 
 const LARGE: usize = independent::LIMIT;
 const SMALL: usize = 4096;
 
-/// The bytes of a long text with its tags.
-const LONG_LINE: usize = 153;
+/// A full remittance text, and one as Austrian statements have them: of its 132 characters, the line's number among them, eleven lie beyond
+/// ASCII and three are entities.
+const LONG: &str = "Miete und Betriebskosten laut Vorschreibung der Hausverwaltung, Top 12, Miete und Betriebskosten laut Vorschreibung der Hausverwaltung,";
+const AUSTRIAN: &str = "Miete f\u{fc}r M\u{e4}rz, Top 12, B\u{f6}hm &amp; S\u{f6}hne, M\u{fc}hlstra\u{df}e 7 und \u{20ac} 48,20 R\u{fc}ckstand laut &quot;Vorschreibung&quot; der Hausverwaltung, Geb\u{fc}hr f\u{fc}r M\u{fc}ll";
 
 pub struct File {
     pub name: String,
@@ -14,18 +16,20 @@ pub struct File {
     pub image: Vec<u8>,
 }
 
-/// How a statement is laid out: two blanks for each level and a line for each tag, or no blank at all; with short texts or with full ones.
+/// How a statement is laid out: two blanks for each level and a line for each tag, or no blank at all; with one short text to an entry, or
+/// with eight full ones, numbered.
 #[derive(Clone, Copy)]
 struct Style {
     name: &'static str,
     indented: bool,
-    long_texts: bool,
+    full_text: Option<&'static str>,
 }
 
-const STYLES: [Style; 3] = [
-    Style { name: "indented", indented: true, long_texts: false },
-    Style { name: "dense", indented: false, long_texts: false },
-    Style { name: "long texts", indented: false, long_texts: true },
+const STYLES: [Style; 4] = [
+    Style { name: "indented", indented: true, full_text: None },
+    Style { name: "dense", indented: false, full_text: None },
+    Style { name: "long texts", indented: false, full_text: Some(LONG) },
+    Style { name: "Austrian texts", indented: false, full_text: Some(AUSTRIAN) },
 ];
 
 pub fn all() -> Vec<File> {
@@ -51,9 +55,9 @@ fn file(name: String, style: Style, size: usize) -> File {
         entries = more;
         text = statement(style, entries, 0);
     }
-    if style.long_texts {
+    if let Some(full) = style.full_text {
         let mut extra = 0;
-        while text.len() + LONG_LINE <= size {
+        while text.len() + line(0, full).len() + "<Ustrd></Ustrd>".len() <= size {
             extra += 1;
             text = statement(style, entries, extra);
         }
@@ -87,7 +91,7 @@ fn statement(style: Style, entries: usize, extra: usize) -> String {
         page.group("BkToCstmrStmt", |page| {
             page.group("GrpHdr", |page| {
                 page.leaf("MsgId", "KA-20240329-00471");
-                page.leaf("CreDtTm", "2024-03-29T21:14:05.120+01:00");
+                page.leaf("CreDtTm", "2024-03-29T21:14:05.125+01:00");
             });
             page.group("Stmt", |page| {
                 page.leaf("Id", "2024/003/L12");
@@ -100,8 +104,11 @@ fn statement(style: Style, entries: usize, extra: usize) -> String {
                 balance(page, "CLBD", "12837.32");
                 for number in 1..=entries {
                     let more = if number == entries { extra } else { 0 };
-                    let lines = if style.long_texts { 8 + more } else { 0 };
-                    entry(page, number, lines);
+                    let texts = match style.full_text {
+                        Some(full) => (0..8 + more).map(|n| line(n, full)).collect(),
+                        None => vec![format!("Miete M\u{e4}rz 2024 Top {number}")],
+                    };
+                    entry(page, number, &texts);
                 }
             });
         });
@@ -119,7 +126,12 @@ fn balance(page: &mut Page, code: &str, amount: &str) {
     });
 }
 
-fn entry(page: &mut Page, number: usize, long_lines: usize) {
+/// A full text with its number before it.
+fn line(number: usize, full: &str) -> String {
+    format!("{number:02} {full}")
+}
+
+fn entry(page: &mut Page, number: usize, texts: &[String]) {
     let day = format!("2024-03-{:02}", number % 28 + 1);
     page.group("Ntry", |page| {
         page.leaf("Amt Ccy=\"EUR\"", &format!("{}.{:02}", 500 + number % 700, number % 100));
@@ -137,23 +149,19 @@ fn entry(page: &mut Page, number: usize, long_lines: usize) {
                 });
             });
         });
-        page.group("NtryDtls", |page| page.group("TxDtls", |page| details(page, number, long_lines)));
+        page.group("NtryDtls", |page| page.group("TxDtls", |page| details(page, number, texts)));
     });
 }
 
-fn details(page: &mut Page, number: usize, long_lines: usize) {
+fn details(page: &mut Page, number: usize, texts: &[String]) {
     page.group("Refs", |page| page.leaf("EndToEndId", &format!("L12/TOP{number:05}/2024-03")));
     page.group("RltdPties", |page| {
         page.group("Dbtr", |page| page.group("Pty", |page| page.leaf("Nm", "Huber &amp; S\u{f6}hne")));
         page.group("DbtrAcct", |page| page.group("Id", |page| page.leaf("IBAN", "AT072011128765432100")));
     });
     page.group("RmtInf", |page| {
-        if long_lines == 0 {
-            page.leaf("Ustrd", &format!("Miete M\u{e4}rz 2024 Top {number}"));
-        }
-        for line in 0..long_lines {
-            let text = "Miete und Betriebskosten laut Vorschreibung der Hausverwaltung, Top 12, ".repeat(2);
-            page.leaf("Ustrd", &format!("{line:02} {}", &text[..135]));
+        for text in texts {
+            page.leaf("Ustrd", text);
         }
     });
 }

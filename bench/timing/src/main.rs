@@ -1,5 +1,9 @@
 //! Times the unit, the independent program and, where they are linked, expat and libxml2 on the same files.
 //!
+//!     timing SCHEMA               times everyone, and prints a table
+//!     timing write DIR            writes the files there, with what each contender of the unit is handed: NAME, then a dot, then its number
+//!     timing once NUMBER FILE     has that contender of the unit judge a file once, so that its instructions can be counted
+//!
 //! Every contender judges every file once before any clock runs, and has to accept it: a program that refuses early would look fast.
 //! Samples are interleaved, so that a slow moment of the machine falls on all of them, and the median counts.
 
@@ -11,12 +15,21 @@ mod stack;
 use clock::Sample;
 use contenders::{Contender, Input};
 use files::File;
-use std::{env, process::exit};
+use std::{env, fs, process::exit};
 
 fn main() {
-    let schema = env::args().nth(1).unwrap_or_default();
+    let words: Vec<String> = env::args().skip(1).collect();
+    match words.iter().map(String::as_str).collect::<Vec<_>>()[..] {
+        ["write", folder] => write_files(folder),
+        ["once", number, path] => judge_once(number, path),
+        [schema] => time_all(schema),
+        _ => fail("timing SCHEMA, timing write DIR, or timing once NUMBER FILE"),
+    }
+}
+
+fn time_all(schema: &str) {
     let rounds = env::var("SPEED_ROUNDS").ok().and_then(|n| n.parse().ok()).unwrap_or(15);
-    let contenders = match contenders::all(&schema) {
+    let contenders = match contenders::all(schema) {
         Ok(contenders) => contenders,
         Err(fault) => fail(&fault),
     };
@@ -32,6 +45,32 @@ fn main() {
     let samples = measure(&contenders, &files, rounds);
     print_table(&contenders, &files, &samples, rounds);
     print_stack(&contenders, &files);
+}
+
+/// A line for each file and each contender of the unit: its number and name, the file's name, the bytes that it is handed, where they are.
+fn write_files(folder: &str) {
+    for file in files::all() {
+        for (number, contender) in contenders::units().iter().enumerate() {
+            let path = format!("{folder}/{}.{number}", file.name.replace([' ', ','], "-"));
+            let input = contender.input(&file);
+            if let Err(fault) = fs::write(&path, input) {
+                fail(&format!("{path}: {fault}"));
+            }
+            println!("{number}\t{}\t{}\t{}\t{path}", contender.name, file.name, input.len());
+        }
+    }
+}
+
+fn judge_once(number: &str, path: &str) {
+    let units = contenders::units();
+    let Some(contender) = number.parse().ok().and_then(|n: usize| units.get(n)) else {
+        fail("no such contender of the unit");
+    };
+    match fs::read(path) {
+        Ok(input) if (contender.judge)(&input) => {}
+        Ok(_) => fail(&format!("{} does not accept the file {path}", contender.name)),
+        Err(fault) => fail(&format!("{path}: {fault}")),
+    }
 }
 
 fn fail(fault: &str) -> ! {

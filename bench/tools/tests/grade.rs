@@ -62,7 +62,7 @@ fn images_are_kept_and_shown() {
     let folder = empty_folder("images");
     assert_eq!(grade(&["--write", folder.to_str().unwrap(), "."]).0, Some(1));
     let kept = ["rent-account.kto", "several-statements.kto"].map(|name| folder.join(name));
-    assert_eq!(fs::read_dir(&folder).unwrap().count(), 5, "the three statements, and two as they are written");
+    assert_eq!(fs::read_dir(&folder).unwrap().count(), 6, "the four statements, and two as they are written");
 
     let (status, tree) = grade(&["show", kept[0].to_str().unwrap()]);
     assert_eq!(status, Some(0));
@@ -133,7 +133,7 @@ fn a_closed_pipe_ends_it_quietly() {
 fn one_object_for_each_file() {
     let (status, said) = grade(&["--json", ".", "no-such-file.xml"]);
     assert_eq!(status, Some(2));
-    assert_eq!(said.lines().count(), 25);
+    assert_eq!(said.lines().count(), 28);
     assert!(said.lines().all(|line| line.starts_with("{\"file\":\"") && line.ends_with('}')), "{said}");
     assert!(
         said.contains("{\"file\":\"./rent-account.xml\",\"code\":0,\"name\":\"ACCEPTED\",\"meaning\":\"accepted\",\"row\":0,\"place\":3948}")
@@ -151,7 +151,7 @@ fn a_page_for_a_browser() {
     let page = folder.join("report.html");
     assert_eq!(grade(&["--html", page.to_str().unwrap(), "."]).0, Some(1));
     let text = fs::read_to_string(&page).unwrap();
-    assert_eq!(text.matches("<article>").count(), 19);
+    assert_eq!(text.matches("<article>").count(), 21);
     assert_eq!(text.matches("<section id=\"code-").count(), 13);
     let section = between(&text, "<section id=\"code-12\">", "</section>");
     assert!(

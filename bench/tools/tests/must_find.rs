@@ -117,6 +117,10 @@ const FAULTS: &[Fault] = &[
     ("write.rs", "0 => whole.to_string(),", "0 => format!(\"{whole}.\"),"),
     // Five digits of six.
     ("write.rs", ".{microsecond:06}", ".{microsecond:05}"),
+    // Zeros at the end of a fraction.
+    ("write.rs", ".trim_end_matches('0').to_string()", ".to_string()"),
+    // Finer fractions written.
+    ("write.rs", "time.microsecond % 1000 != 0", "time.microsecond % 1000 > 1000"),
     // A fraction of zero.
     ("write.rs", "0 => String::new(),", "0 => \".000000\".to_string(),"),
     // Offset zero with hours and minutes.

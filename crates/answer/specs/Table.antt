@@ -92,3 +92,7 @@ noSuchLeaf = answer 18 0 0
 -- document 02, section 1: "19 where the file would be over 1,048,576 bytes .. place is the bytes needed, row 0"
 abbrev pub tooLarge : ℕ → Answer
 tooLarge n = answer 19 0 n
+
+-- section 3: "20, before 19, row of the date-time, place of its item"
+abbrev pub tooFine : ℕ → ℕ → Answer
+tooFine r p = answer 20 r p

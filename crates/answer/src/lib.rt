@@ -23,6 +23,7 @@ ghost use Rattle.answer.specs.Table.{
   brokenImage,
   noSuchLeaf,
   tooLarge,
+  tooFine,
 };
 
 pub struct Answer {
@@ -71,6 +72,8 @@ impl Answer {
     pub const NO_SUCH_LEAF: u8 = 18;
 
     pub const TOO_LARGE: u8 = 19;
+
+    pub const TOO_FINE: u8 = 20;
 
     // The most bytes that a file or a run may have.
     pub const LIMIT: usize = 1048576;
@@ -287,6 +290,17 @@ impl Answer {
             code: Self::TOO_LARGE,
             row: 0,
             place: needed,
+        }
+    }
+
+    // A stored date-time has a finer fraction than a file may say: its row, and where its item stands in the run.
+    pub fn too_fine(row: usize, place: usize) -> Self
+        ensures { λ r. ⌜ r ≡ tooFine row place ⌝ }
+    {
+        Self {
+            code: Self::TOO_FINE,
+            row: row,
+            place: place,
         }
     }
 }

@@ -12,16 +12,16 @@ use Rattle.answer.specs.declared.Answer.{Answer}
 use Rattle.answer.specs.Table.{accepted, limit, notUtf8, notHouseXml, noRoom, brokenImage}
 use Rattle.answer.specs.Table as table
 use Rattle.text_characters.specs.Utf8.{Utf8, LongestUtf8}
-use Rattle.list.specs.Listing.{Leaf, Kind, group, choice, leaf, rowAt}
-use Rattle.list.specs.Content.{Content, end, value, node, Meets, ValueOf, GroupOf, Good}
+use Rattle.list.specs.Content.{Content, Meets}
 use Rattle.list_house.specs.House.{house}
 use Rattle.list_house.proofs.HouseSound.{house-well}
 use Rattle.xml.specs.House.{HouseXml, Longest}
 use Rattle.xml.specs.Message.{messageOf, rootAt}
 use Rattle.xml.proofs.Coded.{house-utf8}
 use Rattle.value.specs.Value.{Value, IsValue}
-use Rattle.value_to_text.specs.Spelled.{Spelled}
-use Rattle.value_to_text.proofs.Scripts.{every-spelt}
+use Rattle.value.specs.Moment.{present}
+use Rattle.value_to_text.specs.Spelled.{Spelled, SpelledByEither}
+use Rattle.value_to_text.proofs.Scripts.{both-rules}
 use Rattle.file_walk.specs.declared.found.Found.the-variants.{Violation}
 use Rattle.file_walk.specs.First.{First, firstViolation}
 use Rattle.file_walk.proofs.Accept as walk
@@ -45,6 +45,7 @@ use Rattle.file.proofs.Accepted as general
 use Rattle.file.proofs.House.{spelling, houseJudge, deciding, image-no-longer, one-content, checks-one, finds-one, accepted-image}
 use Rattle.file.proofs.Some.{checks-some}
 use Rattle.file_letter.specs.Letter.{treeOf, letterOf}
+use Rattle.file_letter.proofs.Meeting.{meets-on, said-is, has-said}
 use Rattle.file_letter.proofs.Has.{letter-has}
 use Rattle.file_letter.proofs.Good.{letter-good}
 use Rattle.demands.specs.Demands.{HouseFile, houseImage, Within, FileRefused, RunRefused, PickRefused, Demand1, Told, Begins, Message, Demand2, Written, Imaged, Laid, Tells, Demand3}
@@ -191,31 +192,12 @@ reads-image run a r n = (
   (λ g. house-reads-one run a (accepted n) r (whole (g .0) n (begun run n (g .1 .0) (g .1 .1) (g .1 .2)) refl)),
 )
 
--- what meets the list with values of one sort meets it with those of another
-module _ (P Q : Leaf → Value → Type 0) (f : (k : Leaf) (v : Value) → P k v → Q k v) where
-  value-on : (k : Kind) (v : Value) → ValueOf P house k v → ValueOf Q house k v
-  value-on group v h = h
-  value-on choice v h = h
-  value-on (leaf k) v h = f k v h
-
-  group-on : (k : Kind) → GroupOf P house k → GroupOf Q house k
-  group-on group h = tt
-  group-on choice h = tt
-  group-on (leaf k) h = h
-
-  good-on : (c : Content Value) → Good P house c → Good Q house c
-  good-on end h = tt
-  good-on (value r v k) h = (value-on (rowAt house r .kind) v (h .0), good-on k (h .1))
-  good-on (node r c k) h = ((group-on (rowAt house r .kind) (h .0 .0), h .0 .1), good-on c (h .1), good-on k (h .2))
-
-  meets-on : (c : Content Value) → Meets P house c → Meets Q house c
-  meets-on c m = record { root = m .root; good = good-on c (m .good) }
-
--- every content that meets the rules has a message, the one that is written for it; and what has one meets them
-message : (c : Content Value) → Meets IsValue house c → Message (letterOf house c) c
+-- every content that meets the rules, by the present one of date-times, has a message, the one that is written for it; and what has one meets them
+message : (c : Content Value) → Meets (Spelled present) house c → Message (letterOf house c) c
 unfolding letterOf
-message c m =
-    let h = letter-has house house-well c m in
+message c s =
+    let m = said-is house c s in
+    let h = letter-has house house-well c s in
     let g = letter-good house house-well c m in
     let n = messageOf (treeOf house c) in
     let f : First houseTypes house n (firstViolation houseJudge house n) = record { judge = houseJudge; decides = deciding; is = refl } in
@@ -232,6 +214,10 @@ rules c s w =
     let o = walk.accept houseTypes spelling house house-well (messageOf t) (one-element (t .root) (rootAt t) (w .xml .good .one)) (w .good) in
     subst (Meets IsValue house) (walk.unique houseTypes spelling house house-well (messageOf t) (o .0) c (o .2) (w .has)) (o .1)
 
+-- what images hold is what one of the two rules spells
+by-either : (c : Content Value) → Meets IsValue house c ↔ Meets SpelledByEither house c
+by-either c = (meets-on house IsValue SpelledByEither (λ k v. both-rules k v .0) c, meets-on house SpelledByEither IsValue (λ k v. both-rules k v .1) c)
+
 pub demand2 : Demand2
 demand2 = record {
   told = all-told;
@@ -241,13 +227,13 @@ demand2 = record {
   );
   judge = (houseJudge, deciding);
   reads = reads-image;
-  values = every-spelt;
-  messages = λ c. ((λ m. (letterOf house c, message c m)), (λ w. rules c (w .0) (w .1)));
+  values = both-rules;
+  messages = λ c. ((λ m. (letterOf house c, message c m)), (λ w. has-said house (messageOf (w .1 .xml .tree)) c (rules c (w .0) (w .1)) (w .1 .has)));
   spelt = λ run a r n. (
-    (λ z. let g = reads-image run a r n .0 z in (g .0, (g .1 .0, (letterOf house (g .1 .0), message (g .1 .0) (g .1 .1)), g .1 .2))),
-    (λ g. reads-image run a r n .1 (g .0, (g .1 .0, rules (g .1 .0) (g .1 .1 .0) (g .1 .1 .1), g .1 .2))),
+    (λ z. let g = reads-image run a r n .0 z in (g .0, (g .1 .0, by-either (g .1 .0) .0 (g .1 .1), g .1 .2))),
+    (λ g. reads-image run a r n .1 (g .0, (g .1 .0, by-either (g .1 .0) .1 (g .1 .1), g .1 .2))),
   );
-  same = λ c. (meets-on IsValue Spelled (λ k v. every-spelt k v .0) c, meets-on Spelled IsValue (λ k v. every-spelt k v .1) c);
+  same = by-either;
 }
 
 -- ---- demand 3

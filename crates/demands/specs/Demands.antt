@@ -26,7 +26,8 @@ use Rattle.list_house.specs.House.{house}
 use Rattle.xml.specs.House.{HouseXml, Longest}
 use Rattle.xml.specs.Message.{Parts, messageOf}
 use Rattle.value.specs.Value.{Value, IsValue}
-use Rattle.value_to_text.specs.Spelled.{Spelled}
+use Rattle.value.specs.Moment.{present}
+use Rattle.value_to_text.specs.Spelled.{Spelled, SpelledByEither}
 use Rattle.file_walk.specs.declared.found.Found.{Found}
 use Rattle.file_walk.specs.declared.found.Found.the-variants.{Fine, Violation}
 use Rattle.file_walk.specs.Types.{Judge, Decides}
@@ -125,12 +126,14 @@ pub record Demand2 : Type 0 where
   pub judge : (j : Judge) × Decides houseTypes j
   -- "within the size limit the image reader accepts exactly the runs that begin with the image of a content that meets the same rules": with its length
   pub reads : (run : List ℕ) (a : Answer) → HouseReads run a → (n : ℕ) → (a ≡ accepted n) ↔ ((length run ≤ limit) × ((c : Content Value) × Meets IsValue house c × Begins run n c))
-  -- "the same": each of the ten kinds has exactly the values that some text spells, and so a content meets the list with the one as with the other
-  pub values : (k : Leaf) (v : Value) → IsValue k v ↔ Spelled k v
-  pub same : (c : Content Value) → Meets IsValue house c ↔ Meets Spelled house c
-  -- and so the contents that meet the rules are those that some message spells, and the reader accepts exactly the images of these
-  pub messages : (c : Content Value) → Meets IsValue house c ↔ ((s : List ℕ) × Message s c)
-  pub spelt : (run : List ℕ) (a : Answer) → HouseReads run a → (n : ℕ) → (a ≡ accepted n) ↔ ((length run ≤ limit) × ((c : Content Value) × ((s : List ℕ) × Message s c) × Begins run n c))
+  -- "the same", which "reads over the former and the new date-time rule together" (document 02, section 3): each of the ten kinds has exactly the values that
+  -- some text spells by the one or the other, and so a content meets the list with the one as with the other
+  pub values : (k : Leaf) (v : Value) → IsValue k v ↔ SpelledByEither k v
+  pub same : (c : Content Value) → Meets IsValue house c ↔ Meets SpelledByEither house c
+  -- so the reader accepts exactly the images of contents whose values, date-times among them, one of the two rules spells
+  pub spelt : (run : List ℕ) (a : Answer) → HouseReads run a → (n : ℕ) → (a ≡ accepted n) ↔ ((length run ≤ limit) × ((c : Content Value) × Meets SpelledByEither house c × Begins run n c))
+  -- of these the contents that the present rule spells are those that some message has
+  pub messages : (c : Content Value) → Meets (Spelled present) house c ↔ ((s : List ℕ) × Message s c)
 
 -- ---- demand 3
 

@@ -48,7 +48,7 @@ use Rattle.file.specs.Instance.{houseTypes, houseKinds}
 use Rattle.file.specs.File.{Whole, File, imageOf}
 use Rattle.file.specs.Checks.{Checks}
 use Rattle.file.specs.Checks as checks
-use Rattle.file.specs.Stars.{Buffers, every, from, under, Lent, Star, Shows, stars}
+use Rattle.file.specs.Stars.{Buffers, every, from, under, Lent, Star, Shows, stars, times}
 use Rattle.file.proofs.House.{spelling, computing, houseJudge, deciding}
 use Rattle.file.proofs.Trees.{contentTest, rootTree, tree-good, asciiTest, ascii-utf8, not-is}
 use Rattle.file_walk.proofs.Beginning.{one-element}
@@ -231,13 +231,16 @@ element n i k = full (named n) i [] k
 abbrev leaf : String → String → Content → Content
 leaf n v k = element n (text (ascii v)) k
 
-abbrev statementTree : String → String → Content
-statementTree m a =
+abbrev statementTreeAt : String → String → String → Content
+statementTreeAt t m a =
     full (marked "Document" "xmlns" "urn:iso:std:iso:20022:tech:xsd:camt.053.001.08")
-    (element "BkToCstmrStmt" (element "GrpHdr" (leaf "MsgId" m (leaf "CreDtTm" "2024-03-01T06:00:00Z" end))
+    (element "BkToCstmrStmt" (element "GrpHdr" (leaf "MsgId" m (leaf "CreDtTm" t end))
     (element "Stmt" (leaf "Id" "S1" (element "Acct" (element "Id" (element "Othr" (leaf "Id" "9" end) end) end)
     (element "Bal" (element "Tp" (element "CdOrPrtry" (leaf "Cd" "CLBD" end) end)
     (full (marked "Amt" "Ccy" "EUR") (text (ascii a)) [] (leaf "CdtDbtInd" "CRDT" (element "Dt" (leaf "Dt" "2024-02-29" end) end)))) end))) end)) end) [] end
+
+abbrev statementTree : String → String → Content
+statementTree m a = statementTreeAt "2024-03-01T06:00:00Z" m a
 
 abbrev amount : String → Way
 amount a = tree (statementTree "M1" a)
@@ -253,3 +256,17 @@ ways =
 pub all-stars : Each Shows stars
 unfolding stars liveLen run step next lead all begins encode isBlank isCapital isDigit isLetter isNameStart isNamePart firstViolation inside childRows absent child firstFrom same rowAt house xor decimalFrom isRef isTxt textFrom readOf signedOf pointOf wholeOf fracOf judged spell frontOff backOff passesFrom placeFrom dayOf fractionOf zoneOf momentOf header bigEndian fresh advance emits nextDue firstOf secondOf ways
 all-stars = shown stars ways refl
+
+-- date-times
+
+abbrev time : String → Way
+time t = tree (statementTreeAt t "M1" "5.00")
+
+unfoldable moments : List Way
+moments =
+    time "2024-02-29T24:00:00Z" ∷ time "2024-03-01T00:00:00Z" ∷ time "9999-12-31T24:00:00Z" ∷ time "2024-02-29T24:00:00.0Z" ∷
+    time "2024-03-01T06:00:00.12Z" ∷ time "2024-03-01T06:00:00.120Z" ∷ time "2024-03-01T06:00:00.120000Z" ∷ []
+
+pub all-times : Each Shows times
+unfolding times liveLen run step next lead all begins encode isBlank isCapital isDigit isLetter isNameStart isNamePart firstViolation inside childRows absent child firstFrom same rowAt house xor decimalFrom isRef isTxt textFrom readOf signedOf pointOf wholeOf fracOf judged spell frontOff backOff passesFrom placeFrom dayOf fractionOf zoneOf momentOf header bigEndian fresh advance emits nextDue firstOf secondOf moments
+all-times = shown times moments refl

@@ -31,21 +31,29 @@ pub record Star : Type 0 where
 abbrev pub Shows : Star → Type 0
 Shows e = (d : List ℕ) → Lent (e .lent) d → Checks (e .file) d (e .answer) (e .image ++ drop (length (e .image)) d)
 
--- document 01's whole file, with this MsgId and this amount
-abbrev pub statement : String → String → List ℕ
-statement m a =
+-- document 01's whole file, with this date-time, this MsgId and this amount
+abbrev pub statementAt : String → String → String → List ℕ
+statementAt t m a =
     ascii "<Document xmlns=\"urn:iso:std:iso:20022:tech:xsd:camt.053.001.08\"><BkToCstmrStmt><GrpHdr><MsgId>" ++ (ascii m
-    ++ (ascii "</MsgId><CreDtTm>2024-03-01T06:00:00Z</CreDtTm></GrpHdr><Stmt><Id>S1</Id><Acct><Id><Othr><Id>9</Id></Othr></Id></Acct><Bal><Tp><CdOrPrtry><Cd>CLBD</Cd></CdOrPrtry></Tp><Amt Ccy=\"EUR\">"
-    ++ (ascii a ++ ascii "</Amt><CdtDbtInd>CRDT</CdtDbtInd><Dt><Dt>2024-02-29</Dt></Dt></Bal></Stmt></BkToCstmrStmt></Document>")))
+    ++ (ascii "</MsgId><CreDtTm>" ++ (ascii t ++ (ascii "</CreDtTm></GrpHdr><Stmt><Id>S1</Id><Acct><Id><Othr><Id>9</Id></Othr></Id></Acct><Bal><Tp><CdOrPrtry><Cd>CLBD</Cd></CdOrPrtry></Tp><Amt Ccy=\"EUR\">"
+    ++ (ascii a ++ ascii "</Amt><CdtDbtInd>CRDT</CdtDbtInd><Dt><Dt>2024-02-29</Dt></Dt></Bal></Stmt></BkToCstmrStmt></Document>")))))
 
--- its image as printed, with the bytes of this MsgId, scale and coefficient
-abbrev pub printed : List ℕ → ℕ → ℕ → List ℕ
-printed m scale coefficient =
-    0x4B ∷ 0x54 ∷ 0x4F ∷ 0x00 ∷ 0x01 ∷ 0x01 ∷ 0x02 ∷ 0x03 ∷ 0x04 ∷ (bigEndian 2 (length m) ++ (m ++ (
-    0x05 ∷ 0x07 ∷ 0xE8 ∷ 0x03 ∷ 0x01 ∷ 0x06 ∷ 0x00 ∷ 0x00 ∷ 0x00 ∷ 0x00 ∷ 0x00 ∷ 0x00 ∷ 0x03 ∷ 0x48 ∷
+-- with its own date-time
+abbrev pub statement : String → String → List ℕ
+statement m a = statementAt "2024-03-01T06:00:00Z" m a
+
+-- its image as printed, with the bytes of this date-time, this MsgId, scale and coefficient
+abbrev pub printedAt : List ℕ → List ℕ → ℕ → ℕ → List ℕ
+printedAt t m scale coefficient =
+    0x4B ∷ 0x54 ∷ 0x4F ∷ 0x00 ∷ 0x01 ∷ 0x01 ∷ 0x02 ∷ 0x03 ∷ 0x04 ∷ (bigEndian 2 (length m) ++ (m ++ (0x05 ∷ (t ++ (
     0x06 ∷ 0x07 ∷ 0x00 ∷ 0x02 ∷ 0x53 ∷ 0x31 ∷ 0x09 ∷ 0x0A ∷ 0x0C ∷ 0x0D ∷ 0x00 ∷ 0x01 ∷ 0x39 ∷
     0x0F ∷ 0x10 ∷ 0x11 ∷ 0x12 ∷ 0x02 ∷ 0x13 ∷ 0x45 ∷ 0x55 ∷ 0x52 ∷ scale ∷ (bigEndian 8 coefficient ++ (
-    0x14 ∷ 0x01 ∷ 0x15 ∷ 0x16 ∷ 0x07 ∷ 0xE8 ∷ 0x02 ∷ 0x1D ∷ 0x00 ∷ [])))))
+    0x14 ∷ 0x01 ∷ 0x15 ∷ 0x16 ∷ 0x07 ∷ 0xE8 ∷ 0x02 ∷ 0x1D ∷ 0x00 ∷ [])))))))
+
+-- with its own date-time
+abbrev pub printed : List ℕ → ℕ → ℕ → List ℕ
+printed m scale coefficient =
+    printedAt (0x07 ∷ 0xE8 ∷ 0x03 ∷ 0x01 ∷ 0x06 ∷ 0x00 ∷ 0x00 ∷ 0x00 ∷ 0x00 ∷ 0x00 ∷ 0x00 ∷ 0x03 ∷ 0x48 ∷ []) m scale coefficient
 
 -- refused whatever the buffer is
 abbrev pub refused : List ℕ → Answer → Star
@@ -84,4 +92,27 @@ stars =
     -- "The image above: a 67-byte buffer accepts; 66 gives 14, place 67"
     good (statement "M1" "5.00") 67 (printed (ascii "M1") 0 5) ∷
     record { file = statement "M1" "5.00"; lent = under 67; answer = noRoom 67; image = [] } ∷
+    []
+
+-- a good date-time of March 1st with its hour and the last three bytes of its microseconds, at offset 0; one that is none: 12 at its element's `<`
+abbrev pub time : String → ℕ → ℕ → ℕ → ℕ → Star
+time t h a b c =
+    good (statementAt t "M1" "5.00") 67 (printedAt (0x07 ∷ 0xE8 ∷ 0x03 ∷ 0x01 ∷ h ∷ 0x00 ∷ 0x00 ∷ 0x00 ∷ a ∷ b ∷ c ∷ 0x03 ∷ 0x48 ∷ []) (ascii "M1") 0 5)
+
+abbrev pub noTime : String → Star
+noTime t = refused (statementAt t "M1" "5.00") (badValue 5 105)
+
+-- beside the starred ones: date-times by document 02, section 3
+unfoldable pub times : List Star
+times =
+    -- "24:00:00, without fraction: its content is 00:00:00 of the next day": one image
+    time "2024-02-29T24:00:00Z" 0 0 0 0 ∷
+    time "2024-03-01T00:00:00Z" 0 0 0 0 ∷
+    -- "and on 9999-12-31 it is refused with 12"
+    noTime "9999-12-31T24:00:00Z" ∷
+    noTime "2024-02-29T24:00:00.0Z" ∷
+    -- "a point and one to three digits, the last not zero"
+    time "2024-03-01T06:00:00.12Z" 6 0x01 0xD4 0xC0 ∷
+    noTime "2024-03-01T06:00:00.120Z" ∷
+    noTime "2024-03-01T06:00:00.120000Z" ∷
     []

@@ -12,13 +12,12 @@ use Rattle.text_characters.specs.Pieces.{XmlChar}
 use Rattle.list.specs.Listing.{Leaf, ref, iban, ccy, bool, num, amt, date, dtm, txt, enum}
 use Rattle.list.specs.WellFormed.{LeafOk}
 use Rattle.value.specs.Text.{isTxt, isRef}
-use Rattle.value.specs.Value.{Value, IsValue, Form}
+use Rattle.value.specs.Value.{Value, IsValue}
 use Rattle.value.proofs.Classes.{Solid, each-all, each-map}
 use Rattle.value.proofs.Trim.{Dense}
 use Rattle.value.proofs.Named.{reference, writing}
-use Rattle.value.proofs.Firm.{form-dense}
-use Rattle.value_to_text.specs.Script.{scriptOf, currencyOf}
-use Rattle.value_to_text.proofs.Scripts.{script-form}
+use Rattle.value_to_text.specs.Script.{scriptOf}
+use Rattle.value_to_text.proofs.Scripts.{script-dense}
 
 -- no tab, no line break, no control character
 pub record Ink (x : ℕ) : Type 0 where
@@ -54,20 +53,17 @@ pub record Inked (t : List ℕ) : Type 0 where
 dense-inked : (t : List ℕ) → Dense t → Inked t
 dense-inked t d = record { some = d .some; each = each-map Solid Ink solid-inks t (d .solid) }
 
-form-inked : (f : Leaf) (w t : List ℕ) (v : Value) → LeafOk f → Form f w t v → Inked t
-form-inked ref w t v ok (Form.reference r) = record { some = r .some; each = each-all isRef Ink ref-inks t (r .class) }
-form-inked (txt k) w t v ok (Form.writing r) = record { some = r .some; each = each-all isTxt Ink txt-inks t (r .class) }
-form-inked iban w t v ok g = dense-inked t (form-dense iban w t v tt g)
-form-inked ccy w t v ok g = dense-inked t (form-dense ccy w t v tt g)
-form-inked bool w t v ok g = dense-inked t (form-dense bool w t v tt g)
-form-inked num w t v ok g = dense-inked t (form-dense num w t v tt g)
-form-inked amt w t v ok g = dense-inked t (form-dense amt w t v tt g)
-form-inked date w t v ok g = dense-inked t (form-dense date w t v tt g)
-form-inked dtm w t v ok g = dense-inked t (form-dense dtm w t v tt g)
-form-inked (enum ws) w t v ok g = dense-inked t (form-dense (enum ws) w t v (ok .1) g)
-
 pub script-inked : (f : Leaf) (v : Value) → LeafOk f → IsValue f v → Inked (scriptOf f v)
-script-inked f v ok h = form-inked f (currencyOf v) (scriptOf f v) v ok (script-form f v h)
+script-inked ref v ok (IsValue.reference {cs = cs} r) = record { some = r .some; each = each-all isRef Ink ref-inks cs (r .class) }
+script-inked (txt k) v ok (IsValue.writing {cs = cs} r) = record { some = r .some; each = each-all isTxt Ink txt-inks cs (r .class) }
+script-inked iban v ok h = dense-inked (scriptOf iban v) (script-dense iban v tt h)
+script-inked ccy v ok h = dense-inked (scriptOf ccy v) (script-dense ccy v tt h)
+script-inked bool v ok h = dense-inked (scriptOf bool v) (script-dense bool v tt h)
+script-inked num v ok h = dense-inked (scriptOf num v) (script-dense num v tt h)
+script-inked amt v ok h = dense-inked (scriptOf amt v) (script-dense amt v tt h)
+script-inked date v ok h = dense-inked (scriptOf date v) (script-dense date v tt h)
+script-inked dtm v ok h = dense-inked (scriptOf dtm v) (script-dense dtm v tt h)
+script-inked (enum ws) v ok h = dense-inked (scriptOf (enum ws) v) (script-dense (enum ws) v (ok .1) h)
 
 pub script-chars : (f : Leaf) (v : Value) → LeafOk f → IsValue f v → Each XmlChar (scriptOf f v)
 script-chars f v ok h = each-map Ink XmlChar ink-char (scriptOf f v) (script-inked f v ok h .each)

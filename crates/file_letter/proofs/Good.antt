@@ -19,6 +19,7 @@ use Rattle.list.specs.Sound.{level}
 use Rattle.list.specs.WellFormed.{WellFormed, LeafOk, KindOk}
 use Rattle.list.proofs.Levels.{level-root, level-child, level-bound}
 use Rattle.list.specs.Content.{Content, end, value, node, rows, Good, Meets, ValueOf}
+use Rattle.value.specs.Rules.{InThousandths}
 use Rattle.value.specs.Value.{Value, IsValue, Spelt}
 use Rattle.value.proofs.Classes.{each-all}
 use Rattle.xml.specs.House.{IsName, IsAttrName, double, GoodValue, GoodAttr, GoodTag, Content as Tags, end as over, piece, empty, full, render, isChar, begins, behind, cut, Good as Fine, GoodTree}
@@ -95,9 +96,9 @@ resolves (c ∷ cs) = ap₂ _∷_ (sym (one-piece c)) (resolves cs)
 pub text-spells : (cs : List ℕ) → Each XmlChar cs → Spells (render (textIn cs)) cs
 text-spells cs h = record { pieces = piecesOf cs; good = good-pieces cs h; is = rendered cs; chars = resolves cs }
 
--- every value of a type is spelt by some raw text
-pub every-raw : (f : Leaf) (v : Value) → LeafOk f → IsValue f v → Spells (render (textIn (scriptOf f v))) (scriptOf f v) × Spelt f (currencyOf v) (scriptOf f v) v
-every-raw f v ok h = (text-spells (scriptOf f v) (script-chars f v ok h), script-spelt f v h)
+-- every value of a type that is no finer than the present rule is spelt by some raw text
+pub every-raw : (f : Leaf) (v : Value) → LeafOk f → IsValue f v → InThousandths v → Spells (render (textIn (scriptOf f v))) (scriptOf f v) × Spelt f (currencyOf v) (scriptOf f v) v
+every-raw f v ok h q = (text-spells (scriptOf f v) (script-chars f v ok h), script-spelt f v h q)
 
 -- ---- attributes
 

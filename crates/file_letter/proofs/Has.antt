@@ -13,6 +13,8 @@ use Rattle.text_characters.specs.Pieces.{char, entity, amp, lt, gt, spell, reso
 use Rattle.list.specs.Listing.{Leaf, Kind, group, choice, leaf, Listing, rowAt, Child, isGroup}
 use Rattle.list.specs.WellFormed.{WellFormed}
 use Rattle.list.specs.Content.{Content, end, value, node, rows, Good, Meets, ValueOf, GroupOf}
+use Rattle.value.specs.Moment.{present}
+use Rattle.value.specs.Rules.{InThousandths}
 use Rattle.value.specs.Value.{Value, text, place, truth, natural, amount, day, moment, IsValue, Form, Spelt}
 use Rattle.xml.specs.Message.{attrsOf, partsOf, messageOf}
 use Rattle.file_walk.specs.First.{textOf, currency}
@@ -21,7 +23,9 @@ use Rattle.file.specs.Instance.{houseTypes}
 use Rattle.value_to_text.specs.Script.{scriptOf, currencyOf}
 use Rattle.value_to_text.specs.Raw.{pieceOf}
 use Rattle.file_letter.specs.Letter.{textIn, plainly, attrOf, coinOf, wordsIn, treeIn, treeOf}
-use Rattle.value_to_text.proofs.Scripts.{script-spelt}
+use Rattle.value_to_text.specs.Spelled.{Spelled}
+use Rattle.value_to_text.proofs.Scripts.{script-spelt, present-spelt}
+use Rattle.file_letter.proofs.Meeting.{said-is}
 
 -- ---- texts
 
@@ -66,8 +70,8 @@ coin-is (day y m d) = refl
 coin-is (moment y mo d h mi s u z) = refl
 
 -- the text that is written for a value spells it, with the attributes that are written
-pub written-spelt : (f : Leaf) (v : Value) → IsValue f v → Spelt f (coin v) (scriptOf f v) v
-written-spelt f v h = subst (λ (w : List ℕ). Spelt f w (scriptOf f v) v) (sym (coin-is v)) (script-spelt f v h)
+pub written-spelt : (f : Leaf) (v : Value) → IsValue f v → InThousandths v → Spelt f (coin v) (scriptOf f v) v
+written-spelt f v h q = subst (λ (w : List ℕ). Spelt f w (scriptOf f v) v) (sym (coin-is v)) (script-spelt f v h q)
 
 -- an amount has the one attribute Ccy, of type CCY, another leaf has none
 attrs-ok : (f : Leaf) (v : Value) → IsValue f v → LeafAttrs houseTypes f (attrsOf (coinOf v))
@@ -114,18 +118,19 @@ module _ (l : Listing) (wf : WellFormed l) where
   pub rooted : (c : Content Value) → Meets IsValue l c → Rooted c
   rooted c m = rooted-by c (m .root) (m .good)
 
-  spells : (k : Kind) (v : Value) (o : ℕ) → ValueOf IsValue l k v → Spells houseTypes l k (attrsOf (coinOf v)) (partsOf o (textIn (wordsIn k v))) v
+  spells : (k : Kind) (v : Value) (o : ℕ) → ValueOf (Spelled present) l k v → Spells houseTypes l k (attrsOf (coinOf v)) (partsOf o (textIn (wordsIn k v))) v
   spells group v o h = absurd h
   spells choice v o h = absurd h
   spells (leaf f) v o h =
-      (plain-is (scriptOf f v) o, attrs-ok f v h, subst (λ (u : List ℕ). Spelt f (coin v) u v) (sym (text-is (scriptOf f v) o)) (written-spelt f v h))
+      let i = present-spelt f v .1 h in
+      (plain-is (scriptOf f v) o, attrs-ok f v (i .0), subst (λ (u : List ℕ). Spelt f (coin v) u v) (sym (text-is (scriptOf f v) o)) (written-spelt f v (i .0) (i .1)))
 
-  group-is : (k : Kind) → GroupOf IsValue l k → isGroup k ≡ true
+  group-is : (k : Kind) → GroupOf (Spelled present) l k → isGroup k ≡ true
   group-is group g = refl
   group-is choice g = refl
   group-is (leaf f) g = absurd g
 
-  denotes : (c : Content Value) (p o : ℕ) → Each (Child l p) (rows c) → Good IsValue l c → Denotes houseTypes l p (partsOf o (treeIn l c)) c
+  denotes : (c : Content Value) (p o : ℕ) → Each (Child l p) (rows c) → Good (Spelled present) l c → Denotes houseTypes l p (partsOf o (treeIn l c)) c
   denotes end p o a g = tt
   denotes (value r v k) p o a g =
       ((a .0, refl), spells (rowAt l r .kind) v _ (g .0), denotes k p _ (a .1) (g .1))
@@ -133,13 +138,13 @@ module _ (l : Listing) (wf : WellFormed l) where
       ((a .0, refl), (group-is (rowAt l r .kind) (g .0 .0), refl), denotes c r _ (g .0 .1 .theirs) (g .1), denotes k p _ (a .1) (g .2))
 
   -- the message of the written tree has the content
-  pub letter-has : (c : Content Value) → Meets IsValue l c → Has houseTypes l (messageOf (treeOf l c)) c
+  pub letter-has : (c : Content Value) → Meets (Spelled present) l c → Has houseTypes l (messageOf (treeOf l c)) c
   unfolding same
   letter-has c m =
-      let w = rooted c m in
+      let w = rooted c (said-is l c m) in
       let kids = w .kids in
       subst (λ (x : Content Value). Has houseTypes l (messageOf (treeOf l x)) x) (sym (w .is)) (
-      let g : Good IsValue l (node 1 kids end) = subst (Good IsValue l) (w .is) (m .good) in
+      let g : Good (Spelled present) l (node 1 kids end) = subst (Good (Spelled present) l) (w .is) (m .good) in
       record {
         name = refl;
         attrs = record { besides = ap (λ (u : List ℕ). (ascii "xmlns", u) ∷ []) (plainly-is (l .space)); tied = refl };

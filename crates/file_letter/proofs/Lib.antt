@@ -5,6 +5,10 @@ pub mod Chars
 pub mod Telling
 -- document 01's example
 pub mod Example
+-- what a file may say, and what an image may hold
+pub mod Meeting
+-- the first item that a file may not say
+pub mod Stale
 -- the written message's content
 pub mod Has
 -- the written tree is good

@@ -1,6 +1,8 @@
 -- The definitions of `file_letter`.
 -- the tree that is written for a content
 pub mod Letter
+-- what a file may not say any more
+pub mod Stale
 -- what writing answers, and what it leaves in the buffer
 pub mod Writes
 -- a mirror: how it is told, item by item

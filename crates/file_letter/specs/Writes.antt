@@ -5,9 +5,11 @@ use mathlib.Core.List.{List, _++_}
 use Prim.Native.Nat.{ℕ, _≤_, _<_}
 use lib.ListN.{length, drop}
 use Rattle.answer.specs.declared.Answer.{Answer}
-use Rattle.answer.specs.Table.{limit, accepted, noRoom, tooLarge}
+use Rattle.answer.specs.Table.{limit, accepted, noRoom, tooLarge, tooFine}
+use Rattle.list.specs.Content.{items}
 use Rattle.image_reading.specs.Reads.{HouseAccepts, HouseReads}
 use Rattle.file_letter.specs.Letter.{letterOf}
+use Rattle.file_letter.specs.Stale.{NoneOf, FirstAt, Finer}
 
 -- "From an image at the start of a run, write a message": the file of that image's content, by its list
 abbrev pub letterIn : {run : List ℕ} {n : ℕ} → HouseAccepts run n → List ℕ
@@ -26,5 +28,7 @@ pub data Delivers (s d : List ℕ) (a : Answer) (d′ : List ℕ) : Type 0 where
 pub data Writes (run d : List ℕ) (a : Answer) (d′ : List ℕ) : Type 0 where
   -- "Refusals: 1 and 15 to 17 as in the reader"
   unread : HouseReads run a → a .code ≢ 0 → d′ ≡ d → Writes run d a d′
+  -- section 3: "Stored images with finer fractions are still read; §1 refuses to write them", with "20, before 19, row of the date-time, place of its item"
+  finer : length run ≤ limit → (n : ℕ) (w : HouseAccepts run n) (r p : ℕ) → FirstAt (w .list) Finer (length (w .head)) (items (w .holds .content)) r p → a ≡ tooFine r p → d′ ≡ d → Writes run d a d′
   -- "then 19 .., then 14 .."
-  begun : length run ≤ limit → (n : ℕ) (w : HouseAccepts run n) → Delivers (letterIn w) d a d′ → Writes run d a d′
+  begun : length run ≤ limit → (n : ℕ) (w : HouseAccepts run n) → NoneOf Finer (items (w .holds .content)) → Delivers (letterIn w) d a d′ → Writes run d a d′

@@ -79,7 +79,7 @@ next-past h a p past x = next-end h a p (drop-of-length-le (now (h .run)) past) 
 
 -- ---- dividing a run
 
--- where an image stands, it is accepted, and what stands behind it is left
+-- where an image stands, it is accepted, and what stands after it is left
 pub next-takes : (h : Held) (a : Answer) (p : Held) (c : Content Value) (u : List ℕ) → Meets IsValue kept c → length (left h) ≤ limit → left h ≡ image values kept c ++ u → Next h a p
     → (a ≡ accepted (length (image values kept c))) × (left p ≡ u)
 next-takes h a p c u m short at x =
@@ -100,7 +100,7 @@ abbrev pub lengths : List (Content Value) → List Answer
 lengths [] = []
 lengths (c ∷ cs) = accepted (length (image values kept c)) ∷ lengths cs
 
--- and as many calls as there are images accept each of them, and stand behind the last
+-- and as many calls as there are images accept each of them, and stand after the last
 pub divides : (cs : List (Content Value)) (u : List ℕ) {h p : Held} {answers : List Answer} → Each (Meets IsValue kept) cs → length (left h) ≤ limit → left h ≡ images values kept cs ++ u → length answers ≡ length cs → Calls h answers p
     → (answers ≡ lengths cs) × (left p ≡ u)
 divides [] u m short at n rested = (refl, at)

@@ -31,13 +31,13 @@ pub record HeldPicked (run : RefT (List ℕ)) (at r n : ℕ) (s : RefT (List ℕ
   pub hands : HouseHands (drop at (now run)) r n (now s)
   pub lies : (a : Answer) → HouseAnswers (drop at (now run)) r n a → a .code ≡ 0 → Lies run (at + a .place) s
 
--- the held reader before and behind a call that reads: "it answers as they do on the rest of the run", and moves; its run stays
+-- the held reader before and after a call that reads: "it answers as they do on the rest of the run", and moves; its run stays
 pub record Next (h : Held) (a : Answer) (h′ : Held) : Type 0 where
   pub reads : HouseReads (left h) a
   pub moves : Moves a (h .at) (h′ .at)
   pub holds : h′ .run ≡ h .run
 
--- calls that read, one behind the other, with what each answers
+-- calls that read, one after the other, with what each answers
 pub data Calls : Held → List Answer → Held → Type 0 where
   rested : {h : Held} → Calls h [] h
   called : {h p q : Held} {a : Answer} {answers : List Answer} → Next h a p → Calls p answers q → Calls h (a ∷ answers) q

@@ -44,7 +44,7 @@ fn rest(run: &[u8], at: usize) -> &[u8]
     &run[at..]
 }
 
-// The answer for the image that begins at a place, and the place behind it; the same place where none begins.
+// The answer for the image that begins at a place, and the place after it; the same place where none begins.
 pub(crate) fn read_at(run: &[u8], at: usize) -> Step
     ensures { λ r. ⌜ Steps (now (run .entry)) at r ⌝ }
 {
@@ -79,7 +79,7 @@ pub fn hold<'a>(run: &'a [u8]) -> Held<'a>
     Held { run, at: 0 }
 }
 
-// The answer for the image at its place; it moves on behind an image that it accepts.
+// The answer for the image at its place; it moves on past an image that it accepts.
 pub fn next<'s, 'a>(h: &'s mut Held<'a>) -> Answer
     ensures { λ a. ⌜ Next (now (h .entry)) a (now (h .exit)) ⌝ }
 {

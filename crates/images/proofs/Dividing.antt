@@ -76,7 +76,7 @@ image-least s a r z =
 
 pub record Dividing (run d : List ℕ) (at n : ℕ) : Type 0 where
   pub upto : at ≤ length run
-  -- behind an image the run is known to be no longer than a run may be
+  -- after an image the run is known to be no longer than a run may be
   pub short : 0 < at → length run ≤ limit
   pub room : 3 * n ≤ 8 * at
   pub long : length d ≡ 2796276

@@ -17,7 +17,7 @@ imageLine place size = inDigits place ++ (32 ∷ (inDigits size ++ (10 ∷ [])))
 pub data Divides (run : List ℕ) : ℕ → List ℕ → Type 0 where
   -- "nothing at the run's end"
   atEnd : {at : ℕ} → length run ≤ at → Divides run at []
-  -- an image, and what stands behind it
+  -- an image, and what stands after it
   another : {at : ℕ} {said : List ℕ} → at < length run → (a : Answer) → HouseReads (drop at run) a → a .code ≡ 0 → Divides run (at + a .place) said → Divides run at (imageLine at (a .place) ++ said)
   -- "at the end the reader's own answer for what is left"
   leftOver : {at : ℕ} → at < length run → (a : Answer) → HouseReads (drop at run) a → a .code ≢ 0 → Divides run at (refusal a)

@@ -11,7 +11,7 @@ ghost use Rattle.io.specs.Counts.{Counts};
 ghost use Rattle.text.specs.Pasting.{pasted};
 ghost use Rattle.images.specs.Divides.{imageLine, Divides};
 
-// Writes an image's line at a place, its two numbers of at most twenty digits each; the place behind it.
+// Writes an image's line at a place, its two numbers of at most twenty digits each; the place after it.
 fn put_image(out: &mut [u8], to: usize, place: usize, size: usize) -> usize
     requires { ⌜ to + 42 ≤ length (now out) ⌝ }
     ensures { λ r. ⌜ (r ≡ to + length (imageLine place size)) × (now (out .exit) ≡ pasted (now (out .entry)) to (imageLine place size)) ⌝ }
@@ -25,7 +25,7 @@ fn put_image(out: &mut [u8], to: usize, place: usize, size: usize) -> usize
 
 // Puts what is written for a run to the start of a buffer, and answers how many bytes it is. A run with an image in it has at most 1,048,576
 // bytes, no image is shorter than six and no line of one longer than 16: so the buffer has room for every line, and for that of a refusal,
-// of at most 71 bytes, behind them.
+// of at most 71 bytes, after them.
 pub(crate) fn divided(run: &[u8], out: &mut [u8]) -> usize
     requires { ⌜ length (now out) ≡ 2796276 ⌝ }
     ensures is { λ r. ⌜ Divides (now (run .entry)) 0 (take r (now (out .exit))) ⌝ }

@@ -1,4 +1,4 @@
-// The program: a run of images from standard input; for each image a line with its place and length to standard output, and behind the last
+// The program: a run of images from standard input; for each image a line with its place and length to standard output, and after the last
 // the line of the reader's refusal, where anything is left.
 mod divided; // divided.rt: what it writes, computed on slices
 

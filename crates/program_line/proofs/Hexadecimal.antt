@@ -1,4 +1,4 @@
--- Hexadecimal: two digits for each byte, one behind the other, and back. Assumes nothing.
+-- Hexadecimal: two digits for each byte, one after the other, and back. Assumes nothing.
 use mathlib.Core.Path.{_≡_, refl, sym, _∙_, ap, ap₂}
 use mathlib.Core.List.{List, [], _∷_, _++_, nil≢cons, head-eq-of-cons-eq, tail-eq-of-cons-eq}
 use Prim.Native.Nat.{ℕ, zero, _+_, _-_, _/_, _%_, _≤_, _<_, zero-le}

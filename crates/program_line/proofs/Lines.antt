@@ -41,7 +41,7 @@ module _ (a : Answer) where
       ∙ list-behind d (c ++ (32 ∷ r)) n l (32 ∷ p) (omega arith)
       ∙ ap (pasted d 0) (append-assoc c (32 ∷ r) (32 ∷ p))
 
--- a blank, and the bytes behind it
+-- a blank, and the bytes after it
 pub blank-then : (d v : List ℕ) (n : ℕ) → n + (1 + length v) ≤ length d → pasted (pasted d n (32 ∷ [])) (n + 1) v ≡ pasted d n (32 ∷ v)
 blank-then d v n h = pasted-then d n (32 ∷ []) v (omega arith)
 

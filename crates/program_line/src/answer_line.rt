@@ -10,7 +10,7 @@ ghost use Rattle.text.specs.Digits.{inDigits};
 ghost use Rattle.text.specs.Pasting.{pasted};
 ghost use Rattle.program_line.specs.Line.{numbers, refusal};
 
-// A blank at a place, and a number of at most twenty digits behind it; how many bytes they are.
+// A blank at a place, and a number of at most twenty digits after it; how many bytes they are.
 fn spread_next(buf: &mut [u8], at: usize, n: u64) -> usize
     requires { ⌜ at + 21 ≤ length (now buf) ⌝ }
     ensures { λ r. ⌜ (r ≡ 1 + length (inDigits n)) × ((r ≤ 21) × (now (buf .exit) ≡ pasted (now (buf .entry)) at (32 ∷ inDigits n))) ⌝ }

@@ -1,18 +1,19 @@
--- Examples of document 01 on values that are not starred, and two that it calls easy to get wrong, shown for the definitions themselves. The starred ones stand in one
--- table, that of `file`. Assumes nothing.
+-- Examples of document 01 on values that are not starred, two that it calls easy to get wrong, and date-times by document 02, shown for the definitions themselves. The
+-- starred ones stand in one table, that of `file`. Assumes nothing.
 use mathlib.Core.Path.{_≡_, refl, sym, _∙_}
-use mathlib.Core.List.{List, [], _∷_}
+use mathlib.Core.List.{List, [], _∷_, _++_}
 use mathlib.Core.Option.{Option, some, none}
 use Prim.Native.Nat.{ℕ, zero, suc}
 use native.Mathlib.Omega.{arith}
 use Rattle.text.specs.Bytes.{ascii, isBlank, isCapital, isDigit}
-use Rattle.list.specs.Listing.{Leaf, ref, amt, txt}
+use Rattle.text.specs.Lists.{same}
+use Rattle.list.specs.Listing.{Leaf, ref, amt, dtm, txt}
 use Rattle.list.specs.WellFormed.{LeafOk}
 use Rattle.value.specs.Text.{isRef, isTxt}
 use Rattle.value.specs.Texts.{textFrom}
 use Rattle.value.specs.Reading.{readOf, signedOf, pointOf, wholeOf, fracOf, answer}
-use Rattle.value.specs.Value.{Value, text, amount, Spelt}
-use Rattle.value.specs.Spell.{frontOff, backOff, passesFrom, spell}
+use Rattle.value.specs.Value.{Value, text, amount, moment, Spelt}
+use Rattle.value.specs.Spell.{frontOff, backOff, passesFrom, fractionOf, zoneOf, momentOf, spell}
 use Rattle.value.proofs.Spell.{spell-sound, spell-complete}
 
 -- a type, characters, and the value that they spell
@@ -37,6 +38,17 @@ good k cs = record { type = k; chars = cs; value = some (text cs) }
 abbrev bad : Leaf → List ℕ → Example
 bad k cs = record { type = k; chars = cs; value = none }
 
+-- noon of 2024-02-28, and so many microseconds
+abbrev noon : List ℕ → ℕ → Example
+noon cs u = record { type = dtm; chars = ascii "2024-02-28T12:00:00" ++ cs; value = some (moment 2024 2 28 12 0 0 u 840) }
+
+abbrev no-noon : List ℕ → Example
+no-noon cs = bad dtm (ascii "2024-02-28T12:00:00" ++ cs)
+
+-- a day, what stands after its `T24:00:00`, and midnight of the next
+abbrev late : List ℕ → List ℕ → ℕ → ℕ → ℕ → ℕ → Example
+late cs ds y m d z = record { type = dtm; chars = cs ++ (ascii "T24:00:00" ++ ds); value = some (moment y m d 0 0 0 0 z) }
+
 -- n times `€`
 abbrev euros : ℕ → List ℕ
 euros zero = []
@@ -49,6 +61,14 @@ examples =
     -- "35 good, 36 bad"; "Nm of 140 `€` (420 bytes) good, 141 bad"
     ∷ good ref (ascii "12345678901234567890123456789012345") ∷ bad ref (ascii "123456789012345678901234567890123456")
     ∷ good (txt 140) (euros 140) ∷ bad (txt 140) (euros 141) ∷ []
+
+-- "a point and one to three digits, the last not zero"; "24:00:00, without fraction"; "on 9999-12-31 it is refused"
+abbrev pub moments : List Example
+moments =
+    noon (ascii "Z") 0 ∷ noon (ascii ".1Z") 100000 ∷ noon (ascii ".01+00:00") 10000 ∷ noon (ascii ".123Z") 123000
+    ∷ no-noon (ascii ".0Z") ∷ no-noon (ascii ".10Z") ∷ no-noon (ascii ".100Z") ∷ no-noon (ascii ".000Z") ∷ no-noon (ascii ".1234Z") ∷ no-noon (ascii ".123456Z") ∷ no-noon (ascii ".Z") ∷ no-noon (ascii "+01")
+    ∷ late (ascii "2024-02-28") (ascii "Z") 2024 2 29 840 ∷ late (ascii "2023-02-28") (ascii "-01:00") 2023 3 1 780 ∷ late (ascii "2023-12-31") (ascii "+14:00") 2024 1 1 1680
+    ∷ bad dtm (ascii "9999-12-31T24:00:00Z") ∷ bad dtm (ascii "2024-02-28T24:00:00.1Z") ∷ bad dtm (ascii "2024-02-28T24:00:00.0Z") ∷ bad dtm (ascii "2024-02-28T24:00:01Z") ∷ bad dtm (ascii "2024-02-28T25:00:00Z") ∷ []
 
 -- by the definition: this value and no other, or none
 abbrev pub Shown : Leaf → List ℕ → Option Value → Type 0
@@ -89,3 +109,11 @@ computed = refl then refl then refl then refl then refl then refl then refl then
 
 pub all-shown : AllShown examples
 all-shown = all-of examples (omega arith) computed
+
+computed-moments : Computed moments
+unfolding spell frontOff backOff momentOf fractionOf zoneOf isBlank isDigit same
+computed-moments =
+    refl then refl then refl then refl then refl then refl then refl then refl then refl then refl then refl then refl then refl then refl then refl then refl then refl then refl then refl then refl then done
+
+pub moments-shown : AllShown moments
+moments-shown = all-of moments (omega arith) computed-moments

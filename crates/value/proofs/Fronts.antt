@@ -1,28 +1,31 @@
 -- Digits at the front of a text, days and moments, as the code reads them. Assumes nothing.
 use mathlib.Core.Path.{_≡_, refl, sym, _∙_, ap, ap₂, subst}
-use mathlib.Core.Bool.{Bool, true, false, true≢false}
-use mathlib.Core.List.{List, [], _∷_}
+use mathlib.Core.Bool.{Bool, true, false, true≢false, cond}
+use mathlib.Core.List.{List, [], _∷_, _++_}
 use mathlib.Core.Logic.{_≢_, _⊎_, inl, inr, ⊎-elim}
-use Prim.Native.Nat.{ℕ, _+_, _*_, _-_, _/_, _%_, _≤_, _<_}
+use Prim.Native.Nat.{ℕ, zero, suc, _+_, _*_, _-_, _/_, _%_, _≤_, _<_}
 use native.Mathlib.Numerals.{add-one}
 use native.Mathlib.Omega.{arith}
 use native.Mathlib.Decide.{decLt}
-use lib.Dec.{eqb}
+use lib.Dec.{eqb, ltb}
 use lib.ListN.{length, drop, getD}
 use lib.Seq.{drop-cons, drop-drop}
-use borrow.Author.Tests.{eq-eqb, eqb-true}
+use borrow.Author.Tests.{eq-eqb, eqb-true, lt-ltb, le-ltb}
 use Rattle.text.specs.Bytes.{isDigit}
+use Rattle.text.specs.Words.{starts}
+use Rattle.text.proofs.Parts.{starts-is, starts-not}
 use Rattle.list.specs.Listing.{date, dtm}
 use Rattle.value.specs.declared.judged.Judged.{Judged}
 use Rattle.value.specs.declared.judged.Judged.the-variants as J
-use Rattle.value.specs.Day.{Real, pair, dayText, monthDays}
-use Rattle.value.specs.Moment.{Clock, clockText, triple, Fraction, absent, three, six, FractionOk, fractionText, Zone, zulu, ahead, behind, Offset, ZoneOk, zoneText, offset, MomentText}
+use Rattle.value.specs.Day.{Real, pair, dayText, monthDays, nextDay}
+use Rattle.value.specs.Moment.{present, Clock, clockText, Fraction, absent, decimals, figures, FractionOk, fractionText, Zone, zulu, ahead, behind, Offset, ZoneOk, zoneText, offset, ordinary, midnight}
 use Rattle.value.specs.Value.{Value, Form}
 use Rattle.value.specs.Judged.{Formed, formed, formless, FormedAny}
-use Rattle.value.specs.Digits.{Two, Three, Mark, DayAt, FractionAt, ZoneAt, ClockText, ClockAt}
+use Rattle.value.specs.Digits.{One, Two, Mark, DayAt, FractionAt, NextAt, ZoneAt, ClockText, ClockAt, MidnightAt}
 use Rattle.value.proofs.Classes.{digit-range, digit-yes}
-use Rattle.value.proofs.Months.{month-none}
+use Rattle.value.proofs.Months.{month-none, month-some}
 use Rattle.value.proofs.Dates.{month-most, point-first}
+use Rattle.value.proofs.SpellDays.{read-day}
 
 -- ---- the first bytes from a place on
 pub front-one : (s : List ℕ) (i : ℕ) → i < length s → drop i s ≡ getD s i 0 ∷ drop (i + 1) s
@@ -57,32 +60,20 @@ two-good x y t p q =
     join : (x y a b : ℕ) (t : List ℕ) → x ≡ a → y ≡ b → x ∷ y ∷ t ≡ a ∷ b ∷ t
     join x y a b t e f = cc
 
--- ---- three
-pub three-none : (l : List ℕ) → length l ≤ 0 → Three l 1000
-three-none l h = record { sound = λ k. absurd (omega arith); complete = λ n u k e. absurd (omega (arith, ap length e)) }
+-- ---- one
+pub one-none : (l : List ℕ) → length l ≤ 0 → One l 10
+one-none l h = record { sound = λ k. absurd (omega arith); complete = λ n u k e. absurd (omega (arith, ap length e)) }
 
-pub three-bad : (x : ℕ) (t : List ℕ) → isDigit x ≡ false → Three (x ∷ t) 1000
-three-bad x t f = record { sound = λ k. absurd (omega arith); complete = λ n u k e. absurd (not-digit x (n / 100) f (omega arith) (cc)) }
+pub one-bad : (x : ℕ) (t : List ℕ) → isDigit x ≡ false → One (x ∷ t) 10
+one-bad x t f = record { sound = λ k. absurd (omega arith); complete = λ n u k e. absurd (not-digit x n f (omega arith) (cc)) }
 
-pub three-short : (x : ℕ) (t : List ℕ) (m : ℕ) → Two t m → 99 < m → Three (x ∷ t) 1000
-three-short x t m w h = record { sound = λ k. absurd (omega arith); complete = λ n u k e. absurd (omega (arith, w .complete (n % 100) u (omega arith) (cc))) }
-
-pub three-good : (x : ℕ) (t : List ℕ) (m : ℕ) → isDigit x ≡ true → Two t m → m ≤ 99 → Three (x ∷ t) ((x - 48) * 100 + m)
-three-good x t m p w h =
+one-good : (x : ℕ) (t : List ℕ) (r : ℕ) → isDigit x ≡ true → r ≡ x - 48 → One (x ∷ t) r
+one-good x t r p q =
     let a = digit-range x p in
-    let q = w .sound h in
-    record {
-      sound = λ k. let c : x ≡ 48 + ((x - 48) * 100 + m) / 100 = omega arith in let d : m ≡ ((x - 48) * 100 + m) % 100 = omega arith in join x t (48 + ((x - 48) * 100 + m) / 100) m (((x - 48) * 100 + m) % 100) c d q;
-      complete = λ n u k e. let c : x ≡ 48 + n / 100 = cc in let d = w .complete (n % 100) u (omega arith) (cc) in omega arith;
-    }
-  where
-    join : (x : ℕ) (t : List ℕ) (a m b : ℕ) → x ≡ a → m ≡ b → t ≡ pair m (drop 2 t) → x ∷ t ≡ a ∷ pair b (drop 2 t)
-    join x t a m b e f q = ap₂ (λ (y : ℕ) (u : List ℕ). y ∷ u) e (q ∙ ap (λ (k : ℕ). pair k (drop 2 t)) f)
+    record { sound = λ k. let c : x ≡ 48 + r = omega arith in ap (λ (y : ℕ). y ∷ t) c; complete = λ n u k e. let c : x ≡ 48 + n = cc in omega arith }
 
-pub three-made : (s : List ℕ) (i m a b : ℕ) → i < length s → isDigit (getD s i 0) ≡ true → Two (drop (i + 1) s) m → m ≤ 99 → a ≡ getD s i 0 - 48 → b ≡ m → Three (drop i s) (a * 100 + b)
-three-made s i m a b h p w k e f =
-    let q : a * 100 + b ≡ (getD s i 0 - 48) * 100 + m = omega arith in
-    subst (Three (drop i s)) (sym q) (subst (λ (l : List ℕ). Three l ((getD s i 0 - 48) * 100 + m)) (sym (front-one s i h)) (three-good (getD s i 0) (drop (i + 1) s) m p w k))
+pub one-made : (s : List ℕ) (i r : ℕ) → i < length s → isDigit (getD s i 0) ≡ true → r ≡ getD s i 0 - 48 → One (drop i s) r
+one-made s i r h p e = subst (λ (l : List ℕ). One l r) (sym (front-one s i h)) (one-good (getD s i 0) (drop (i + 1) s) r p e)
 
 -- ---- one byte
 pub mark-none : (l : List ℕ) (b : ℕ) → length l ≤ 0 → Mark l b false
@@ -183,71 +174,153 @@ pub day-length : (t : List ℕ) → length t ≢ 10 → FormedAny date t J.Refus
 day-length t h w cw = formless refl (day-refuse w t (λ y m d real is. h (ap length is)))
 
 -- ---- the fraction of a second
-pub fraction-none : (l : List ℕ) → ((f : Fraction) (z : Zone) → FractionOk f → l ≡ fractionText f (zoneText z []) → f ≡ absent) → FractionAt l 0 l
-fraction-none l g =
-    record { fraction = absent; good = tt; is = refl; count = refl; only = λ f z h e. let k = g f z h e in e ∙ ap (λ (f : Fraction). fractionText f (zoneText z [])) k }
+-- what begins with no digit
+nine : (r : ℕ) → (r ≤ 9 → ⊥) → 9 < r
+nine r f = omega (arith, f)
 
-no-digits : {A : Type 0} (n : ℕ) (t : List ℕ) (z : Zone) → n < 1000 → zoneText z [] ≡ triple n t → A
-no-digits n t zulu h e = let q : 90 ≡ 48 + n / 100 = cc in absurd (omega arith)
-no-digits n t (ahead a b) h e = let q : 43 ≡ 48 + n / 100 = cc in absurd (omega arith)
-no-digits n t (behind a b) h e = let q : 45 ≡ 48 + n / 100 = cc in absurd (omega arith)
+no-one : (l : List ℕ) (r : ℕ) (z : Zone) → One l r → l ≡ zoneText z [] → 9 < r
+no-one l r zulu w e = nine r (λ h. let p = w .sound h in let q : _≡_ {A = ℕ} (48 + r) 90 = cc in omega arith)
+no-one l r (ahead i j) w e = nine r (λ h. let p = w .sound h in let q : _≡_ {A = ℕ} (48 + r) 43 = cc in omega arith)
+no-one l r (behind i j) w e = nine r (λ h. let p = w .sound h in let q : _≡_ {A = ℕ} (48 + r) 45 = cc in omega arith)
 
 -- no point stands there
-pub fraction-bare : (l : List ℕ) → Mark l 46 false → FractionAt l 0 l
-fraction-bare l w = fraction-none l go
+fraction-bare : (l : List ℕ) → Mark l 46 false → FractionAt l 0 l
+fraction-bare l w = record { fraction = absent; good = tt; is = refl; count = refl; only = go }
   where
-    go : (f : Fraction) (z : Zone) → FractionOk f → l ≡ fractionText f (zoneText z []) → f ≡ absent
-    go absent z h e = refl
-    go (three n) z h e = absurd (no-mark l 46 false (triple n (zoneText z [])) w refl e)
-    go (six n) z h e = absurd (no-mark l 46 false (triple (n / 1000) (triple (n % 1000) (zoneText z []))) w refl e)
+    go : (f : Fraction) (z : Zone) → FractionOk present f → l ≡ fractionText f (zoneText z []) → l ≡ zoneText z []
+    go absent z h e = e
+    go (decimals k n) z h e = absurd (no-mark l 46 false (figures k n (zoneText z [])) w refl e)
 
--- a point, and no digits
-pub fraction-bad : (l : List ℕ) (a : ℕ) → Three (drop 1 l) a → 999 < a → FractionAt l 0 l
-fraction-bad l a w k = fraction-none l go
-  where
-    go : (f : Fraction) (z : Zone) → FractionOk f → l ≡ fractionText f (zoneText z []) → f ≡ absent
-    go absent z h e = refl
-    go (three n) z h e = absurd (omega (arith, w .complete n (zoneText z []) (omega arith) (ap (drop 1) e)))
-    go (six n) z h e = absurd (omega (arith, w .complete (n / 1000) (triple (n % 1000) (zoneText z [])) (omega arith) (ap (drop 1) e)))
+same-three : (a b c x y z : ℕ) (t : List ℕ) → a ≡ x → b ≡ y → c ≡ z → 46 ∷ (48 + a) ∷ (48 + b) ∷ (48 + c) ∷ t ≡ 46 ∷ (48 + x) ∷ (48 + y) ∷ (48 + z) ∷ t
+same-three a b c x y z t e f g = rw (e, f, g)
 
-module _ (l : List ℕ) (a b : ℕ) (p : Mark l 46 true) (u : Three (drop 1 l) a) (v : Three (drop 4 l) b) (h : a ≤ 999) where
-  first-three : l ≡ 46 ∷ triple a (drop 4 l)
-  first-three = p .sound refl ∙ ap (λ (t : List ℕ). 46 ∷ t) (u .sound h ∙ ap (triple a) (drop-drop 3 1 l))
+-- a point, and what is read behind it: a, b and c are digits, or above 9
+module _ (l : List ℕ) (a b c : ℕ) (p : Mark l 46 true) (u : One (drop 1 l) a) (v : One (drop 2 l) b) (w : One (drop 3 l) c) where
+  -- what a fraction before a zone says of them
+  data Said (rest : List ℕ) : Type 0 where
+    one : a ≤ 9 → a ≢ 0 → 9 < b → drop 2 l ≡ rest → Said rest
+    two : a ≤ 9 → b ≤ 9 → b ≢ 0 → 9 < c → drop 3 l ≡ rest → Said rest
+    three : a ≤ 9 → b ≤ 9 → c ≤ 9 → c ≢ 0 → drop 4 l ≡ rest → Said rest
 
-  pub fraction-three : 999 < b → FractionAt l (a * 1000) (drop 4 l)
-  fraction-three k = record { fraction = three a; good = omega arith; is = first-three; count = refl; only = only }
+  fraction-read : (f : Fraction) (z : Zone) → FractionOk present f → l ≡ fractionText f (zoneText z []) → Said (zoneText z [])
+  unfolding figures
+  fraction-read absent z h e = point-first (drop 1 l) z (sym (p .sound refl) ∙ e)
+  fraction-read (decimals zero n) z h e = absurd (omega (arith, h .0 .0))
+  fraction-read (decimals (suc zero) n) z h e =
+      let i = u .complete (n % 10) (zoneText z []) (omega arith) (ap (drop 1) e) in
+      one (omega arith) (λ k. h .2 (omega arith)) (no-one (drop 2 l) b z v (ap (drop 2) e)) (ap (drop 2) e)
+  fraction-read (decimals (suc (suc zero)) n) z h e =
+      let i = u .complete (n / 10 % 10) _ (omega arith) (ap (drop 1) e) in
+      let j = v .complete (n % 10) (zoneText z []) (omega arith) (ap (drop 2) e) in
+      two (omega arith) (omega arith) (λ k. h .2 (omega arith)) (no-one (drop 3 l) c z w (ap (drop 3) e)) (ap (drop 3) e)
+  fraction-read (decimals (suc (suc (suc zero))) n) z h e =
+      let i = u .complete (n / 10 / 10 % 10) _ (omega arith) (ap (drop 1) e) in
+      let j = v .complete (n / 10 % 10) _ (omega arith) (ap (drop 2) e) in
+      let k = w .complete (n % 10) (zoneText z []) (omega arith) (ap (drop 3) e) in
+      three (omega arith) (omega arith) (omega arith) (λ q. h .2 (omega arith)) (ap (drop 4) e)
+  fraction-read (decimals (suc (suc (suc (suc k)))) n) z h e = absurd (omega (arith, h .0 .1))
+
+  -- no fraction before a zone begins so
+  fraction-bad : (a ≤ 9 → a ≢ 0 → 9 < b → ⊥) → (a ≤ 9 → b ≤ 9 → b ≢ 0 → 9 < c → ⊥) → (a ≤ 9 → b ≤ 9 → c ≤ 9 → c ≢ 0 → ⊥) → FractionAt l 0 l
+  fraction-bad f g k = record { fraction = absent; good = tt; is = refl; count = refl; only = λ x z h e. absurd (go (zoneText z []) (fraction-read x z h e)) }
     where
-      only : (f : Fraction) (z : Zone) → FractionOk f → l ≡ fractionText f (zoneText z []) → drop 4 l ≡ zoneText z []
-      only absent z g e = point-first _ z (sym first-three ∙ e)
-      only (three n) z g e = ap (drop 4) e
-      only (six n) z g e = absurd (omega (arith, v .complete (n % 1000) (zoneText z []) (omega arith) (ap (drop 4) e)))
+      go : (rest : List ℕ) → Said rest → ⊥
+      go rest (one q r m e) = f q r m
+      go rest (two q r m o e) = g q r m o
+      go rest (three q r m o e) = k q r m o
 
-  pub fraction-six : b ≤ 999 → FractionAt l (a * 1000 + b) (drop 7 l)
-  fraction-six k =
-      let q : (a * 1000 + b) / 1000 ≡ a = omega arith in
-      let r : (a * 1000 + b) % 1000 ≡ b = omega arith in
+  one-front : a ≤ 9 → l ≡ 46 ∷ (48 + a) ∷ drop 2 l
+  one-front h = p .sound refl ∙ ap (λ (t : List ℕ). 46 ∷ t) (u .sound h ∙ ap (λ (t : List ℕ). (48 + a) ∷ t) (drop-drop 1 1 l))
+
+  two-front : a ≤ 9 → b ≤ 9 → l ≡ 46 ∷ (48 + a) ∷ (48 + b) ∷ drop 3 l
+  two-front h i = one-front h ∙ ap (λ (t : List ℕ). 46 ∷ (48 + a) ∷ t) (v .sound i ∙ ap (λ (t : List ℕ). (48 + b) ∷ t) (drop-drop 1 2 l))
+
+  three-front : a ≤ 9 → b ≤ 9 → c ≤ 9 → l ≡ 46 ∷ (48 + a) ∷ (48 + b) ∷ (48 + c) ∷ drop 4 l
+  three-front h i j = two-front h i ∙ ap (λ (t : List ℕ). 46 ∷ (48 + a) ∷ (48 + b) ∷ t) (w .sound j ∙ ap (λ (t : List ℕ). (48 + c) ∷ t) (drop-drop 1 3 l))
+
+  fraction-one : a ≤ 9 → a ≢ 0 → 9 < b → FractionAt l (a * 100000) (drop 2 l)
+  unfolding figures
+  fraction-one h i j =
+      let n : a ≡ a % 10 = omega arith in
       record {
-        fraction = six (a * 1000 + b);
-        good = omega arith;
-        is = subst (λ (n : ℕ). l ≡ 46 ∷ triple n (triple ((a * 1000 + b) % 1000) (drop 7 l))) (sym q) (subst (λ (n : ℕ). l ≡ 46 ∷ triple a (triple n (drop 7 l))) (sym r) whole);
+        fraction = decimals 1 a;
+        good = ((omega arith, omega arith), omega arith, omega arith);
+        is = one-front h ∙ ap (λ (x : ℕ). 46 ∷ (48 + x) ∷ drop 2 l) n;
         count = refl;
-        only = only;
+        only = λ f z g e. go (zoneText z []) (fraction-read f z g e);
       }
     where
-      rest : drop 4 l ≡ triple b (drop 7 l)
-      rest = v .sound k ∙ ap (triple b) (drop-drop 3 4 l)
+      go : (rest : List ℕ) → Said rest → drop 2 l ≡ rest
+      go rest (one q r m e) = e
+      go rest (two q r m o e) = absurd (omega arith)
+      go rest (three q r m o e) = absurd (omega arith)
 
-      whole : l ≡ 46 ∷ triple a (triple b (drop 7 l))
-      whole = first-three ∙ ap (λ (t : List ℕ). 46 ∷ triple a t) rest
+  fraction-two : a ≤ 9 → b ≤ 9 → b ≢ 0 → 9 < c → FractionAt l ((a * 10 + b) * 10000) (drop 3 l)
+  unfolding figures
+  fraction-two h i j k =
+      let n : a ≡ (a * 10 + b) / 10 % 10 = omega arith in
+      let m : b ≡ (a * 10 + b) % 10 = omega arith in
+      record {
+        fraction = decimals 2 (a * 10 + b);
+        good = ((omega arith, omega arith), omega arith, omega arith);
+        is = two-front h i ∙ ap₂ (λ (x y : ℕ). 46 ∷ (48 + x) ∷ (48 + y) ∷ drop 3 l) n m;
+        count = refl;
+        only = λ f z g e. go (zoneText z []) (fraction-read f z g e);
+      }
+    where
+      go : (rest : List ℕ) → Said rest → drop 3 l ≡ rest
+      go rest (one q r m e) = absurd (omega arith)
+      go rest (two q r m o e) = e
+      go rest (three q r m o e) = absurd (omega arith)
 
-      only : (f : Fraction) (z : Zone) → FractionOk f → l ≡ fractionText f (zoneText z []) → drop 7 l ≡ zoneText z []
-      only absent z g e = point-first _ z (sym whole ∙ e)
-      only (three n) z g e = no-digits b (drop 7 l) z (omega arith) (sym (ap (drop 4) e) ∙ rest)
-      only (six n) z g e = ap (drop 7) e
+  fraction-three : a ≤ 9 → b ≤ 9 → c ≤ 9 → c ≢ 0 → FractionAt l (((a * 10 + b) * 10 + c) * 1000) (drop 4 l)
+  unfolding figures
+  fraction-three h i j k =
+      record {
+        fraction = decimals 3 ((a * 10 + b) * 10 + c);
+        good = ((omega arith, omega arith), omega arith, omega arith);
+        is = three-front h i j ∙ same-three a b c _ _ _ (drop 4 l) (omega arith) (omega arith) (omega arith);
+        count = refl;
+        only = λ f z g e. go (zoneText z []) (fraction-read f z g e);
+      }
+    where
+      go : (rest : List ℕ) → Said rest → drop 4 l ≡ rest
+      go rest (one q r m e) = absurd (omega arith)
+      go rest (two q r m o e) = absurd (omega arith)
+      go rest (three q r m o e) = e
 
-pub fraction-made : (t : List ℕ) (u u′ e e′ : ℕ) → u ≡ u′ → e ≡ e′ → e′ ≤ 26 → FractionAt (drop 19 t) u′ (drop e′ t) → FractionAt (drop 19 t) u (drop e t) × (e ≤ 26)
-fraction-made t u u′ e e′ p q h w =
+made : (t : List ℕ) (u u′ e e′ : ℕ) → u ≡ u′ → e ≡ e′ → e′ ≤ 23 → FractionAt (drop 19 t) u′ (drop e′ t) → FractionAt (drop 19 t) u (drop e t) × (e ≤ 23)
+made t u u′ e e′ p q h w =
     (subst (λ (n : ℕ). FractionAt (drop 19 t) n (drop e t)) (sym p) (subst (λ (n : ℕ). FractionAt (drop 19 t) u′ (drop n t)) (sym q) w), omega arith)
+
+-- the same at 19, as it is answered: u microseconds, and the place e behind the fraction
+pub bare-made : (t : List ℕ) (u e : ℕ) (r : Bool) → Mark (drop 19 t) 46 r → r ≡ false → u ≡ 0 → e ≡ 19 → FractionAt (drop 19 t) u (drop e t) × (e ≤ 23)
+bare-made t u e r w f p q = made t u 0 e 19 p q (omega arith) (fraction-bare (drop 19 t) (subst (λ (x : Bool). Mark (drop 19 t) 46 x) f w))
+
+module _ (t : List ℕ) (u e a b c : ℕ) (r : Bool) (w : Mark (drop 19 t) 46 r) (f : r ≡ true) (i : One (drop 20 t) a) (j : One (drop 21 t) b) (k : One (drop 22 t) c) where
+  point : Mark (drop 19 t) 46 true
+  point = subst (λ (x : Bool). Mark (drop 19 t) 46 x) f w
+
+  at : (n m r : ℕ) → One (drop (n + m) t) r → One (drop m (drop n t)) r
+  at n m r o = subst (λ (l : List ℕ). One l r) (sym (drop-drop m n t)) o
+
+  pub bad-made : u ≡ 0 → e ≡ 19 → (a ≤ 9 → a ≢ 0 → 9 < b → ⊥) → (a ≤ 9 → b ≤ 9 → b ≢ 0 → 9 < c → ⊥) → (a ≤ 9 → b ≤ 9 → c ≤ 9 → c ≢ 0 → ⊥) → FractionAt (drop 19 t) u (drop e t) × (e ≤ 23)
+  bad-made p q x y z = made t u 0 e 19 p q (omega arith) (fraction-bad (drop 19 t) a b c point (at 19 1 a i) (at 19 2 b j) (at 19 3 c k) x y z)
+
+  pub one-digit : u ≡ a * 100000 → e ≡ 21 → a ≤ 9 → a ≢ 0 → 9 < b → FractionAt (drop 19 t) u (drop e t) × (e ≤ 23)
+  one-digit p q x y z =
+      made t u (a * 100000) e 21 p q (omega arith)
+      (subst (FractionAt (drop 19 t) (a * 100000)) (drop-drop 2 19 t) (fraction-one (drop 19 t) a b c point (at 19 1 a i) (at 19 2 b j) (at 19 3 c k) x y z))
+
+  pub two-digits : u ≡ (a * 10 + b) * 10000 → e ≡ 22 → a ≤ 9 → b ≤ 9 → b ≢ 0 → 9 < c → FractionAt (drop 19 t) u (drop e t) × (e ≤ 23)
+  two-digits p q x y z o =
+      made t u ((a * 10 + b) * 10000) e 22 p q (omega arith)
+      (subst (FractionAt (drop 19 t) ((a * 10 + b) * 10000)) (drop-drop 3 19 t) (fraction-two (drop 19 t) a b c point (at 19 1 a i) (at 19 2 b j) (at 19 3 c k) x y z o))
+
+  pub three-digits : u ≡ ((a * 10 + b) * 10 + c) * 1000 → e ≡ 23 → a ≤ 9 → b ≤ 9 → c ≤ 9 → c ≢ 0 → FractionAt (drop 19 t) u (drop e t) × (e ≤ 23)
+  three-digits p q x y z o =
+      made t u (((a * 10 + b) * 10 + c) * 1000) e 23 p q (omega arith)
+      (subst (FractionAt (drop 19 t) (((a * 10 + b) * 10 + c) * 1000)) (drop-drop 4 19 t) (fraction-three (drop 19 t) a b c point (at 19 1 a i) (at 19 2 b j) (at 19 3 c k) x y z o))
 
 -- ---- the zone
 module _ (l : List ℕ) where
@@ -300,6 +373,12 @@ zone-on-ahead l h m a b p q w = let z : 840 + (a * 60 + b) ≡ 840 + (h * 60 + m
 pub zone-on-behind : (l : List ℕ) (h m a b : ℕ) → a ≡ h → b ≡ m → ZoneAt l (840 - (h * 60 + m)) → ZoneAt l (840 - (a * 60 + b))
 zone-on-behind l h m a b p q w = let z : 840 - (a * 60 + b) ≡ 840 - (h * 60 + m) = omega arith in subst (ZoneAt l) (sym z) w
 
+-- an offset is at most 14:00
+no-more : (x : Zone) → ZoneOk x → 1680 < offset x → ⊥
+no-more zulu ok h = omega arith
+no-more (ahead i j) ok h = omega (arith, ok .most)
+no-more (behind i j) ok h = omega (arith, ok .most)
+
 -- ---- the clock
 module _ (t : List ℕ) (y mo d h mi s : ℕ) (a : Two (drop 11 t) h) (b : Two (drop 14 t) mi) (e : Two (drop 17 t) s) where
   -- what is read of a clock's text
@@ -342,33 +421,120 @@ module _ (t : List ℕ) (y mo d h mi s : ℕ) (a : Two (drop 11 t) h) (b : Two (
     clock-on u z rest f (ZoneAt.off is never) k = absurd (omega arith)
 
     pub clock-no-zone : (u z : ℕ) (rest : List ℕ) → FractionAt (drop 19 t) u rest → ZoneAt rest z → 1680 < z → ClockAt t y mo d J.Refused
-    clock-no-zone u z rest f (ZoneAt.on x ok is off) k = absurd (over x ok (omega (arith, off)))
-      where
-        over : (x : Zone) → ZoneOk x → 1680 < offset x → ⊥
-        over zulu ok h = omega arith
-        over (ahead i j) ok h = omega (arith, ok .most)
-        over (behind i j) ok h = omega (arith, ok .most)
+    clock-no-zone u z rest f (ZoneAt.on x ok is off) k = absurd (no-more x ok (omega (arith, off)))
     clock-no-zone u z rest f (ZoneAt.off is never) k =
         ClockAt.off refl (λ h′ mi′ s′ u′ z′ w. never (w .zone) (w .good .1) (f .only (w .fraction) (w .zone) (w .good .0) (sym (drop-drop 9 10 t) ∙ ap (drop 9) (w .is))))
 
+-- ---- the day behind a day
+no-day : (y m d : ℕ) → _≡_ {A = Judged} J.Refused (J.Day y m d) → ⊥
+no-day y m d e = let x : _≡_ {A = ℕ} 0 1 = cc in omega arith
+
+real-as : {a b c y m d : ℕ} → a ≡ y → b ≡ m → c ≡ d → Real a b c → Real y m d
+real-as {a} {b} {c} {y} {m} {d} p q e r = subst (λ (x : ℕ). Real x m d) p (subst (λ (x : ℕ). Real a x d) q (subst (λ (x : ℕ). Real a b x) e r))
+
+module _ (y m d : ℕ) (r : Real y m d) where
+  next-of : (a b : Bool) → ltb d (monthDays y m) ≡ a → ltb m 12 ≡ b → nextDay y m d ≡ cond a (y, m, d + 1) (cond b (y, m + 1, 1) (y + 1, 1, 1))
+  next-of a b p q = rw (p, q)
+
+  pub next-day : d < monthDays y m → NextAt y m d (J.Day y m (d + 1))
+  next-day h = NextAt.on y m (d + 1) (next-of true _ (lt-ltb d (monthDays y m) h) refl) (record { year = r .year; month = r .month; day = (omega arith, omega arith) }) refl
+
+  pub next-month : monthDays y m ≤ d → m < 12 → NextAt y m d (J.Day y (m + 1) 1)
+  next-month h k =
+      NextAt.on y (m + 1) 1 (next-of false true (le-ltb d (monthDays y m) h) (lt-ltb m 12 k))
+      (record { year = r .year; month = (omega arith, omega arith); day = (omega arith, month-some y (m + 1) (omega arith) (omega arith)) }) refl
+
+  last : monthDays y m ≤ d → 12 ≤ m → nextDay y m d ≡ (y + 1, 1, 1)
+  last h k = next-of false false (le-ltb d (monthDays y m) h) (le-ltb m 12 k)
+
+  pub next-year : monthDays y m ≤ d → 12 ≤ m → y < 9999 → NextAt y m d (J.Day (y + 1) 1 1)
+  next-year h k i = NextAt.on (y + 1) 1 1 (last h k) (record { year = (omega arith, omega arith); month = (omega arith, omega arith); day = (omega arith, month-some (y + 1) 1 (omega arith) (omega arith)) }) refl
+
+  pub next-none : monthDays y m ≤ d → 12 ≤ m → 9999 ≤ y → NextAt y m d J.Refused
+  next-none h k i = NextAt.off refl (λ y′ m′ d′ e q. let n : y + 1 ≡ y′ = ap (λ (p : ℕ × ℕ × ℕ). p .0) (sym (last h k) ∙ e) in omega (arith, q .year .1))
+
+-- ---- midnight
+module _ (l : List ℕ) (y m d : ℕ) where
+  pub midnight-zone : (z : ℕ) → ZoneAt l z → 1680 < z → MidnightAt l y m d J.Refused
+  midnight-zone z (ZoneAt.on x ok is off) h = absurd (no-more x ok (omega (arith, off)))
+  midnight-zone z (ZoneAt.off is never) h = MidnightAt.off refl (λ y′ m′ d′ x i r ok e. never x ok e)
+
+  pub midnight-day : (q : Judged) → NextAt y m d q → ((y m d : ℕ) → q ≢ J.Day y m d) → MidnightAt l y m d J.Refused
+  midnight-day q (NextAt.on y′ m′ d′ i r e) f = absurd (f y′ m′ d′ e)
+  midnight-day q (NextAt.off e never) f = MidnightAt.off refl (λ y′ m′ d′ x i r ok k. never y′ m′ d′ i r)
+
+  pub midnight-on : (z y′ m′ d′ : ℕ) (q : Judged) → ZoneAt l z → z ≤ 1680 → NextAt y m d q → q ≡ J.Day y′ m′ d′ → MidnightAt l y m d (J.Moment (record { year = y′; month = m′; day = d′; hour = 0; minute = 0; second = 0; micros = 0; offset = z }))
+  midnight-on z y′ m′ d′ q (ZoneAt.off is never) h n e = absurd (omega arith)
+  midnight-on z y′ m′ d′ q (ZoneAt.on x ok is off) h (NextAt.off i never) e = absurd (no-day y′ m′ d′ (sym i ∙ e))
+  midnight-on z y′ m′ d′ q (ZoneAt.on x ok is off) h (NextAt.on a b c i r k) e =
+      let n : _≡_ {A = Judged} (J.Day a b c) (J.Day y′ m′ d′) = sym k ∙ e in
+      let p1 : a ≡ y′ = cc in
+      let p2 : b ≡ m′ = cc in
+      let p3 : c ≡ d′ = cc in
+      MidnightAt.on y′ m′ d′ x (i ∙ ap (λ (n : ℕ). (n, b, c)) p1 ∙ ap (λ (n : ℕ). (y′, n, c)) p2 ∙ ap (λ (n : ℕ). (y′, m′, n)) p3) (real-as p1 p2 p3 r) ok is
+      (ap (λ (n : ℕ). J.Moment (record { year = y′; month = m′; day = d′; hour = 0; minute = 0; second = 0; micros = 0; offset = n })) off)
+
 -- ---- the moment
-pub moment-refuse : (w t : List ℕ) → ((y mo d h mi s u z : ℕ) → MomentText t y mo d h mi s u z → ⊥) → (v : Value) → Form dtm w t v → ⊥
-moment-refuse w t f v (Form.timed m) = f _ _ _ _ _ _ _ _ m
+-- `T24:00:00`
+abbrev pub lateClock : List ℕ
+lateClock = 84 ∷ 50 ∷ 52 ∷ 58 ∷ 48 ∷ 48 ∷ 58 ∷ 48 ∷ 48 ∷ []
 
 pub moment-no-day : (t : List ℕ) (r : Judged) → DayAt t r → ((y m d : ℕ) → r ≢ J.Day y m d) → FormedAny dtm t J.Refused
 moment-no-day t r (DayAt.on y m d real is e) f w cw = absurd (f y m d e)
-moment-no-day t r (DayAt.off e f) g w cw = formless refl (moment-refuse w t (λ y mo d h mi s u z m. f y mo d _ (m .day) (m .is)))
+moment-no-day t r (DayAt.off e f) g w cw = formless refl go
+  where
+    go : (v : Value) → Form dtm w t v → ⊥
+    go v (Form.timed (ordinary m)) = f _ _ _ _ (m .day) (m .is)
+    go v (Form.timed (midnight i m)) = f _ _ _ _ (m .day) (m .is)
 
-pub moment-whole : (t : List ℕ) (y mo d : ℕ) (q r : Judged) → DayAt t q → q ≡ J.Day y mo d → ClockAt t y mo d r → FormedAny dtm t r
-moment-whole t y mo d q r (DayAt.off e f) g k w cw = absurd (let z : _≡_ {A = Judged} J.Refused (J.Day y mo d) = sym e ∙ g in let x : _≡_ {A = ℕ} 0 1 = cc in omega arith)
-moment-whole t y mo d q r (DayAt.on y′ mo′ d′ real is e) g (ClockAt.on h mi s u z c i) w cw =
+-- the day that is read is the day that stands there
+record Stands (t : List ℕ) (y mo d : ℕ) : Type 0 where
+  real : Real y mo d
+  is : t ≡ dayText y mo d (drop 10 t)
+
+stands : (t : List ℕ) (y mo d : ℕ) (q : Judged) → DayAt t q → q ≡ J.Day y mo d → Stands t y mo d
+stands t y mo d q (DayAt.off e f) g = absurd (no-day y mo d (sym e ∙ g))
+stands t y mo d q (DayAt.on y′ mo′ d′ real is e) g =
     let n : _≡_ {A = Judged} (J.Day y′ mo′ d′) (J.Day y mo d) = sym e ∙ g in
     let p1 : y′ ≡ y = cc in
     let p2 : mo′ ≡ mo = cc in
     let p3 : d′ ≡ d = cc in
-    let real′ : Real y mo d = subst (λ (x : ℕ). Real x mo d) p1 (subst (λ (x : ℕ). Real y′ x d) p2 (subst (λ (x : ℕ). Real y′ mo′ x) p3 real)) in
-    let is′ : t ≡ dayText y mo d (drop 10 t) = is ∙ ap (λ (x : ℕ). dayText x mo′ d′ (drop 10 t)) p1 ∙ ap (λ (x : ℕ). dayText y x d′ (drop 10 t)) p2 ∙ ap (λ (x : ℕ). dayText y mo x (drop 10 t)) p3 in
-    subst (Formed dtm w t) (sym i) (formed _ (Form.timed (record { day = real′; clock = c .clock; fraction = c .fraction; zone = c .zone; good = c .good; is = is′ ∙ ap (dayText y mo d) (c .is); parts = c .parts })) refl)
-moment-whole t y mo d q r (DayAt.on y′ mo′ d′ real is e) g (ClockAt.off i f) w cw =
-    subst (Formed dtm w t) (sym i)
-    (formless refl (moment-refuse w t (λ y″ mo″ d″ h mi s u z m. f h mi s u z (record { clock = m .clock; fraction = m .fraction; zone = m .zone; good = m .good; is = ap (drop 10) (m .is); parts = m .parts }))))
+    record {
+      real = real-as p1 p2 p3 real;
+      is = is ∙ ap (λ (x : ℕ). dayText x mo′ d′ (drop 10 t)) p1 ∙ ap (λ (x : ℕ). dayText y x d′ (drop 10 t)) p2 ∙ ap (λ (x : ℕ). dayText y mo x (drop 10 t)) p3;
+    }
+
+pub day-real : (t : List ℕ) (y mo d : ℕ) (q : Judged) → DayAt t q → q ≡ J.Day y mo d → Real y mo d
+day-real t y mo d q w g = stands t y mo d q w g .real
+
+module _ (t : List ℕ) (y mo d : ℕ) (q r : Judged) (w : DayAt t q) (g : q ≡ J.Day y mo d) where
+  -- the hour is 24 in the one and at most 23 in the other
+  pub moment-whole : starts lateClock (drop 10 t) ≡ false → ClockAt t y mo d r → FormedAny dtm t r
+  moment-whole n (ClockAt.on h mi s u z c i) x cx =
+      let k = stands t y mo d q w g in
+      subst (Formed dtm x t) (sym i) (formed _ (Form.timed (ordinary (record { day = k .real; clock = c .clock; fraction = c .fraction; zone = c .zone; good = c .good; is = k .is ∙ ap (dayText y mo d) (c .is); parts = c .parts }))) refl)
+  moment-whole n (ClockAt.off i f) x cx = subst (Formed dtm x t) (sym i) (formless refl go)
+    where
+      go : (v : Value) → Form dtm x t v → ⊥
+      go v (Form.timed (ordinary m)) = f _ _ _ _ _ (record { clock = m .clock; fraction = m .fraction; zone = m .zone; good = m .good; is = ap (drop 10) (m .is); parts = m .parts })
+      go v (Form.timed (midnight j m)) = starts-not lateClock (drop 10 t) (zoneText (m .zone) []) n (ap (drop 10) (m .is))
+
+  pub moment-late : starts lateClock (drop 10 t) ≡ true → MidnightAt (drop 19 t) y mo d r → FormedAny dtm t r
+  moment-late n (MidnightAt.on y′ m′ d′ z e real ok is i) x cx =
+      let k = stands t y mo d q w g in
+      subst (Formed dtm x t) (sym i)
+      (formed _ (Form.timed (midnight refl (record { year = y; month = mo; date = d; day = k .real; next = e; real = real; zone = z; good = ok; is = k .is ∙ ap (dayText y mo d) (starts-is lateClock (drop 10 t) n ∙ ap (λ (l : List ℕ). lateClock ++ l) (drop-drop 9 10 t ∙ is)); clock = (refl, refl, refl); parts = (refl, refl) }))) refl)
+  moment-late n (MidnightAt.off i f) x cx = subst (Formed dtm x t) (sym i) (formless refl go)
+    where
+      go : (v : Value) → Form dtm x t v → ⊥
+      go v (Form.timed {h = h} (ordinary m)) =
+          let a : lateClock ++ drop 9 (drop 10 t) ≡ 84 ∷ clockText h _ _ _ = sym (starts-is lateClock (drop 10 t) n) ∙ ap (drop 10) (m .is) in
+          let b : 50 ≡ 48 + h / 10 = cc in
+          let c : 52 ≡ 48 + h % 10 = cc in
+          absurd (omega (arith, m .clock .hour))
+      go v (Form.timed (midnight j m)) =
+          let k = read-day t y mo d (drop 10 t) (stands t y mo d q w g .is) in
+          let o = read-day t (m .year) (m .month) (m .date) _ (m .is) in
+          f _ _ _ (m .zone)
+          (ap (λ (a : ℕ). nextDay a mo d) (sym (k .years) ∙ o .years) ∙ ap (λ (a : ℕ). nextDay (m .year) a d) (sym (k .months) ∙ o .months) ∙ ap (nextDay (m .year) (m .month)) (sym (k .days) ∙ o .days) ∙ m .next)
+          (m .real) (m .good) (ap (drop 19) (m .is))

@@ -57,3 +57,5 @@ pub mod Spell
 pub mod Resolved
 -- no second answer fits the promises
 pub mod Ones
+-- the former and the present rule of date-times
+pub mod Rules

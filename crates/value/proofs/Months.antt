@@ -1,16 +1,17 @@
 -- The length of a month by the number of the month, and the test of a real day. Assumes nothing.
-use mathlib.Core.Path.{_≡_}
-use mathlib.Core.Bool.{true}
+use mathlib.Core.Path.{_≡_, sym}
+use mathlib.Core.Bool.{Bool, true, false, true≢false, cond, _&&_, _||_}
 use mathlib.Core.List.{[], _∷_}
 use mathlib.Core.Logic.{⊎-elim, inl, inr}
 use Prim.Native.Nat.{ℕ, _≤_, _<_}
 use native.Mathlib.Omega.{arith}
 use native.Mathlib.Decide.{decLt}
+use lib.Dec.{leb, eqb}
 use types.Run.{OneOf}
 use borrow.Author.Tests.{ne-eqb, le-leb}
 use Rattle.text.specs.Bytes.{inRange}
 use Rattle.text.proofs.Classes.{and-is, in-range, in-range-is}
-use Rattle.value.specs.Day.{Real, isReal, monthDays}
+use Rattle.value.specs.Day.{Real, isReal, leap, monthDays}
 use Rattle.value.proofs.Classes.{in-no}
 
 pub month-none : (y m : ℕ) → (1 ≤ m → m ≤ 12 → ⊥) → 0 ≡ monthDays y m
@@ -21,6 +22,16 @@ month-thirty y m w = ⊎-elim (λ e. rw e) (⊎-elim (λ e. rw e) (⊎-elim (λ 
 
 pub month-else : (y m : ℕ) → 1 ≤ m → m ≤ 12 → (m ≡ 2 → ⊥) → (OneOf (4 ∷ 6 ∷ 9 ∷ 11 ∷ []) m → ⊥) → 31 ≡ monthDays y m
 month-else y m a b n o = rw (ne-eqb m 2 n, ne-eqb m 4 (λ e. o (inl e)), ne-eqb m 6 (λ e. o (inr (inl e))), ne-eqb m 9 (λ e. o (inr (inr (inl e)))), ne-eqb m 11 (λ e. o (inr (inr (inr e)))), le-leb 1 m a, le-leb m 12 b)
+
+pub month-some : (y m : ℕ) → 1 ≤ m → m ≤ 12 → 1 ≤ monthDays y m
+month-some y m a b = go (eqb m 2) (leap y) (eqb m 4 || eqb m 6 || eqb m 9 || eqb m 11) (leb 1 m && leb m 12) (in-range 1 12 m a b)
+  where
+    go : (f g h e : Bool) → e ≡ true → 1 ≤ cond f (cond g 29 28) (cond h 30 (cond e 31 0))
+    go true true h e q = omega arith
+    go true false h e q = omega arith
+    go false g true e q = omega arith
+    go false g false true q = omega arith
+    go false g false false q = absurd (true≢false (sym q))
 
 pub real-is : (y m d : ℕ) → isReal y m d ≡ true → Real y m d
 unfolding isReal

@@ -22,7 +22,7 @@ use Rattle.value.specs.Texts.{classOf}
 use Rattle.value.specs.Code.{Iban, Ccy, WordAt, isLetterOrDigit}
 use Rattle.value.specs.Plain.{Num}
 use Rattle.value.specs.Day.{Real}
-use Rattle.value.specs.Moment.{Parts, MomentText}
+use Rattle.value.specs.Moment.{DateRule, Parts, MomentText, ordinary, midnight}
 use Rattle.value.specs.Value.{Value, text, place, truth, natural, amount, day, moment, IsValue, Form, Left, truthByte, bytes}
 use Rattle.value.specs.Laws.{extra, ValueLaws}
 use Rattle.value.proofs.Classes.{Solid, each-all, each-map}
@@ -214,8 +214,9 @@ day-bytes y m d = omega (arith, length-append (bigEndian 2 y) (m ∷ d ∷ []), 
 pub moment-bytes : (y mo d h mi s u z : ℕ) → length (bytes (moment y mo d h mi s u z)) ≡ 13
 moment-bytes y mo d h mi s u z = omega (arith, length-append (bigEndian 2 y) (mo ∷ d ∷ h ∷ mi ∷ s ∷ (bigEndian 4 u ++ bigEndian 2 z)), length-append (bigEndian 4 u) (bigEndian 2 z), big-length 2 y, big-length 4 u, big-length 2 z)
 
-moment-long : {t : List ℕ} {y mo d h mi s u z : ℕ} → MomentText t y mo d h mi s u z → 19 ≤ length t
-moment-long w = omega (arith, ap length (w .is))
+moment-long : {rule : DateRule} {t : List ℕ} {y mo d h mi s u z : ℕ} → MomentText rule t y mo d h mi s u z → 19 ≤ length t
+moment-long (ordinary w) = omega (arith, ap length (w .is))
+moment-long (midnight e w) = omega (arith, ap length (w .is))
 
 -- a text, of whose characters the raw text has no fewer bytes
 text-short : (s cs t : List ℕ) → Spells s cs → cs ≡ t → length (bytes (text t)) ≤ length s + 2

@@ -2,7 +2,7 @@
 use mathlib.Core.Bool.{Bool, cond, _&&_, _||_, not}
 use mathlib.Core.List.{List, _∷_}
 use Prim.Native.Nat.{ℕ, _+_, _/_, _%_, _≤_}
-use lib.Dec.{leb, eqb}
+use lib.Dec.{leb, ltb, eqb}
 use Rattle.text.specs.Bytes.{inRange}
 
 abbrev pub leap : ℕ → Bool
@@ -22,6 +22,10 @@ pub record Real (y m d : ℕ) : Type 0 where
 -- the same, decided; what is no month has no days
 unfoldable pub isReal : ℕ → ℕ → ℕ → Bool
 isReal y m d = inRange 1 9999 y && inRange 1 (monthDays y m) d
+
+-- the day after a day: year, month, day
+abbrev pub nextDay : ℕ → ℕ → ℕ → ℕ × ℕ × ℕ
+nextDay y m d = cond (ltb d (monthDays y m)) (y, m, d + 1) (cond (ltb m 12) (y, m + 1, 1) (y + 1, 1, 1))
 
 -- the two digits of a number below 100, then t
 abbrev pub pair : ℕ → List ℕ → List ℕ

@@ -13,6 +13,8 @@ pub mod Day
 pub mod Moment
 -- values, which text spells which, and their bytes
 pub mod Value
+-- the former and the present rule of date-times
+pub mod Rules
 -- what a judgement of a text says
 pub mod Judged
 -- the numbers of types in a table

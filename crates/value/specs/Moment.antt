@@ -1,8 +1,13 @@
 -- DTM: moments by their written parts. Assumes nothing.
 use mathlib.Core.Path.{_≡_}
+use mathlib.Core.Logic.{_≢_, _⊎_}
 use mathlib.Core.List.{List, [], _∷_}
-use Prim.Native.Nat.{ℕ, _+_, _*_, _-_, _/_, _%_, _≤_, _<_}
-use Rattle.value.specs.Day.{Real, pair, dayText}
+use Prim.Native.Nat.{ℕ, zero, suc, _+_, _*_, _-_, _/_, _%_, _^_, _≤_, _<_}
+use Rattle.value.specs.Day.{Real, pair, dayText, nextDay}
+
+-- "the former and the new date-time rule"
+pub data DateRule : Type 0 where
+  former present : DateRule
 
 -- "`hh:mm:ss` up to 23:59:59"
 pub record Clock (h m s : ℕ) : Type 0 where
@@ -13,29 +18,30 @@ pub record Clock (h m s : ℕ) : Type 0 where
 abbrev pub clockText : ℕ → ℕ → ℕ → List ℕ → List ℕ
 clockText h m s t = pair h (58 ∷ pair m (58 ∷ pair s t))
 
--- "optionally a point and three or six digits"
+-- none, or a point and the last k digits of n
 pub data Fraction : Type 0 where
   absent : Fraction
-  three six : ℕ → Fraction
+  decimals : (k n : ℕ) → Fraction
 
-abbrev pub triple : ℕ → List ℕ → List ℕ
-triple n t = (48 + n / 100) ∷ pair (n % 100) t
+-- the last k digits of n, then t
+unfoldable pub figures : ℕ → ℕ → List ℕ → List ℕ
+figures zero n t = t
+figures (suc k) n t = figures k (n / 10) ((48 + n % 10) ∷ t)
 
 abbrev pub fractionText : Fraction → List ℕ → List ℕ
 fractionText absent t = t
-fractionText (three n) t = 46 ∷ triple n t
-fractionText (six n) t = 46 ∷ triple (n / 1000) (triple (n % 1000) t)
+fractionText (decimals k n) t = 46 ∷ figures k n t
 
-abbrev pub FractionOk : Fraction → Type 0
-FractionOk absent = Unit {0}
-FractionOk (three n) = n < 1000
-FractionOk (six n) = n < 1000000
+-- "optionally a point and three or six digits"; "now a point and one to three digits, the last not zero"
+abbrev pub FractionOk : DateRule → Fraction → Type 0
+FractionOk r absent = Unit {0}
+FractionOk former (decimals k n) = ((k ≡ 3) ⊎ (k ≡ 6)) × (n < 10 ^ k)
+FractionOk present (decimals k n) = ((1 ≤ k) × (k ≤ 3)) × (n < 10 ^ k) × (n % 10 ≢ 0)
 
 -- "fractions count in microseconds, an absent one as 0"
 abbrev pub micros : Fraction → ℕ
 micros absent = 0
-micros (three n) = n * 1000
-micros (six n) = n
+micros (decimals k n) = n * 10 ^ (6 - k)
 
 -- "then `Z` or sign `hh:mm`"
 pub data Zone : Type 0 where
@@ -70,12 +76,30 @@ pub record Parts (y mo d h mi s u z : ℕ) : Type 0 where
   pub fraction : u < 1000000
   pub zone : z ≤ 1680
 
--- "DATE, `T`, `hh:mm:ss` .., optionally a point and three or six digits, then `Z` or sign `hh:mm`"
-pub record MomentText (t : List ℕ) (y mo d h mi s u z : ℕ) : Type 0 where
+-- "DATE, `T`, `hh:mm:ss` .., optionally a point and .. digits, then `Z` or sign `hh:mm`"
+pub record PlainText (rule : DateRule) (t : List ℕ) (y mo d h mi s u z : ℕ) : Type 0 where
   pub day : Real y mo d
   pub clock : Clock h mi s
   pub fraction : Fraction
   pub zone : Zone
-  pub good : FractionOk fraction × ZoneOk zone
+  pub good : FractionOk rule fraction × ZoneOk zone
   pub is : t ≡ dayText y mo d (84 ∷ clockText h mi s (fractionText fraction (zoneText zone [])))
   pub parts : (u ≡ micros fraction) × (z ≡ offset zone)
+
+-- "also allows 24:00:00, without fraction: its content is 00:00:00 of the next day, and on 9999-12-31 it is refused": year 10000 has no real day
+pub record MidnightText (t : List ℕ) (y mo d h mi s u z : ℕ) : Type 0 where
+  pub year : ℕ
+  pub month : ℕ
+  pub date : ℕ
+  pub day : Real year month date
+  pub next : nextDay year month date ≡ (y, mo, d)
+  pub real : Real y mo d
+  pub zone : Zone
+  pub good : ZoneOk zone
+  pub is : t ≡ dayText year month date (84 ∷ clockText 24 0 0 (zoneText zone []))
+  pub clock : (h ≡ 0) × (mi ≡ 0) × (s ≡ 0)
+  pub parts : (u ≡ 0) × (z ≡ offset zone)
+
+pub data MomentText (rule : DateRule) (t : List ℕ) (y mo d h mi s u z : ℕ) : Type 0 where
+  ordinary : PlainText rule t y mo d h mi s u z → MomentText rule t y mo d h mi s u z
+  midnight : rule ≡ present → MidnightText t y mo d h mi s u z → MomentText rule t y mo d h mi s u z

@@ -1,8 +1,8 @@
 -- A decision: which value the characters of a leaf spell, computed; `Spelt` says what is right, and proofs/Spell that this is it. Assumes nothing.
-use mathlib.Core.Bool.{Bool, true, false, cond, _&&_, _||_}
+use mathlib.Core.Bool.{Bool, true, false, cond, _&&_, _||_, not}
 use mathlib.Core.List.{List, [], _∷_}
 use mathlib.Core.Option.{Option, some, none}
-use Prim.Native.Nat.{ℕ, zero, suc, _+_, _*_, _-_}
+use Prim.Native.Nat.{ℕ, zero, suc, _+_, _*_, _-_, _%_, _^_}
 use lib.Dec.{leb, ltb, eqb}
 use lib.ListN.{length, drop, getD}
 use Rattle.text.specs.Bytes.{ascii, inRange, isBlank, isCapital, isDigit}
@@ -10,8 +10,8 @@ use Rattle.text.specs.Lists.{same}
 use Rattle.list.specs.Listing.{Leaf, ref, iban, ccy, bool, num, amt, date, dtm, txt, enum}
 pub use Rattle.list.specs.Table.{placeFrom, placeIn}
 use Rattle.value.specs.Plain.{decimal}
-use Rattle.value.specs.Day.{isReal, dayText}
-use Rattle.value.specs.Moment.{clockText, Fraction, absent, three, six, fractionText, micros, Zone, zulu, ahead, behind, zoneText, offset}
+use Rattle.value.specs.Day.{isReal, dayText, nextDay}
+use Rattle.value.specs.Moment.{clockText, Fraction, absent, decimals, figures, fractionText, micros, Zone, zulu, ahead, behind, zoneText, offset}
 use Rattle.value.specs.Texts.{textOf}
 use Rattle.value.specs.Layout.{ibanAt}
 use Rattle.value.specs.Reading.{readOf, answer}
@@ -96,19 +96,20 @@ dayOf t = dayWhen t (twoAt 0 t * 100 + twoAt 2 t) (twoAt 5 t) (twoAt 8 t)
 abbrev pub isClock : ℕ → ℕ → ℕ → Bool
 isClock h m s = leb h 23 && (leb m 59 && leb s 59)
 
--- a point, and three digits or six
+-- a point, and one to three digits
 unfoldable pub fractionOf : List ℕ → Fraction
-fractionOf l = cond (eqb (getD l 0 0) 46) (cond (isDigit (getD l 4 0)) (six (threeAt 1 l * 1000 + threeAt 4 l)) (three (threeAt 1 l))) absent
+fractionOf l =
+    cond (eqb (getD l 0 0) 46)
+    (cond (isDigit (getD l 2 0)) (cond (isDigit (getD l 3 0)) (decimals 3 (threeAt 1 l)) (decimals 2 (twoAt 1 l))) (decimals 1 (getD l 1 0 - 48)))
+    absent
 
 abbrev pub fractionLength : Fraction → ℕ
 fractionLength absent = 0
-fractionLength (three n) = 4
-fractionLength (six n) = 7
+fractionLength (decimals k n) = 1 + k
 
 abbrev pub isFraction : Fraction → Bool
 isFraction absent = true
-isFraction (three n) = ltb n 1000
-isFraction (six n) = ltb n 1000000
+isFraction (decimals k n) = inRange 1 3 k && (ltb n (10 ^ k) && not (eqb (n % 10) 0))
 
 unfoldable pub zoneOf : List ℕ → Zone
 zoneOf l = cond (eqb (getD l 0 0) 43) (ahead (twoAt 1 l) (twoAt 4 l)) (cond (eqb (getD l 0 0) 45) (behind (twoAt 1 l) (twoAt 4 l)) zulu)
@@ -131,9 +132,22 @@ abbrev pub momentBehind : List ℕ → List ℕ → Option Value
 momentBehind t l =
     momentWhen t (twoAt 0 t * 100 + twoAt 2 t) (twoAt 5 t) (twoAt 8 t) (twoAt 11 t) (twoAt 14 t) (twoAt 17 t) (fractionOf l) (zoneOf (drop (fractionLength (fractionOf l)) l))
 
+-- 24:00:00 on a day, 00:00:00 on the next
+abbrev pub midnightWhen : List ℕ → ℕ → ℕ → ℕ → Zone → ℕ × ℕ × ℕ → Option Value
+midnightWhen t y mo d z n =
+    when (isReal y mo d && (isReal (n .0) (n .1) (n .2) && (isZone z && same t (dayText y mo d (84 ∷ clockText 24 0 0 (zoneText z []))))))
+    (moment (n .0) (n .1) (n .2) 0 0 0 0 (offset z))
+
+abbrev pub midnightOn : List ℕ → ℕ → ℕ → ℕ → Zone → Option Value
+midnightOn t y mo d z = midnightWhen t y mo d z (nextDay y mo d)
+
+abbrev pub midnightBehind : List ℕ → List ℕ → Option Value
+midnightBehind t l = midnightOn t (twoAt 0 t * 100 + twoAt 2 t) (twoAt 5 t) (twoAt 8 t) (zoneOf l)
+
+-- the hour chooses
 unfoldable pub momentOf : List ℕ → Option Value
-unfolding isReal
-momentOf t = momentBehind t (drop 19 t)
+unfolding isReal figures
+momentOf t = cond (eqb (twoAt 11 t) 24) (midnightBehind t (drop 19 t)) (momentBehind t (drop 19 t))
 
 -- ---- all kinds
 

@@ -12,7 +12,7 @@ use Rattle.value.specs.Code.{Iban, Ccy, WordAt}
 use Rattle.value.specs.Plain.{Trimmed, Says, Num}
 use Rattle.value.specs.Amount.{Bounded, Amount}
 use Rattle.value.specs.Day.{Real, dayText}
-use Rattle.value.specs.Moment.{Parts, MomentText}
+use Rattle.value.specs.Moment.{Parts, present, MomentText}
 
 -- "texts by characters, the rest by value, an amount's currency being part of its value"; "DTM's value is its written parts"
 pub data Value : Type 0 where
@@ -48,7 +48,7 @@ pub data Form : Leaf → List ℕ → List ℕ → Value → Type 0 where
   count : {n : ℕ} {w cs : List ℕ} → Num cs n → Form num w cs (natural n)
   money : {w cs : List ℕ} {k c : ℕ} → Ccy w → Amount cs c k → Form amt w cs (amount w k c)
   dated : {y m d : ℕ} {w cs : List ℕ} → Real y m d → cs ≡ dayText y m d [] → Form date w cs (day y m d)
-  timed : {y mo d h mi s u z : ℕ} {w cs : List ℕ} → MomentText cs y mo d h mi s u z → Form dtm w cs (moment y mo d h mi s u z)
+  timed : {y mo d h mi s u z : ℕ} {w cs : List ℕ} → MomentText present cs y mo d h mi s u z → Form dtm w cs (moment y mo d h mi s u z)
 
 -- "NUM, AMT, BOOL, DATE and DTM first lose blanks at both ends"
 abbrev pub Left : Leaf → List ℕ → List ℕ → Type 0

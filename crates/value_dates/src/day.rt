@@ -5,8 +5,8 @@ use value::judged::Judged;
 ghost use mathlib.Core.Path.{_≡_};
 ghost use lib.ListN.{drop};
 ghost use Rattle.list.specs.Listing.{date};
-ghost use Rattle.value.specs.Day.{monthDays};
-ghost use Rattle.value.specs.Digits.{Two, Mark, DayAt};
+ghost use Rattle.value.specs.Day.{Real, monthDays};
+ghost use Rattle.value.specs.Digits.{Two, Mark, DayAt, NextAt};
 ghost use Rattle.value.specs.Judged.{FormedAny};
 
 // How many days a month of a year has, 0 where there is no such month.
@@ -106,6 +106,23 @@ pub(crate) fn day_at(t: &[u8]) -> Judged
         return Judged::Refused;
     }
     Judged::Day(y, m, d)
+}
+
+// The day after a real day; after 9999-12-31 there is none.
+pub(crate) fn next_day(y: u16, m: u8, d: u8) -> Judged
+    requires { ⌜ Real y m d ⌝ }
+    ensures { λ r. ⌜ NextAt y m d r ⌝ }
+{
+    if d < month_days(y, m) {
+        return Judged::Day(y, m, d + 1);
+    }
+    if m < 12 {
+        return Judged::Day(y, m + 1, 1);
+    }
+    if y < 9999 {
+        return Judged::Day(y + 1, 1, 1);
+    }
+    Judged::Refused
 }
 
 // The day that a text is.

@@ -2,15 +2,18 @@
 
 use crate::day::day_at;
 use crate::day::mark;
+use crate::day::next_day;
 use crate::day::two;
 use text::class::is_digit;
+use text::part::begins;
 use value::judged::Judged;
 use value::judged::Moment;
 ghost use mathlib.Core.Path.{_≡_};
 ghost use lib.ListN.{drop};
 ghost use Rattle.list.specs.Listing.{dtm};
 ghost use Prim.Native.Nat.{_≤_};
-ghost use Rattle.value.specs.Digits.{Three, FractionAt, ZoneAt, ClockAt};
+ghost use Rattle.value.specs.Digits.{One, FractionAt, ZoneAt, ClockAt, MidnightAt};
+ghost use Rattle.value.specs.Day.{Real};
 ghost use Rattle.value.specs.Judged.{FormedAny};
 
 // A fraction of a second in microseconds, and the place behind it.
@@ -31,51 +34,60 @@ fn wide16(x: u8) -> u16
     x as u16
 }
 
-fn wide32(x: u16) -> u32
+fn wide32(x: u8) -> u32
     ensures { λ r. ⌜ r ≡ x ⌝ }
 {
     x as u32
 }
 
-// The number of three digits, 1000 where there are none.
-fn three(s: &[u8], at: usize) -> u16
-    ensures { λ r. ⌜ Three (drop at (now (s .entry))) r ⌝ }
+// The number of one digit, 10 where there is none.
+fn one(s: &[u8], at: usize) -> u32
+    ensures { λ r. ⌜ One (drop at (now (s .entry))) r ⌝ }
 {
     if s.len() <= at {
-        return 1000;
+        return 10;
     }
     let x = s[at];
     if !is_digit(x) {
-        return 1000;
+        return 10;
     }
-    let n = two(s, at + 1);
-    if 99 < n {
-        return 1000;
-    }
-    wide16(x - 48) * 100 + wide16(n)
+    wide32(x - 48)
 }
 
-// None, or a point and three or six digits, at 19. Where the digits are too few there is none, and no zone is found there either.
+// None, or a point and one to three digits, the last not zero, at 19. Where the digits are none or end in zero there is none, and no zone is found there either.
 fn fraction(t: &[u8]) -> Split
-    ensures { λ r. ⌜ FractionAt (drop 19 (now (t .entry))) (r .micros) (drop (r .end) (now (t .entry))) × (r .end ≤ 26) ⌝ }
+    ensures { λ r. ⌜ FractionAt (drop 19 (now (t .entry))) (r .micros) (drop (r .end) (now (t .entry))) × (r .end ≤ 23) ⌝ }
 {
     if !mark(t, 19, 46) {
         return split_at(0, 19);
     }
-    let a = three(t, 20);
-    if 999 < a {
+    let a = one(t, 20);
+    let b = one(t, 21);
+    let c = one(t, 22);
+    if 9 < a {
         return split_at(0, 19);
     }
-    let b = three(t, 23);
-    if 999 < b {
-        return split_at(wide32(a) * 1000, 23);
+    if 9 < b {
+        if a == 0 {
+            return split_at(0, 19);
+        }
+        return split_at(a * 100000, 21);
     }
-    split_at(wide32(a) * 1000 + wide32(b), 26)
+    if 9 < c {
+        if b == 0 {
+            return split_at(0, 19);
+        }
+        return split_at((a * 10 + b) * 10000, 22);
+    }
+    if c == 0 {
+        return split_at(0, 19);
+    }
+    split_at(((a * 10 + b) * 10 + c) * 1000, 23)
 }
 
 // `Z` or a sign with `hh:mm`, up to the end: offset minutes plus 840, 9999 where there is none.
 fn zone(t: &[u8], at: usize) -> u16
-    requires { ⌜ at ≤ 26 ⌝ }
+    requires { ⌜ at ≤ 23 ⌝ }
     ensures { λ r. ⌜ ZoneAt (drop at (now (t .entry))) r ⌝ }
 {
     if t.len() == at + 1 {
@@ -155,6 +167,30 @@ fn clocked(t: &[u8], year: u16, month: u8, day: u8) -> Judged
     })
 }
 
+// 24:00:00 on a day is 00:00:00 on the next; the zone stands at 19.
+fn midnight(t: &[u8], year: u16, month: u8, day: u8) -> Judged
+    requires { ⌜ Real year month day ⌝ }
+    ensures { λ r. ⌜ MidnightAt (drop 19 (now (t .entry))) year month day r ⌝ }
+{
+    let offset = zone(t, 19);
+    if 1680 < offset {
+        return Judged::Refused;
+    }
+    let Judged::Day(year, month, day) = next_day(year, month, day) else {
+        return Judged::Refused;
+    };
+    Judged::Moment(Moment {
+        year,
+        month,
+        day,
+        hour: 0,
+        minute: 0,
+        second: 0,
+        micros: 0,
+        offset,
+    })
+}
+
 // The moment that a text is.
 pub fn moment(t: &[u8]) -> Judged
     ensures { λ r. ⌜ FormedAny dtm (now (t .entry)) r ⌝ }
@@ -162,5 +198,8 @@ pub fn moment(t: &[u8]) -> Judged
     let Judged::Day(year, month, day) = day_at(t) else {
         return Judged::Refused;
     };
+    if begins(t, 10, b"T24:00:00") {
+        return midnight(t, year, month, day);
+    }
     clocked(t, year, month, day)
 }

@@ -56,7 +56,11 @@ module _ (t : List ℕ) where
 pub none-value : (c k n : ℕ) (b : List ℕ) → (2 ≤ c → c ≤ 11 → ⊥) → isValue c k n b ≡ false
 unfolding isValue
 none-value c k n b =
-    by-kind (λ c. (2 ≤ c → c ≤ 11 → ⊥) → isValue c k n b ≡ false) (λ f. refl) (λ f. refl) (λ f. absurd (f (omega arith) (omega arith))) (λ f. absurd (f (omega arith) (omega arith))) (λ f. absurd (f (omega arith) (omega arith))) (λ f. absurd (f (omega arith) (omega arith))) (λ f. absurd (f (omega arith) (omega arith))) (λ f. absurd (f (omega arith) (omega arith))) (λ f. absurd (f (omega arith) (omega arith))) (λ f. absurd (f (omega arith) (omega arith))) (λ f. absurd (f (omega arith) (omega arith))) (λ f. absurd (f (omega arith) (omega arith))) (λ c f. refl) c
+    by-kind (λ c. (2 ≤ c → c ≤ 11 → ⊥) → isValue c k n b ≡ false) (λ f. refl) (λ f. refl)
+    (λ f. absurd (f (omega arith) (omega arith))) (λ f. absurd (f (omega arith) (omega arith))) (λ f. absurd (f (omega arith) (omega arith)))
+    (λ f. absurd (f (omega arith) (omega arith))) (λ f. absurd (f (omega arith) (omega arith))) (λ f. absurd (f (omega arith) (omega arith)))
+    (λ f. absurd (f (omega arith) (omega arith))) (λ f. absurd (f (omega arith) (omega arith))) (λ f. absurd (f (omega arith) (omega arith)))
+    (λ f. absurd (f (omega arith) (omega arith))) (λ c f. refl) c
 
 -- a number that is none of these
 past : (m c : ℕ) → m ≤ c → (c ≡ m → ⊥) → suc m ≤ c

@@ -28,16 +28,16 @@ use Rattle.list.specs.WellFormed.{LeafOk}
 use Rattle.value.specs.Kind.{code}
 use Rattle.value.specs.Code.{Ccy}
 use Rattle.value.specs.Day.{Real, pair, dayText}
-use Rattle.value.specs.Moment.{Parts, triple, clockText, fractionText, zoneText}
+use Rattle.value.specs.Moment.{Parts, Fraction, absent, decimals, figures, clockText, fractionText, zoneText}
 use Rattle.value.specs.Value.{Value, text, place, truth, natural, amount, day, moment, IsValue, bytes}
 use Rattle.value.proofs.Classes.{Solid}
 use Rattle.value.proofs.Dates.{month-most}
 use Rattle.value.proofs.Encoding.{encoded-most}
-use Rattle.value.proofs.Firm.{Firm, ccy-dense, form-dense}
-use Rattle.value_to_text.specs.Script.{truthText, fractionOf, zoneOf, scriptOf, currencyOf}
+use Rattle.value.proofs.Firm.{Firm, ccy-dense}
+use Rattle.value_to_text.specs.Script.{truthText, fractionOf, zoneOf, scriptOf}
 use Rattle.value_to_text.specs.Raw.{pieceOf, rawOf, isMarked, escape, escaped}
-use Rattle.value_to_text.specs.Stored.{textRaw, wordRaw, threeRaw, fractionRaw, offsetRaw, zoneRaw, dayIn, clockIn, momentIn, rawText, rawAt}
-use Rattle.value_to_text.proofs.Scripts.{script-form}
+use Rattle.value_to_text.specs.Stored.{textRaw, wordRaw, threeRaw, placesRaw, fractionRaw, offsetRaw, zoneRaw, dayIn, clockIn, momentIn, rawText, rawAt}
+use Rattle.value_to_text.proofs.Scripts.{script-dense}
 use Rattle.value_to_text.proofs.Escaping.{marked, escape-amp, escape-lt, escape-gt, escape-plain}
 
 -- ---- characters and their bytes
@@ -89,7 +89,7 @@ solid-raw (x ∷ t) h =
     (ap (λ (l : List ℕ). x ∷ l) (solid-raw t (h .1)))
 
 firm-raw : (f : Leaf) (v : Value) → Firm f → IsValue f v → scriptOf f v ≡ rawOf (scriptOf f v)
-firm-raw f v k i = sym (solid-raw (scriptOf f v) (form-dense f (currencyOf v) (scriptOf f v) v k (script-form f v i) .solid))
+firm-raw f v k i = sym (solid-raw (scriptOf f v) (script-dense f v k i .solid))
 
 -- ---- numbers in digits, as the definitions write them
 
@@ -106,19 +106,10 @@ four n t h =
     let d : n % 10 ≡ n % 100 % 10 = omega arith in
     rw (a, b, c, d) refl
 
-three : (n : ℕ) (t : List ℕ) → padded 3 n ++ t ≡ triple (n % 1000) t
-unfolding padded
-three n t =
-    let a : n / 10 / 10 % 10 ≡ n % 1000 / 100 = omega arith in
-    let b : n / 10 % 10 ≡ n % 1000 % 100 / 10 = omega arith in
-    let c : n % 10 ≡ n % 1000 % 100 % 10 = omega arith in
-    rw (a, b, c) refl
-
-six-digits : (n : ℕ) (t : List ℕ) → n < 1000000 → padded 6 n ++ t ≡ triple (n / 1000) (triple (n % 1000) t)
-unfolding padded
-six-digits n t h =
-    let a : n / 10 / 10 / 10 % 1000 ≡ n / 1000 = omega arith in
-    three (n / 10 / 10 / 10) (padded 3 n ++ t) ∙ ap₂ triple a (three n t)
+all-of : (k n : ℕ) (t : List ℕ) → padded k n ++ t ≡ figures k n t
+unfolding padded figures
+all-of zero n t = refl
+all-of (suc k) n t = append-assoc (padded k (n / 10)) ((48 + n % 10) ∷ []) t ∙ all-of k (n / 10) ((48 + n % 10) ∷ t)
 
 -- ---- days and moments
 
@@ -145,10 +136,13 @@ three-clock h m s t a b c =
     ∙ ap (λ (l : List ℕ). padded 2 h ++ (58 ∷ l)) (append-assoc (padded 2 m) (58 ∷ padded 2 s) t ∙ ap (λ (l : List ℕ). padded 2 m ++ (58 ∷ l)) (two s t c) ∙ two m (58 ∷ pair s t) b)
     ∙ two h (58 ∷ pair m (58 ∷ pair s t)) a
 
-fraction-raw : (u : ℕ) (t : List ℕ) → u < 1000000 → fractionRaw u ++ t ≡ fractionText (fractionOf u) t
+places-raw : (x : Fraction) (t : List ℕ) → placesRaw x ++ t ≡ fractionText x t
+places-raw absent t = refl
+places-raw (decimals k n) t = ap (λ (l : List ℕ). 46 ∷ l) (all-of k n t)
+
+fraction-raw : (u : ℕ) (t : List ℕ) → fractionRaw u ++ t ≡ fractionText (fractionOf u) t
 unfolding fractionRaw
-fraction-raw zero t h = refl
-fraction-raw (suc u) t h = rw (ne-eqb (suc u) 0 (λ e. omega arith)) (ap (λ (l : List ℕ). 46 ∷ l) (six-digits (suc u) t h))
+fraction-raw u t = places-raw (fractionOf u) t
 
 offset-raw : (x m : ℕ) (t : List ℕ) → m ≤ 840 → offsetRaw (x ∷ []) m ++ t ≡ x ∷ pair (m / 60) (58 ∷ pair (m % 60) t)
 unfolding offsetRaw
@@ -214,7 +208,7 @@ moment-raw y mo d h mi s u z t p =
     let b : number (bigEndian 4 u) ≡ u = number-big 4 u (omega (arith, p .fraction)) in
     let e : number (bigEndian 2 z) ≡ z = number-big 2 z (omega (arith, p .zone)) in
     let f : fractionRaw u ++ zoneRaw z ≡ fractionText (fractionOf u) (zoneText (zoneOf z) []) =
-    ap (λ (l : List ℕ). fractionRaw u ++ l) (sym (append-nil (zoneRaw z)) ∙ zone-raw z [] (p .zone)) ∙ fraction-raw u (zoneText (zoneOf z) []) (p .fraction) in
+    ap (λ (l : List ℕ). fractionRaw u ++ l) (sym (append-nil (zoneRaw z)) ∙ zone-raw z [] (p .zone)) ∙ fraction-raw u (zoneText (zoneOf z) []) in
     let g : threeRaw 2 h (ascii ":") mi s ++ (fractionRaw u ++ zoneRaw z) ≡ clockText h mi s (fractionText (fractionOf u) (zoneText (zoneOf z) [])) =
     ap (λ (l : List ℕ). threeRaw 2 h (ascii ":") mi s ++ l) f
     ∙ three-clock h mi s (fractionText (fractionOf u) (zoneText (zoneOf z) [])) (omega (arith, p .clock .hour)) (omega (arith, p .clock .minute)) (omega (arith, p .clock .second)) in

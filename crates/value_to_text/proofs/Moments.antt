@@ -7,16 +7,18 @@ use native.Mathlib.Nat.{zero-add}
 use native.Mathlib.Omega.{arith}
 use lib.ListN.{length, getD, take, drop, length-append}
 use lib.Seq.{slice, take-all}
-use borrow.Author.Tests.{ne-eqb, lt-ltb, le-ltb}
+use borrow.Author.Tests.{eq-eqb, ne-eqb, lt-ltb, le-ltb}
 use Rattle.text.specs.Bytes.{ascii}
 use Rattle.text.specs.Digits.{padded}
 use Rattle.text.specs.Numbers.{number}
 use Rattle.text.specs.Pasting.{pasted}
 use Rattle.text.specs.Puts.{Puts}
 use Rattle.text.proofs.Digits.{length-padded}
-use Rattle.text.proofs.Pasting.{length-pasted, slice-pasted}
+use Rattle.text.proofs.Pasting.{length-pasted, slice-pasted, pasted-none}
 use Rattle.text.proofs.Puts.{puts-then}
-use Rattle.value_to_text.specs.Stored.{threeRaw, fractionRaw, offsetRaw, zoneRaw, dayIn, clockIn, momentIn}
+use Rattle.value.specs.Moment.{absent, decimals}
+use Rattle.value_to_text.specs.Script.{fractionOf}
+use Rattle.value_to_text.specs.Stored.{threeRaw, placesRaw, fractionRaw, offsetRaw, zoneRaw, dayIn, clockIn, momentIn}
 
 laid : (d : List ℕ) (at : ℕ) (bs : List ℕ) (r : ℕ) (d′ : List ℕ) → r ≡ at + length bs → d′ ≡ pasted d at bs → Puts d at bs r d′
 laid d at bs r d′ e f = record { behind = e; long = ap length f ∙ length-pasted d at bs; is = λ h. f }
@@ -69,24 +71,47 @@ module _ (sign : List ℕ) (one : length sign ≡ 1) where
         let p₁ = puts-then _ _ _ _ _ _ _ _ (sign-laid d at (at + 1) d₁ (omega arith) e₁) p₂ in
         p₁ .is (omega (arith, offset-long))
 
--- a fraction
-pub fraction-none : (u : ℕ) → u ≡ 0 → fractionRaw u ≡ []
-unfolding fractionRaw
-fraction-none u e = ap fractionRaw e
+-- a fraction: which one it is, by the tests
+pub none-of : (u : ℕ) → u ≡ 0 → fractionOf u ≡ absent
+unfolding fractionOf
+none-of u e = ap fractionOf e
 
-module _ (u : ℕ) (z : u ≢ 0) where
-  fraction-some : fractionRaw u ≡ 46 ∷ padded 6 u
+pub one-of : (u : ℕ) → u ≢ 0 → u % 100000 ≡ 0 → fractionOf u ≡ decimals 1 (u / 100000)
+unfolding fractionOf
+one-of u z e = rw (ne-eqb u 0 z, eq-eqb (u % 100000) 0 e) refl
+
+pub two-of : (u : ℕ) → u ≢ 0 → u % 100000 ≢ 0 → u % 10000 ≡ 0 → fractionOf u ≡ decimals 2 (u / 10000)
+unfolding fractionOf
+two-of u z a e = rw (ne-eqb u 0 z, ne-eqb (u % 100000) 0 a, eq-eqb (u % 10000) 0 e) refl
+
+pub three-of : (u : ℕ) → u ≢ 0 → u % 100000 ≢ 0 → u % 10000 ≢ 0 → u % 1000 ≡ 0 → fractionOf u ≡ decimals 3 (u / 1000)
+unfolding fractionOf
+three-of u z a b e = rw (ne-eqb u 0 z, ne-eqb (u % 100000) 0 a, ne-eqb (u % 10000) 0 b, eq-eqb (u % 1000) 0 e) refl
+
+pub six-of : (u : ℕ) → u ≢ 0 → u % 100000 ≢ 0 → u % 10000 ≢ 0 → u % 1000 ≢ 0 → fractionOf u ≡ decimals 6 u
+unfolding fractionOf
+six-of u z a b e = rw (ne-eqb u 0 z, ne-eqb (u % 100000) 0 a, ne-eqb (u % 10000) 0 b, ne-eqb (u % 1000) 0 e) refl
+
+-- and what is written for it: nothing, or a point and digits
+module _ (u : ℕ) (d : List ℕ) (at : ℕ) where
+  pub fraction-none : u ≡ 0 → (at ≡ at + length (fractionRaw u)) × ((at ≤ at + 7) × (d ≡ pasted d at (fractionRaw u)))
   unfolding fractionRaw
-  fraction-some = rw (ne-eqb u 0 z)
+  fraction-none e =
+      let f : fractionRaw u ≡ [] = ap placesRaw (none-of u e) in
+      (omega (arith, ap length f), (omega arith, sym (pasted-none d at) ∙ ap (pasted d at) (sym f)))
 
-  pub fraction-long : length (fractionRaw u) ≡ 7
-  fraction-long = ap length fraction-some ∙ omega (arith, length-padded 6 u)
+  pub fraction-put : (k n r : ℕ) (d′ : List ℕ) → fractionOf u ≡ decimals k n → k ≤ 6 → (r ≡ at + (1 + k)) × (d′ ≡ pasted d at (46 ∷ padded k n))
+      → (r ≡ at + length (fractionRaw u)) × ((r ≤ at + 7) × (d′ ≡ pasted d at (fractionRaw u)))
+  unfolding fractionRaw
+  fraction-put k n r d′ e h w =
+      let f : fractionRaw u ≡ 46 ∷ padded k n = ap placesRaw e in
+      (omega (arith, ap length f, length-padded k n, w .0), (omega (arith, w .0), w .1 ∙ ap (pasted d at) (sym f)))
 
-  pub fraction-put : (d : List ℕ) (at : ℕ) (d₁ d₂ : List ℕ) → at + 7 ≤ length d
-      → d₁ ≡ pasted d at (46 ∷ []) → d₂ ≡ pasted d₁ (at + 1) (padded 6 u) → d₂ ≡ pasted d at (fractionRaw u)
-  fraction-put d at d₁ d₂ h e₁ e₂ =
-      let p = puts-then _ _ _ _ _ _ _ _ (laid d at (46 ∷ []) (at + 1) d₁ (omega arith) e₁) (digits-laid d₁ (at + 1) 6 u (at + 7) d₂ (omega arith) e₂) in
-      p .is (omega (arith, length-padded 6 u)) ∙ ap (pasted d at) (sym fraction-some)
+-- a point and digits
+module _ (d : List ℕ) (at : ℕ) where
+  pub places-put : (k n : ℕ) (d₁ d₂ : List ℕ) → at + (1 + k) ≤ length d → d₁ ≡ pasted d at (46 ∷ []) → d₂ ≡ pasted d₁ (at + 1) (padded k n) → d₂ ≡ pasted d at (46 ∷ padded k n)
+  places-put k n d₁ d₂ h e₁ e₂ =
+      puts-then _ _ _ _ _ _ _ _ (laid d at (46 ∷ []) (at + 1) d₁ (omega arith) e₁) (digits-laid d₁ (at + 1) k n (at + (1 + k)) d₂ (omega arith) e₂) .is (omega (arith, length-padded k n))
 
 -- a zone
 pub zone-zero : (z : ℕ) → z ≡ 840 → zoneRaw z ≡ 90 ∷ []

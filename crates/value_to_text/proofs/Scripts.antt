@@ -1,11 +1,11 @@
 -- The text that is written for a value spells that value. Assumes nothing.
-use mathlib.Core.Path.{_≡_, refl, sym, _∙_, ap}
+use mathlib.Core.Path.{_≡_, refl, sym, _∙_, ap, subst}
 use mathlib.Core.Bool.{Bool, true, false, cond}
-use mathlib.Core.Logic.{_↔_, inl}
+use mathlib.Core.Logic.{_↔_, _≢_, inl, inr}
 use mathlib.Core.List.{List, [], _∷_, _++_, append-assoc, append-nil}
 use Prim.Native.Nat.{ℕ, zero, suc, _+_, _*_, _-_, _/_, _%_, _^_, _≤_, _<_}
 use native.Mathlib.Nat.{div-one}
-use native.Mathlib.Decide.{decLt}
+use native.Mathlib.Decide.{ℕ-discrete, decLt}
 use native.Mathlib.Omega.{arith}
 use lib.Dec.{eqb, ltb}
 use lib.ListN.{length, length-append}
@@ -18,13 +18,18 @@ use Rattle.list.specs.Listing.{Leaf, ref, iban, ccy, bool, num, amt, date, dtm,
 use Rattle.value.specs.Plain.{decimalFrom, decimal, Num, Says, Trimmed}
 use Rattle.value.specs.Amount.{Decimal, Bounded, Amount, absent as whole, point}
 use Rattle.value.specs.Amount as A
-use Rattle.value.specs.Moment.{FractionOk, micros, Zone, zulu, ahead, behind, ZoneOk, offset, Parts, MomentText}
+use Rattle.value.specs.Moment.{former, present, Fraction, absent, decimals, FractionOk, micros, Zone, zulu, ahead, behind, ZoneOk, offset, Parts, MomentText, ordinary}
 use Rattle.value.specs.Value.{Value, text, day, moment, IsValue, Form, Left, Spelt}
+use Rattle.value.specs.Rules.{InThousandths}
 use Rattle.value.proofs.Classes.{digit-yes}
 use Rattle.value.proofs.Decimals.{canon}
-use Rattle.value.proofs.Values.{value-laws}
+use Rattle.value.proofs.Trim.{Dense}
+use Rattle.value.proofs.Dates.{whole-dense}
+use Rattle.value.proofs.Firm.{Firm, form-dense}
+use Rattle.value.proofs.Rules.{by-present, by-is, spelt-fine, parts-former}
 use Rattle.value_to_text.specs.Script.{amountText, truthText, fractionOf, zoneOf, scriptOf, currencyOf}
-use Rattle.value_to_text.specs.Spelled.{Spelled}
+use Rattle.value_to_text.specs.Spelled.{Spelled, SpelledByEither}
+use Rattle.value_to_text.proofs.Moments.{none-of, one-of, two-of, three-of, six-of}
 
 -- ---- digits: which number they write
 
@@ -162,13 +167,58 @@ nought = refl
 
 -- ---- moments
 
-fraction-ok : (u : ℕ) → u < 1000000 → FractionOk (fractionOf u)
-fraction-ok zero h = tt
-fraction-ok (suc u) h = h
+-- the fraction that is written, and why it is that one
+data Chosen (u : ℕ) : Fraction → Type 0 where
+  none : u ≡ 0 → Chosen u absent
+  one : u ≢ 0 → u % 100000 ≡ 0 → Chosen u (decimals 1 (u / 100000))
+  two : u % 100000 ≢ 0 → u % 10000 ≡ 0 → Chosen u (decimals 2 (u / 10000))
+  three : u % 10000 ≢ 0 → u % 1000 ≡ 0 → Chosen u (decimals 3 (u / 1000))
+  six : u % 1000 ≢ 0 → Chosen u (decimals 6 u)
 
-fraction-is : (u : ℕ) → u ≡ micros (fractionOf u)
-fraction-is zero = refl
-fraction-is (suc u) = refl
+chosen : (u : ℕ) → Chosen u (fractionOf u)
+chosen u = go (ℕ-discrete u 0) (ℕ-discrete (u % 100000) 0) (ℕ-discrete (u % 10000) 0) (ℕ-discrete (u % 1000) 0)
+  where
+    go : Dec (u ≡ 0) → Dec (u % 100000 ≡ 0) → Dec (u % 10000 ≡ 0) → Dec (u % 1000 ≡ 0) → Chosen u (fractionOf u)
+    go (yes e) a b c = subst (Chosen u) (sym (none-of u e)) (Chosen.none e)
+    go (no z) (yes e) b c = subst (Chosen u) (sym (one-of u z e)) (Chosen.one z e)
+    go (no z) (no a) (yes e) c = subst (Chosen u) (sym (two-of u z a e)) (Chosen.two a e)
+    go (no z) (no a) (no b) (yes e) = subst (Chosen u) (sym (three-of u z a b e)) (Chosen.three b e)
+    go (no z) (no a) (no b) (no c) = subst (Chosen u) (sym (six-of u z a b c)) (Chosen.six c)
+
+-- "a point and one to three digits, the last not zero", where it is no finer
+fraction-ok : (u : ℕ) (x : Fraction) → Chosen u x → u < 1000000 → u % 1000 ≡ 0 → FractionOk present x
+fraction-ok u x (Chosen.none e) h f = tt
+fraction-ok u x (Chosen.one z e) h f = ((omega arith, omega arith), omega arith, λ q. z (let k : u / 100000 % 10 ≡ u / 100000 = omega arith in let j : u / 100000 ≡ 0 = sym k ∙ q in omega arith))
+fraction-ok u x (Chosen.two a e) h f = ((omega arith, omega arith), omega arith, λ q. a (let k : u ≡ u / 10000 / 10 * 100000 = omega arith in omega arith))
+fraction-ok u x (Chosen.three b e) h f = ((omega arith, omega arith), omega arith, λ q. b (let k : u ≡ u / 1000 / 10 * 10000 = omega arith in omega arith))
+fraction-ok u x (Chosen.six c) h f = absurd (c f)
+
+fraction-is : (u : ℕ) (x : Fraction) → Chosen u x → u ≡ micros x
+fraction-is u x (Chosen.none e) = e
+fraction-is u x (Chosen.one z e) = omega arith
+fraction-is u x (Chosen.two a e) = omega arith
+fraction-is u x (Chosen.three b e) = omega arith
+fraction-is u x (Chosen.six c) = omega arith
+
+tens : (n w : ℕ) → n ≡ 10 * w → n % 10 ≡ 0
+tens n w e = omega arith
+
+-- the shortest: the present rule has no other fraction of so many microseconds
+pub only-fraction : (x : Fraction) → FractionOk present x → (u : ℕ) → u ≡ micros x → fractionOf u ≡ x
+only-fraction absent g u e = none-of u e
+only-fraction (decimals zero n) g u e = absurd (omega (arith, g .0 .0))
+only-fraction (decimals (suc zero) n) g u e =
+    let q : u / 100000 ≡ n = omega arith in
+    one-of u (λ z. g .2 (omega arith)) (omega arith) ∙ ap (decimals 1) q
+only-fraction (decimals (suc (suc zero)) n) g u e =
+    let q : u / 10000 ≡ n = omega arith in
+    two-of u (λ z. g .2 (omega arith)) (λ z. g .2 (tens n (u / 100000) (omega arith))) (omega arith) ∙ ap (decimals 2) q
+only-fraction (decimals (suc (suc (suc zero))) n) g u e =
+    let q : u / 1000 ≡ n = omega arith in
+    let a : u % 100000 ≢ 0 = λ z. g .2 (tens n (10 * (u / 100000)) (omega arith)) in
+    let b : u % 10000 ≢ 0 = λ z. g .2 (tens n (u / 10000) (omega arith)) in
+    three-of u (λ z. g .2 (omega arith)) a b (omega arith) ∙ ap (decimals 3) q
+only-fraction (decimals (suc (suc (suc (suc k)))) n) g u e = absurd (omega (arith, g .0 .1))
 
 -- the zone of z, behind the tests
 abbrev zoneBy : Bool → Bool → ℕ → Zone
@@ -186,10 +236,16 @@ zone-by false false z e f h = let l = ltb-false z 840 f in record { good = recor
 zoned : (z : ℕ) → z ≤ 1680 → Zoned (zoneOf z) z
 zoned z h = zone-by (eqb z 840) (ltb z 840) z refl refl h
 
-pub moment-spelt : {y mo d h mi s u z : ℕ} → Parts y mo d h mi s u z → MomentText (scriptOf dtm (moment y mo d h mi s u z)) y mo d h mi s u z
-moment-spelt {y} {mo} {d} {h} {mi} {s} {u} {z} p =
+pub moment-spelt : {y mo d h mi s u z : ℕ} → Parts y mo d h mi s u z → u % 1000 ≡ 0 → MomentText present (scriptOf dtm (moment y mo d h mi s u z)) y mo d h mi s u z
+moment-spelt {y} {mo} {d} {h} {mi} {s} {u} {z} p f =
     let w = zoned z (p .zone) in
-    record { day = p .day; clock = p .clock; fraction = fractionOf u; zone = zoneOf z; good = (fraction-ok u (p .fraction), w .good); is = refl; parts = (fraction-is u, w .is) }
+    let x = fractionOf u in
+    ordinary (record { day = p .day; clock = p .clock; fraction = x; zone = zoneOf z; good = (fraction-ok u x (chosen u) (p .fraction) f, w .good); is = refl; parts = (fraction-is u x (chosen u), w .is) })
+
+-- no blank and no entity stands in it, however fine it is
+moment-firm : {y mo d h mi s u z : ℕ} → Parts y mo d h mi s u z → Dense (scriptOf dtm (moment y mo d h mi s u z))
+moment-firm {y} {mo} {d} {h} {mi} {s} {u} {z} p =
+    whole-dense _ y mo d h mi s (fractionOf u) (zoneOf z) (p .day) (omega (arith, p .clock .hour)) (p .clock .minute) (p .clock .second) (zoned z (p .zone) .good) refl
 
 -- ---- all kinds
 
@@ -197,17 +253,30 @@ says : (b : Bool) → Says (truthText b) b
 says true = inl refl
 says false = inl refl
 
-pub script-form : (f : Leaf) (v : Value) → IsValue f v → Form f (currencyOf v) (scriptOf f v) v
-script-form f v (IsValue.reference r) = Form.reference r
-script-form f v (IsValue.writing r) = Form.writing r
-script-form f v (IsValue.account r) = Form.account r
-script-form f v (IsValue.currency r) = Form.currency r
-script-form f v (IsValue.listed {ws = ws} {n = n} a b) = Form.listed {ws = ws} {n = n} (record { before = n - 1; from = omega arith; within = omega arith; is = refl })
-script-form f v (IsValue.either {b = b}) = Form.either (says b)
-script-form f v (IsValue.count {n = n} h) = Form.count (number-spelt n h)
-script-form f v (IsValue.money {k = k} {c = c} r b) = Form.money r (amount-spelt k c b)
-script-form f v (IsValue.dated r) = Form.dated r refl
-script-form f v (IsValue.timed p) = Form.timed (moment-spelt p)
+pub script-form : (f : Leaf) (v : Value) → IsValue f v → InThousandths v → Form f (currencyOf v) (scriptOf f v) v
+script-form f v (IsValue.reference r) q = Form.reference r
+script-form f v (IsValue.writing r) q = Form.writing r
+script-form f v (IsValue.account r) q = Form.account r
+script-form f v (IsValue.currency r) q = Form.currency r
+script-form f v (IsValue.listed {ws = ws} {n = n} a b) q = Form.listed {ws = ws} {n = n} (record { before = n - 1; from = omega arith; within = omega arith; is = refl })
+script-form f v (IsValue.either {b = b}) q = Form.either (says b)
+script-form f v (IsValue.count {n = n} h) q = Form.count (number-spelt n h)
+script-form f v (IsValue.money {k = k} {c = c} r b) q = Form.money r (amount-spelt k c b)
+script-form f v (IsValue.dated r) q = Form.dated r refl
+script-form f v (IsValue.timed p) q = Form.timed (moment-spelt p q)
+
+-- of the kinds whose texts need no entity
+pub script-dense : (f : Leaf) (v : Value) → Firm f → IsValue f v → Dense (scriptOf f v)
+script-dense f v k (IsValue.reference r) = absurd k
+script-dense f v k (IsValue.writing r) = absurd k
+script-dense f v k (IsValue.account r) = form-dense f [] (scriptOf f v) v k (Form.account r)
+script-dense f v k (IsValue.currency r) = form-dense f [] (scriptOf f v) v k (Form.currency r)
+script-dense f v k (IsValue.listed {ws = ws} {n = n} a b) = form-dense f [] (scriptOf f v) v k (script-form f v (IsValue.listed a b) tt)
+script-dense f v k (IsValue.either {b = b}) = form-dense f [] (scriptOf f v) v k (Form.either (says b))
+script-dense f v k (IsValue.count {n = n} h) = form-dense f [] (scriptOf f v) v k (Form.count (number-spelt n h))
+script-dense f v k (IsValue.money {w = w} {k = s} {c = c} r b) = form-dense f w (scriptOf f v) v k (Form.money r (amount-spelt s c b))
+script-dense f v k (IsValue.dated r) = form-dense f [] (scriptOf f v) v k (Form.dated r refl)
+script-dense f v k (IsValue.timed p) = moment-firm p
 
 -- nothing is lost: no blank stands around it
 bare : (t : List ℕ) → Trimmed t t
@@ -225,10 +294,36 @@ left-all dtm t = bare t
 left-all (txt k) t = refl
 left-all (enum ws) t = refl
 
--- the text that is written for a value spells it
-pub script-spelt : (f : Leaf) (v : Value) → IsValue f v → Spelt f (currencyOf v) (scriptOf f v) v
-script-spelt f v h = record { left = scriptOf f v; lost = left-all f (scriptOf f v); form = script-form f v h }
+-- the text that is written for a value spells it, where the present rule is fine enough
+pub script-spelt : (f : Leaf) (v : Value) → IsValue f v → InThousandths v → Spelt f (currencyOf v) (scriptOf f v) v
+script-spelt f v h q = record { left = scriptOf f v; lost = left-all f (scriptOf f v); form = script-form f v h q }
 
--- a type has exactly the values that some text spells
-pub every-spelt : (f : Leaf) (v : Value) → IsValue f v ↔ Spelled f v
-every-spelt f v = (λ h. record { coin = currencyOf v; chars = scriptOf f v; spelt = script-spelt f v h }, λ s. value-laws .is f (s .coin) (s .chars) v (s .spelt))
+-- so these are the values that some text spells by the present rule: what is finer is spelt by none
+pub present-spelt : (f : Leaf) (v : Value) → (IsValue f v × InThousandths v) ↔ Spelled present f v
+present-spelt f v = (
+  (λ h. record { coin = currencyOf v; chars = scriptOf f v; spelt = by-present f (currencyOf v) (scriptOf f v) v .1 (script-spelt f v (h .0) (h .1)) }),
+  (λ s. (by-is present f (s .coin) (s .chars) v (s .spelt), spelt-fine f (s .coin) (s .chars) v (by-present f (s .coin) (s .chars) v .0 (s .spelt)))),
+)
+
+-- "over the former and the new date-time rule together": a type has exactly the values that some text spells by the one or the other
+pub both-rules : (f : Leaf) (v : Value) → IsValue f v ↔ SpelledByEither f v
+both-rules f v = (there f v, back)
+  where
+    now : (f : Leaf) (v : Value) → IsValue f v → InThousandths v → SpelledByEither f v
+    now f v h q = inr (present-spelt f v .0 (h, q))
+
+    there : (f : Leaf) (v : Value) → IsValue f v → SpelledByEither f v
+    there f v (IsValue.reference r) = now f v (IsValue.reference r) tt
+    there f v (IsValue.writing r) = now f v (IsValue.writing r) tt
+    there f v (IsValue.account r) = now f v (IsValue.account r) tt
+    there f v (IsValue.currency r) = now f v (IsValue.currency r) tt
+    there f v (IsValue.listed a b) = now f v (IsValue.listed a b) tt
+    there f v IsValue.either = now f v IsValue.either tt
+    there f v (IsValue.count h) = now f v (IsValue.count h) tt
+    there f v (IsValue.money r b) = now f v (IsValue.money r b) tt
+    there f v (IsValue.dated r) = now f v (IsValue.dated r) tt
+    there f v (IsValue.timed p) = let o = parts-former [] p in inl (record { coin = []; chars = o .0; spelt = record { left = o .0; lost = bare (o .0); form = o .1 } })
+
+    back : SpelledByEither f v → IsValue f v
+    back (inl s) = by-is former f (s .coin) (s .chars) v (s .spelt)
+    back (inr s) = by-is present f (s .coin) (s .chars) v (s .spelt)

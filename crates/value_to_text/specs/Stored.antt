@@ -9,7 +9,8 @@ use Rattle.text.specs.Bytes.{ascii}
 use Rattle.text.specs.Numbers.{number}
 use Rattle.text.specs.Digits.{inDigits, padded, pointed}
 use Rattle.list.specs.Table.{cell, wordsIn}
-use Rattle.value_to_text.specs.Script.{truthText}
+use Rattle.value.specs.Moment.{Fraction, absent, decimals}
+use Rattle.value_to_text.specs.Script.{truthText, fractionOf}
 use Rattle.value_to_text.specs.Raw.{escaped}
 
 -- a text, as long as its two first bytes say
@@ -24,8 +25,12 @@ wordRaw ws b = cond (eqb (getD b 0 0) 0) [] (getD ws (getD b 0 0 - 1) [])
 unfoldable pub threeRaw : ℕ → ℕ → List ℕ → ℕ → ℕ → List ℕ
 threeRaw w a sign b c = padded w a ++ (sign ++ (padded 2 b ++ (sign ++ padded 2 c)))
 
+abbrev pub placesRaw : Fraction → List ℕ
+placesRaw absent = []
+placesRaw (decimals k n) = 46 ∷ padded k n
+
 unfoldable pub fractionRaw : ℕ → List ℕ
-fractionRaw u = cond (eqb u 0) [] (46 ∷ padded 6 u)
+fractionRaw u = placesRaw (fractionOf u)
 
 -- a sign and `hh:mm`
 unfoldable pub offsetRaw : List ℕ → ℕ → List ℕ

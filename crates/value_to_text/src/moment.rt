@@ -8,6 +8,7 @@ ghost use mathlib.Core.Path.{_≡_};
 ghost use mathlib.Core.List.{_∷_};
 ghost use Prim.Native.Nat.{_+_, _≤_};
 ghost use lib.ListN.{length, getD};
+ghost use Rattle.text.specs.Digits.{padded};
 ghost use Rattle.text.specs.Pasting.{pasted};
 ghost use Rattle.value_to_text.specs.Stored.{threeRaw, fractionRaw, offsetRaw, zoneRaw, dayIn, clockIn, momentIn};
 
@@ -33,7 +34,17 @@ fn put_three(buf: &mut [u8], at: usize, w: usize, a: u16, sign: &[u8], b: u8, c:
     pad(buf, at + w + 4, 2, c as u64);
 }
 
-// "fractions of a second only where not zero and then six digits"; the place behind.
+// A point and the last k digits of n; the place after them.
+fn put_places(buf: &mut [u8], at: usize, k: usize, n: u32) -> usize
+    requires { ⌜ at + (1 + k) ≤ length (now buf) ⌝ }
+    ensures { λ r. ⌜ (r ≡ at + (1 + k)) × (now (buf .exit) ≡ pasted (now (buf .entry)) at (46 ∷ padded k n)) ⌝ }
+{
+    copy(b".", 0, 1, buf, at);
+    pad(buf, at + 1, k, n as u64);
+    at + (1 + k)
+}
+
+// "The writer .. writes the shortest fraction"; the place after it. What is finer than thousandths no file says: its six digits stand for it.
 fn put_fraction(buf: &mut [u8], at: usize, u: u32) -> usize
     requires { ⌜ at + 7 ≤ length (now buf) ⌝ }
     ensures { λ r. ⌜ (r ≡ at + length (fractionRaw u)) × ((r ≤ at + 7) × (now (buf .exit) ≡ pasted (now (buf .entry)) at (fractionRaw u))) ⌝ }
@@ -41,9 +52,16 @@ fn put_fraction(buf: &mut [u8], at: usize, u: u32) -> usize
     if u == 0 {
         return at;
     }
-    copy(b".", 0, 1, buf, at);
-    pad(buf, at + 1, 6, u as u64);
-    at + 7
+    if u % 100000 == 0 {
+        return put_places(buf, at, 1, u / 100000);
+    }
+    if u % 10000 == 0 {
+        return put_places(buf, at, 2, u / 10000);
+    }
+    if u % 1000 == 0 {
+        return put_places(buf, at, 3, u / 1000);
+    }
+    put_places(buf, at, 6, u)
 }
 
 // A sign, hours and minutes.

@@ -8,7 +8,7 @@ use Rattle.answer.specs.Table.{limit}
 use Rattle.program_line.specs.Line.{refusal}
 use Rattle.file_letter.specs.Writes.{Writes}
 use Rattle.file_letter.proofs.Rooms.{written-alike}
-use Rattle.write.specs.Sends.{Sends, line, file}
+use Rattle.write.specs.Sends.{Sends, noFile, file}
 
 -- only one output fits
 module _ (run u v : List ℕ) where
@@ -19,7 +19,7 @@ module _ (run u v : List ℕ) where
   code-of a b e = ap (λ (x : Answer). x .code) e
 
   pub sends-one : Sends run u → Sends run v → u ≡ v
-  sends-one (line a c c′ m p z e) (line b d d′ n q w f) = e ∙ ap refusal (same a b c d c′ d′ m n p q) ∙ sym f
-  sends-one (line a c c′ m p z e) (file b d d′ n q w f) = absurd (z (code-of a b (same a b c d c′ d′ m n p q) ∙ w))
-  sends-one (file a c c′ m p z e) (line b d d′ n q w f) = absurd (w (sym (code-of a b (same a b c d c′ d′ m n p q)) ∙ z))
+  sends-one (noFile a c c′ m p z e) (noFile b d d′ n q w f) = e ∙ ap refusal (same a b c d c′ d′ m n p q) ∙ sym f
+  sends-one (noFile a c c′ m p z e) (file b d d′ n q w f) = absurd (z (code-of a b (same a b c d c′ d′ m n p q) ∙ w))
+  sends-one (file a c c′ m p z e) (noFile b d d′ n q w f) = absurd (w (sym (code-of a b (same a b c d c′ d′ m n p q)) ∙ z))
   sends-one (file a c c′ m p z e) (file b d d′ n q w f) = e ∙ written-alike c d (m ∙ sym n) run a b c′ d′ p q .1 z ∙ sym f

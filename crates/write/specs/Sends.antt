@@ -12,5 +12,5 @@ use Rattle.file_letter.specs.Writes.{Writes}
 -- the file of the image that a run begins with, or one line `refused CODE ROW PLACE`; d is the buffer that it lends, with room for every file
 -- that may be written, d′ that buffer afterwards. To a run over the limit the writer's own answer is 1
 pub data Sends (run sent : List ℕ) : Type 0 where
-  line : (a : Answer) (d d′ : List ℕ) → length d ≡ limit → Writes run d a d′ → a .code ≢ 0 → sent ≡ refusal a → Sends run sent
+  noFile : (a : Answer) (d d′ : List ℕ) → length d ≡ limit → Writes run d a d′ → a .code ≢ 0 → sent ≡ refusal a → Sends run sent
   file : (a : Answer) (d d′ : List ℕ) → length d ≡ limit → Writes run d a d′ → a .code ≡ 0 → sent ≡ take (a .place) d′ → Sends run sent

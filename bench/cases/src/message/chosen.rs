@@ -13,7 +13,7 @@ pub const WHOLE: &str = concat!(
 /// the other kind of account.
 pub const EVERY_ROW: &str = concat!(
     "<Document xmlns=\"urn:iso:std:iso:20022:tech:xsd:camt.053.001.08\"><BkToCstmrStmt>",
-    "<GrpHdr><MsgId>M/1</MsgId><CreDtTm>2024-03-01T06:00:00.250+01:00</CreDtTm></GrpHdr>",
+    "<GrpHdr><MsgId>M/1</MsgId><CreDtTm>2024-03-01T06:00:00.25+01:00</CreDtTm></GrpHdr>",
     "<Stmt><Id>S-1</Id><ElctrncSeqNb>42</ElctrncSeqNb>",
     "<Acct><Id><IBAN>AT611904300234573201</IBAN></Id><Ccy>EUR</Ccy></Acct>",
     "<Bal><Tp><CdOrPrtry><Cd>OPBD</Cd></CdOrPrtry></Tp><Amt Ccy=\"EUR\">100.00</Amt><CdtDbtInd>CRDT</CdtDbtInd>",

@@ -36,6 +36,17 @@ pub fn items_of(rows: &[u8]) -> Vec<Vec<u8>> {
     rows.iter().map(|row| every_row.iter().find(|item| item[0] == *row).expect("every row").clone()).collect()
 }
 
+/// The image with so many microseconds in its date-time, which it has one of.
+pub fn with_microseconds(image: &[u8], microseconds: u32) -> Vec<u8> {
+    let mut items = take_apart(image);
+    let time = items.iter_mut().find(|item| item[0] == DATE_TIME).expect("every message has one");
+    time[8..12].copy_from_slice(&microseconds.to_be_bytes());
+    put_together(&items)
+}
+
+/// The row of CreDtTm, whose value begins with a day and a time of day: seven bytes.
+const DATE_TIME: u8 = 5;
+
 /// Bytes with blanks behind them up to a length.
 pub fn filled(mut bytes: Vec<u8>, length: usize) -> Vec<u8> {
     bytes.resize(length, b' ');

@@ -41,10 +41,7 @@ pub fn make(wanted: Wanted) -> Result<Statement, String> {
 }
 
 /// The same; a dense file whose message is good is what `written` makes of it. A damaged message has no image to be written from.
-pub fn make_by(
-    wanted: Wanted,
-    written: impl FnOnce(&[u8]) -> Result<Vec<u8>, String>,
-) -> Result<Statement, String> {
+pub fn make_by(wanted: Wanted, written: impl FnOnce(&[u8]) -> Result<Vec<u8>, String>) -> Result<Statement, String> {
     let Wanted { seed, entries, code, dense } = wanted;
     if !CODES.contains(&code) {
         return Err(format!("no file gets code {code} by itself: the codes are 0 to 13"));

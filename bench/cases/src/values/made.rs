@@ -173,9 +173,12 @@ fn date_time(random: &mut Random) -> String {
         1 => (0, 0, 0),
         _ => (random.below(24), random.below(60), random.below(60)),
     };
-    let fraction = match random.below(4) {
-        0 => format!(".{:03}", random.below(1000)),
-        1 => format!(".{:06}", random.below(1_000_000)),
+    // 24:00:00 has no fraction, and none follows the last day.
+    let midnight = random.once_in(8) && date != "9999-12-31";
+    let (hour, minute, second) = if midnight { (24, 0, 0) } else { (hour, minute, second) };
+    let digits = random.below(3);
+    let fraction = match random.below(2) {
+        0 if !midnight => format!(".{}{}", random.characters(DIGITS, digits), random.between(1, 9)),
         _ => String::new(),
     };
     let zone = match random.below(5) {

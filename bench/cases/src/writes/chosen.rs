@@ -6,7 +6,7 @@ use independent::LIMIT;
 use super::{image_for_file_of, needed};
 use crate::feed::Case;
 use crate::message::chosen::{EVERY_ROW, WHOLE};
-use crate::runs::{image_of, items_of, put_together, reads};
+use crate::runs::{image_of, items_of, put_together, reads, with_microseconds};
 use crate::values;
 
 /// Write cases only. The longest are the images of files at the limit.
@@ -19,6 +19,24 @@ pub fn fixed_set() -> Vec<Case> {
     cases.extend(every_value().into_iter().map(|run| Case::write(LIMIT, run)));
     cases.extend(refused().into_iter().zip([0, LIMIT].into_iter().cycle()).map(|(run, room)| Case::write(room, run)));
     cases.extend(at_the_limit());
+    cases.extend(finer());
+    cases
+}
+
+/// "20, before 19": microseconds with each number of digits, with and without zeros at their end; with room and with none, and
+/// where the file would be over the limit too.
+fn finer() -> Vec<Case> {
+    let image = image_of(EVERY_ROW.as_bytes());
+    let mut cases = Vec::new();
+    for digits in 0..=6 {
+        for number in ["100000", "123456", "000001", "999999"] {
+            let microseconds = format!("{:0<6}", &number[..digits]).parse().expect("six digits");
+            cases.push(Case::write(LIMIT, with_microseconds(&image, microseconds)));
+        }
+    }
+    cases.push(Case::write(0, with_microseconds(&image, 1)));
+    cases.push(Case::write(0, with_microseconds(&image_for_file_of(LIMIT + 1), 1)));
+    cases.push(Case::write(0, [&with_microseconds(&image, 1)[..], b"behind"].concat()));
     cases
 }
 

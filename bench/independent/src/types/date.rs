@@ -27,6 +27,17 @@ impl Date {
     pub fn is_real(&self) -> bool {
         (1..=9999).contains(&self.year) && (1..=days_in(self.year, self.month)).contains(&self.day)
     }
+
+    /// "the next day"; `None` after 9999-12-31.
+    fn next(self) -> Option<Date> {
+        let Date { year, month, day } = self;
+        let following = [
+            Date { day: day + 1, ..self },
+            Date { year, month: month + 1, day: 1 },
+            Date { year: year + 1, month: 1, day: 1 },
+        ];
+        following.into_iter().find(Date::is_real)
+    }
 }
 
 impl DateTime {
@@ -63,8 +74,9 @@ pub fn date(text: &str) -> Option<Date> {
     date.is_real().then_some(date)
 }
 
-/// "DTM: DATE, `T`, `hh:mm:ss` up to 23:59:59, optionally a point and three or six digits, then `Z` or sign `hh:mm`,
-/// minutes at most 59, up to 14:00."
+/// "DTM: DATE, `T`, `hh:mm:ss` up to 23:59:59, optionally a point and .. digits, then `Z` or sign `hh:mm`, minutes at most 59,
+/// up to 14:00." Document 02, section 3: "xs:dateTime also allows 24:00:00, without fraction: its content is 00:00:00 of the
+/// next day, and on 9999-12-31 it is refused".
 pub fn date_time(text: &str) -> Option<DateTime> {
     if !text.is_ascii() || text.len() < 19 {
         return None;
@@ -75,23 +87,25 @@ pub fn date_time(text: &str) -> Option<DateTime> {
     let [hour, minute, second] = split(time, "dd:dd:dd")?;
     let zone_start = rest.find(['Z', '+', '-'])?;
     let (fraction, zone) = rest.split_at(zone_start);
-    let microsecond = microseconds(fraction)?;
     let offset = offset(zone)?;
+    if time == "24:00:00" && fraction.is_empty() {
+        return Some(DateTime { date: date.next()?, hour: 0, minute: 0, second: 0, microsecond: 0, offset });
+    }
+    let microsecond = microseconds(fraction)?;
     let value = DateTime { date, hour: hour as u8, minute: minute as u8, second: second as u8, microsecond, offset };
     value.is_real().then_some(value)
 }
 
-/// What stands between the seconds and the zone: nothing, or "a point and three or six digits".
+/// What stands between the seconds and the zone: nothing, or "a point and one to three digits, the last not zero".
 fn microseconds(fraction: &str) -> Option<u32> {
     if fraction.is_empty() {
         return Some(0);
     }
     let digits = fraction.strip_prefix('.')?;
-    match digits.len() {
-        3 if all_digits(digits) => Some(digits.parse::<u32>().ok()? * 1000),
-        6 if all_digits(digits) => digits.parse().ok(),
-        _ => None,
+    if !(1..=3).contains(&digits.len()) || !all_digits(digits) || digits.ends_with('0') {
+        return None;
     }
+    format!("{digits:0<6}").parse().ok()
 }
 
 /// "`Z` or sign `hh:mm`, minutes at most 59, up to 14:00", in minutes.
@@ -165,23 +179,67 @@ mod tests {
     #[test]
     fn times() {
         assert_eq!(parts("2024-03-01T06:00:00Z"), Some((6, 0, 0, 0, 0)));
-        assert_eq!(parts("2024-03-01T23:59:59.999999+14:00"), Some((23, 59, 59, 999_999, 840)));
-        assert_eq!(parts("2024-03-01T00:00:00.120-14:00"), Some((0, 0, 0, 120_000, -840)));
-        assert_eq!(parts("2024-03-01T00:00:00.000001+13:59"), Some((0, 0, 0, 1, 839)));
-        assert_eq!(date_time("2024-03-01T06:00:00Z"), date_time("2024-03-01T06:00:00.000+00:00"));
-        assert_eq!(date_time("2024-03-01T06:00:00Z"), date_time("2024-03-01T06:00:00.000000-00:00"));
+        assert_eq!(parts("2024-03-01T23:59:59.999+14:00"), Some((23, 59, 59, 999_000, 840)));
+        assert_eq!(parts("2024-03-01T00:00:00.12-14:00"), Some((0, 0, 0, 120_000, -840)));
+        assert_eq!(parts("2024-03-01T00:00:00.001+13:59"), Some((0, 0, 0, 1_000, 839)));
+        assert_eq!(parts("2024-03-01T00:00:00.5Z"), Some((0, 0, 0, 500_000, 0)));
+        assert_eq!(date_time("2024-03-01T06:00:00Z"), date_time("2024-03-01T06:00:00+00:00"));
+        assert_eq!(date_time("2024-03-01T06:00:00Z"), date_time("2024-03-01T06:00:00-00:00"));
         let bad = [
-            "2024-03-01T06:00:00", "2024-03-01T24:00:00Z", "2024-03-01T06:60:00Z", "2024-03-01T06:00:60Z",
-            "2024-03-01T06:00:00.Z", "2024-03-01T06:00:00.1Z", "2024-03-01T06:00:00.12Z", "2024-03-01T06:00:00.1234Z",
-            "2024-03-01T06:00:00.12345Z", "2024-03-01T06:00:00.1234567Z", "2024-03-01T06:00:00+14:01",
-            "2024-03-01T06:00:00-14:01", "2024-03-01T06:00:00+15:00", "2024-03-01T06:00:00+01:60",
-            "2024-03-01T06:00:00+1:00", "2024-03-01T06:00:00+0100", "2024-03-01t06:00:00Z", "2024-03-01 06:00:00Z",
-            "2024-03-01T06:00:00z", "2024-03-01T06:00:00Z ", "2024-02-30T06:00:00Z", "2024-03-01T06:00:00,123Z",
-            "2024-03-01T06:00:00.12aZ", "2024-03-01T06:00:00ZZ", "2024-03-01T06:00Z", "", "2024-03-01",
-            "2024-03-01T6:00:00Z0", "2024-03-01T06:00:00.+12Z", "2024-03-01T06:00:00.-12345Z", "€€€€€€€€€€",
+            "2024-03-01T06:00:00", "2024-03-01T24:00:01Z", "2024-03-01T06:60:00Z", "2024-03-01T06:00:60Z",
+            "2024-03-01T24:01:00Z", "2024-03-01T25:00:00Z", "2024-03-01T24:00:00.1Z", "2024-03-01T24:00:00.0Z",
+            "2024-03-01T24:00:00.000Z", "2024-03-01T24:00:00", "2024-02-30T24:00:00Z", "2024-03-01T24:00:00+14:01",
+            "2024-03-01T06:00:00.0Z", "2024-03-01T06:00:00.00Z", "2024-03-01T06:00:00.000Z", "2024-03-01T06:00:00.10Z",
+            "2024-03-01T06:00:00.120Z", "2024-03-01T06:00:00.100Z", "2024-03-01T06:00:00.123456Z",
+            "2024-03-01T06:00:00.120000Z", "2024-03-01T06:00:00.000000Z", "2024-03-01T06:00:00+01",
+            "2024-03-01T06:00:00.Z", "2024-03-01T06:00:00.1234Z", "2024-03-01T06:00:00.12345Z",
+            "2024-03-01T06:00:00.1234567Z", "2024-03-01T06:00:00+14:01", "2024-03-01T06:00:00-14:01",
+            "2024-03-01T06:00:00+15:00", "2024-03-01T06:00:00+01:60", "2024-03-01T06:00:00+1:00",
+            "2024-03-01T06:00:00+0100", "2024-03-01t06:00:00Z", "2024-03-01 06:00:00Z", "2024-03-01T06:00:00z",
+            "2024-03-01T06:00:00Z ", "2024-02-30T06:00:00Z", "2024-03-01T06:00:00,123Z", "2024-03-01T06:00:00.12aZ",
+            "2024-03-01T06:00:00ZZ", "2024-03-01T06:00Z", "", "2024-03-01", "2024-03-01T6:00:00Z0",
+            "2024-03-01T06:00:00.+12Z", "2024-03-01T06:00:00.-12345Z", "€€€€€€€€€€",
         ];
         for text in bad {
             assert_eq!(date_time(text), None, "{text}");
         }
+    }
+
+    /// "its content is 00:00:00 of the next day": counted on over 400 years from a day by the calendar's own rule, each day
+    /// once; "on 9999-12-31 it is refused".
+    #[test]
+    fn midnight_is_the_next_day() {
+        let at =
+            |date: &Date, time: &str| date_time(&format!("{:04}-{:02}-{:02}T{time}", date.year, date.month, date.day));
+        let mut day = Date { year: 1801, month: 1, day: 1 };
+        let mut days = 0;
+        while day != (Date { year: 2201, month: 1, day: 1 }) {
+            let next = at(&day, "24:00:00-05:30").expect("a day has a midnight");
+            assert_eq!(Some(next), at(&next.date, "00:00:00-05:30"));
+            day = next.date;
+            days += 1;
+        }
+        assert_eq!(days, 146_097, "the days of the Gregorian cycle");
+        let pairs = [
+            ("1900-02-28", "1900-03-01"),
+            ("2000-02-28", "2000-02-29"),
+            ("2000-02-29", "2000-03-01"),
+            ("2023-02-28", "2023-03-01"),
+            ("2024-02-28", "2024-02-29"),
+            ("2024-02-29", "2024-03-01"),
+            ("2024-04-30", "2024-05-01"),
+            ("2024-12-31", "2025-01-01"),
+            ("9998-12-31", "9999-01-01"),
+            ("9999-12-30", "9999-12-31"),
+            ("0001-01-01", "0001-01-02"),
+        ];
+        for (day, next) in pairs {
+            for zone in ["Z", "+14:00", "-14:00"] {
+                let midnight = date_time(&format!("{day}T24:00:00{zone}"));
+                assert!(midnight.is_some(), "{day}");
+                assert_eq!(midnight, date_time(&format!("{next}T00:00:00{zone}")), "{day}");
+            }
+        }
+        assert_eq!(date_time("9999-12-31T24:00:00Z"), None);
     }
 }

@@ -54,7 +54,7 @@ impl Page {
                 _ => format!("<i style=\"width:{}%\"></i>", 100 * count / self.tally.refused()),
             };
             format!(
-                "<tr><td class=\"n\">{code}</td><td><a href=\"#code-{code}\">{name}</a></td><td>{meaning}</td><td class=\"n\">{count}</td>\
+                "<tr><td class=\"n\">{code}</td><td><a href=\"#code-{code}\">{name}</a></td><td class=\"m\">{meaning}</td><td class=\"n\">{count}</td>\
                  <td class=\"bar\">{bar}</td></tr>\n",
             )
         });
@@ -63,7 +63,7 @@ impl Page {
             true => String::new(),
             false => format!(
                 "<table>\n<thead><tr><th class=\"n\">Code</th><th>Name</th><th>Meaning</th><th class=\"n\">Files</th>\
-                 <th>Of those refused</th></tr></thead>\n<tbody>\n{rows}</tbody>\n</table>\n"
+                 <th class=\"bar\">Of those refused</th></tr></thead>\n<tbody>\n{rows}</tbody>\n</table>\n"
             ),
         }
     }
@@ -175,7 +175,9 @@ ul.sum { list-style: none; display: flex; gap: 2rem; padding: 0; margin: 1rem 0;
 table { border-collapse: collapse; width: 100%; }
 th, td { text-align: left; padding: .25rem .75rem .25rem 0; border-bottom: 1px solid var(--rule); white-space: nowrap; }
 .n { text-align: right; font-variant-numeric: tabular-nums; }
-td.bar { width: 50%; }
+td.m { white-space: normal; }
+.bar { width: 35%; }
+@media (max-width: 40rem) { .bar { display: none; } }
 td.bar i { display: block; height: .7rem; min-width: 2px; border-radius: 2px; background: var(--bad); }
 pre { background: var(--code); padding: .5rem .75rem; margin: .4rem 0 0; overflow-x: auto; border-radius: 4px; font: 14px/1.35 ui-monospace, monospace; }
 pre b { color: var(--bad); } pre .line { color: var(--soft); }
@@ -206,7 +208,7 @@ mod tests {
             "<b>1</b> accepted",
             "<b>1</b> refused",
             "<b>1</b> not read",
-            "<td class=\"n\">12</td><td><a href=\"#code-12\">BAD_VALUE</a></td><td>value breaks its type</td><td class=\"n\">1</td>",
+            "<td class=\"n\">12</td><td><a href=\"#code-12\">BAD_VALUE</a></td><td class=\"m\">value breaks its type</td><td class=\"n\">1</td>",
             "<section id=\"code-12\">\n<h2>12 BAD_VALUE, value breaks its type <small>1 file</small></h2>",
             "<h3>&lt;a&gt;&amp;&quot;b&quot;.xml</h3>",
             "row 52 Document/BkToCstmrStmt/Stmt/Ntry/NtryDtls/TxDtls/RltdPties/Dbtr/Pty/Nm &middot; line 7, column 3 &middot; byte 99",

@@ -2,7 +2,7 @@
 
 use independent::Code;
 
-const NAMES: [(u8, &str); 20] = [
+const NAMES: [(u8, &str); 21] = [
     (0, "ACCEPTED"),
     (1, "TOO_LONG"),
     (2, "NOT_UTF8"),
@@ -23,6 +23,7 @@ const NAMES: [(u8, &str); 20] = [
     (17, "BROKEN_IMAGE"),
     (18, "NO_SUCH_LEAF"),
     (19, "TOO_LARGE"),
+    (20, "TOO_FINE"),
 ];
 
 /// `BAD_VALUE` of 12.

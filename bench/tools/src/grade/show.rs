@@ -55,14 +55,8 @@ mod tests {
         let image = image_of(EVERY_ROW.as_bytes());
         let lines: Vec<String> = first_image(&image).unwrap().items.iter().map(item_line).collect();
         for line in [
-            "Document",
-            "      MsgId: M/1",
-            "      CreDtTm: 2024-03-01T06:00:00.250000+01:00",
-            "      ElctrncSeqNb: 42",
-            "        Amt: EUR 750.25",
-            "        Amt: USD 0",
-            "        RvslInd: false",
-            "          Dt: 2024-02-29",
+            "Document", "      MsgId: M/1", "      CreDtTm: 2024-03-01T06:00:00.25+01:00", "      ElctrncSeqNb: 42",
+            "        Amt: EUR 750.25", "        Amt: USD 0", "        RvslInd: false", "          Dt: 2024-02-29",
             "                  Nm: Bäcker & Söhne",
         ] {
             assert!(lines.iter().any(|shown| shown == line), "{line} in\n{}", lines.join("\n"));

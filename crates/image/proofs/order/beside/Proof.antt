@@ -29,7 +29,21 @@ mated-requires c κs = search needs
 returns-2 : tie.Need-returns-2
 unfolding beside
 returns-2 c =
-    rw (sym (c .before .before .before .before .before .before .before .cell .ensures), ne-eqb (c .before .before .before .before .before .before .before .cell .result) 1 (c .before .before .before .before .before .before .if1 .left), sym (c .before .before .before .before .before .in-order .ensures), c .before .before .before .before .if2 .taken, sym (c .before .before .before .owed .ensures), sym (c .before .before .before2 .ensures), c .before .if3 .taken) (c .mated .ensures)
+    let at-before2 = c .before .before in
+    let at-owed = at-before2 .before in
+    let at-if2 = at-owed .before in
+    let at-in-order = at-if2 .before in
+    let at-if1 = at-in-order .before in
+    let at-cell = at-if1 .before in
+    rw (
+      sym (at-cell .cell .ensures),
+      ne-eqb (at-cell .cell .result) 1 (at-if1 .if1 .left),
+      sym (at-in-order .in-order .ensures),
+      at-if2 .if2 .taken,
+      sym (at-owed .owed .ensures),
+      sym (at-before2 .before2 .ensures),
+      c .before .if3 .taken,
+    ) (c .mated .ensures)
 
 returns-3 : tie.Need-returns-3
 unfolding beside

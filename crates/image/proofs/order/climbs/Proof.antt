@@ -48,7 +48,17 @@ owed-requires c κs =
 
 returns-3 : tie.Need-returns-3 Inv-loop μ-loop
 returns-3 c =
-    sym (climbs-owed (c .before .before .before .before .before .before .before .before .before .args .rows .now) (c .before .before .before .before .before .before .before .before .before .args .x) (c .before .before .before .before .before .before .loop .levels) (c .before .before .before .before .before .before .loop .q) (c .before .before .before .before .before .loop-test .taken) (c .before .before .before .before .if1 .left) (λ e. c .before .before .if2 .left (c .before .before .before .cell2 .ensures ∙ e ∙ sym (c .before .before .before .before .before .before .before .cell .ensures))) (λ e. c .if3 .taken (c .before .owed .ensures ∙ e))) ∙ c .before .before .before .before .before .before .loop .inv .1
+    let at-if2 = c .before .before in
+    let at-cell2 = at-if2 .before in
+    let at-if1 = at-cell2 .before in
+    let at-loop-test = at-if1 .before in
+    let at-loop = at-loop-test .before in
+    let at-cell = at-loop .before in
+    let start = at-cell .before .before in
+    sym
+    (climbs-owed (start .args .rows .now) (start .args .x) (at-loop .loop .levels) (at-loop .loop .q) (at-loop-test .loop-test .taken) (at-if1 .if1 .left)
+    (λ e. at-if2 .if2 .left (at-cell2 .cell2 .ensures ∙ e ∙ sym (at-cell .cell .ensures))) (λ e. c .if3 .taken (c .before .owed .ensures ∙ e))) ∙
+    at-loop .loop .inv .1
 
 sub-levels : tie.Need-sub-levels Inv-loop μ-loop
 sub-levels c =
@@ -61,7 +71,18 @@ loop-less c =
 loop-again : tie.Need-loop-again Inv-loop μ-loop
 loop-again c = (
   omega (arith, c .before .before .before .before .before .before .loop .inv .0),
-  rw (c .before .before .before .cell2 .ensures) (sym (climbs-up (c .before .before .before .before .before .before .before .before .before .args .rows .now) (c .before .before .before .before .before .before .before .before .before .args .x) (c .before .before .before .before .before .before .loop .levels) (c .before .before .before .before .before .before .loop .q) (c .before .before .before .before .before .loop-test .taken) (c .before .before .before .before .if1 .left) (λ e. c .before .before .if2 .left (c .before .before .before .cell2 .ensures ∙ e ∙ sym (c .before .before .before .before .before .before .before .cell .ensures))) (sym (c .before .owed .ensures) ∙ omega (arith, c .if3 .left)))) ∙ c .before .before .before .before .before .before .loop .inv .1,
+  let at-if2 = c .before .before in
+      let at-cell2 = at-if2 .before in
+      let at-if1 = at-cell2 .before in
+      let at-loop-test = at-if1 .before in
+      let at-loop = at-loop-test .before in
+      let at-cell = at-loop .before in
+      let start = at-cell .before .before in
+      rw (at-cell2 .cell2 .ensures)
+      (sym
+      (climbs-up (start .args .rows .now) (start .args .x) (at-loop .loop .levels) (at-loop .loop .q) (at-loop-test .loop-test .taken) (at-if1 .if1 .left)
+      (λ e. at-if2 .if2 .left (at-cell2 .cell2 .ensures ∙ e ∙ sym (at-cell .cell .ensures))) (sym (c .before .owed .ensures) ∙ omega (arith, c .if3 .left))))
+      ∙ at-loop .loop .inv .1,
 )
 
 returns-4 : tie.Need-returns-4 Inv-loop μ-loop

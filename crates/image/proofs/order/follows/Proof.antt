@@ -28,7 +28,18 @@ climbs-requires c κs = search needs
 returns-3 : tie.Need-returns-3
 unfolding follows
 returns-3 c =
-    rw (ne-eqb (c .before .before .before .before .before .before .before .args .x) 0 (c .before .before .before .before .before .if1 .left), sym (c .before .before .before .before .cell .ensures), le-ltb (c .before .before .before .before .cell .result) (c .before .before .before .before .before .before .before .args .x) (c .before .before .before .if2 .left), sym (c .before .before .is-leaf .ensures), c .before .if3 .taken) (c .climbs .ensures)
+    let at-is-leaf = c .before .before in
+    let at-if2 = at-is-leaf .before in
+    let at-cell = at-if2 .before in
+    let at-if1 = at-cell .before in
+    let start = at-if1 .before .before in
+    rw (
+      ne-eqb (start .args .x) 0 (at-if1 .if1 .left),
+      sym (at-cell .cell .ensures),
+      le-ltb (at-cell .cell .result) (start .args .x) (at-if2 .if2 .left),
+      sym (at-is-leaf .is-leaf .ensures),
+      c .before .if3 .taken,
+    ) (c .climbs .ensures)
 
 inside-requires : tie.Need-inside-requires
 inside-requires c κs = search needs
@@ -36,7 +47,18 @@ inside-requires c κs = search needs
 returns-4 : tie.Need-returns-4
 unfolding follows
 returns-4 c =
-    rw (ne-eqb (c .before .before .before .before .before .before .before .args .x) 0 (c .before .before .before .before .before .if1 .left), sym (c .before .before .before .before .cell .ensures), le-ltb (c .before .before .before .before .cell .result) (c .before .before .before .before .before .before .before .args .x) (c .before .before .before .if2 .left), sym (c .before .before .is-leaf .ensures), c .before .if3 .left) (c .inside .ensures)
+    let at-is-leaf = c .before .before in
+    let at-if2 = at-is-leaf .before in
+    let at-cell = at-if2 .before in
+    let at-if1 = at-cell .before in
+    let start = at-if1 .before .before in
+    rw (
+      ne-eqb (start .args .x) 0 (at-if1 .if1 .left),
+      sym (at-cell .cell .ensures),
+      le-ltb (at-cell .cell .result) (start .args .x) (at-if2 .if2 .left),
+      sym (at-is-leaf .is-leaf .ensures),
+      c .before .if3 .left,
+    ) (c .inside .ensures)
 
 pub follows-spec : {M : Type 1} → statement M
 follows-spec =

@@ -27,7 +27,19 @@ cell-requires-3 c κs = search needs
 returns-2 : tie.Need-returns-2
 unfolding inside
 returns-2 c =
-    rw (sym (c .before .before .before .before .before .cell .ensures), eq-eqb (c .before .before .before .before .before .cell .result) (c .before .before .before .before .before .before .before .args .q) (omega (arith, c .before .before .before .before .if1 .left)), sym (c .before .before .before .cell2 .ensures), sym (c .before .before .before2 .ensures), c .before .if2 .taken, sym (c .cell3 .ensures))
+    let at-before2 = c .before .before in
+    let at-cell2 = at-before2 .before in
+    let at-if1 = at-cell2 .before in
+    let at-cell = at-if1 .before in
+    let start = at-cell .before .before in
+    rw (
+      sym (at-cell .cell .ensures),
+      eq-eqb (at-cell .cell .result) (start .args .q) (omega (arith, at-if1 .if1 .left)),
+      sym (at-cell2 .cell2 .ensures),
+      sym (at-before2 .before2 .ensures),
+      c .before .if2 .taken,
+      sym (c .cell3 .ensures),
+    )
 
 returns-3 : tie.Need-returns-3
 unfolding inside

@@ -45,7 +45,15 @@ loop-less c =
 loop-again : tie.Need-loop-again Inv-loop μ-loop
 loop-again c = (
   omega (arith, c .before .before .before .before .before .loop .inv .0),
-  rw (c .cell .ensures) (sym (rests-up (c .before .before .before .before .before .before .before .args .rows .now) (c .before .before .before .before .before .loop .levels) (c .before .before .before .before .before .loop .q) (c .before .before .before .before .loop-test .taken) (c .before .before .before .if1 .left) (sym (c .before .before .owed .ensures) ∙ omega (arith, c .before .if2 .left)))) ∙ c .before .before .before .before .before .loop .inv .1,
+  let at-owed = c .before .before in
+      let at-if1 = at-owed .before in
+      let at-loop-test = at-if1 .before in
+      let at-loop = at-loop-test .before in
+      let start = at-loop .before .before in
+      rw (c .cell .ensures)
+      (sym
+      (rests-up (start .args .rows .now) (at-loop .loop .levels) (at-loop .loop .q) (at-loop-test .loop-test .taken) (at-if1 .if1 .left)
+      (sym (at-owed .owed .ensures) ∙ omega (arith, c .before .if2 .left)))) ∙ at-loop .loop .inv .1,
 )
 
 returns-3 : tie.Need-returns-3 Inv-loop μ-loop

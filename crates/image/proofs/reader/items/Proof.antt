@@ -4,17 +4,43 @@ use Rattle.image.proofs.reader.items.Tie as tie
 use Prim.Native.Nat.{_+_, _-_, _<_}
 use native.Mathlib.Omega.{arith}
 use lib.ListN.{length}
-use mathlib.Core.Path.{subst}
+use mathlib.Core.Path.{_≡_, subst}
 use borrow.Author.Needs.{needs}
 use Rattle.image.specs.Ends.{itemEnd}
 use Rattle.image.proofs.Ends.{item-on, item-leaf, item-group}
-use Rattle.image.proofs.Turning.{Here, begins, runs-out, closes, too-soon, strays, breaks, goes-on}
+use Rattle.image.proofs.Turning.{Here, AtByte, AtRow, begins, runs-out, closes, too-soon, strays, breaks, goes-on}
 
 abbrev Inv-loop : tie.InvT-loop
 Inv-loop rows run from q₀ i₀ q i = Here rows (itemEnd rows run) run from q i
 
 abbrev μ-loop : tie.MeasureT-loop
 μ-loop rows run from q₀ i₀ q i = length run - i
+
+-- what a turn has been told when it has read a byte; when it knows whether that row may come; and where a leaf's item ends
+abbrev reading : tie.After-wide Inv-loop μ-loop → AtByte
+reading c = record {
+  t = _;
+  fin = _;
+  s = _;
+  from = _;
+  q = _;
+  i = _;
+  here = c .before .before .before .loop .inv;
+  x = _;
+  inside = c .before .before .loop-test .taken;
+  is = c .wide .ensures;
+}
+
+abbrev rowed : tie.After-follows Inv-loop μ-loop → AtRow
+rowed c = record { read = reading (c .before .before); row = c .before .if1 .left; b = _; next = c .follows .ensures }
+
+abbrev leafed : tie.After-value-end Inv-loop μ-loop → AtRow
+leafed c = rowed (c .before .before .before .before .before .before .before)
+
+leaf-end : (c : tie.After-value-end Inv-loop μ-loop) → c .value-end .result ≡ leafed c .read .fin (leafed c .read .x) (leafed c .read .i + 1)
+leaf-end c =
+    item-leaf _ _ _ _ _ (c .before .before .before .before .before .is-leaf .ensures) (c .before .before .before .before .if4 .taken) _ _ _ _ (c .before .before .before .cell .ensures) (c .before .before .cell2 .ensures)
+    (c .before .cell3 .ensures) (c .value-end .ensures .0)
 
 loop-holds : tie.Need-loop-holds Inv-loop μ-loop
 loop-holds c =
@@ -43,8 +69,7 @@ accepted-requires c κs =
 
 returns : tie.Need-returns Inv-loop μ-loop
 returns c =
-    let g = c .before .before .before .before .before .before .before .before .before .before .args in
-    closes (g .rows .now) (itemEnd (g .rows .now) (g .run .now)) (g .run .now) (g .from) (c .before .before .before .before .before .before .before .loop .q) (c .before .before .before .before .before .before .before .loop .i) (c .before .before .before .before .before .before .before .loop .inv) (c .before .before .before .before .wide .result) (c .before .before .before .before .before .before .loop-test .taken) (c .before .before .before .before .wide .ensures) (c .accepted .result) (c .before .before .ended .result) (c .accepted .ensures) (c .before .before .before .if1 .taken) (c .before .before .ended .ensures) (c .before .if2 .taken)
+    closes (reading (c .before .before .before .before)) _ _ (c .accepted .ensures) (c .before .before .before .if1 .taken) (c .before .before .ended .ensures) (c .before .if2 .taken)
 
 broken-image-requires : tie.Need-broken-image-requires Inv-loop μ-loop
 broken-image-requires c κs =
@@ -52,8 +77,7 @@ broken-image-requires c κs =
 
 returns-2 : tie.Need-returns-2 Inv-loop μ-loop
 returns-2 c =
-    let g = c .before .before .before .before .before .before .before .before .before .before .args in
-    too-soon (g .rows .now) (itemEnd (g .rows .now) (g .run .now)) (g .run .now) (g .from) (c .before .before .before .before .before .before .before .loop .q) (c .before .before .before .before .before .before .before .loop .i) (c .before .before .before .before .before .before .before .loop .inv) (c .before .before .before .before .wide .result) (c .before .before .before .before .before .before .loop-test .taken) (c .before .before .before .before .wide .ensures) (c .broken-image .result) (c .before .before .ended .result) (c .broken-image .ensures) (c .before .before .before .if1 .taken) (c .before .before .ended .ensures) (c .before .if2 .left)
+    too-soon (reading (c .before .before .before .before)) _ _ (c .broken-image .ensures) (c .before .before .before .if1 .taken) (c .before .before .ended .ensures) (c .before .if2 .left)
 
 follows-requires : tie.Need-follows-requires Inv-loop μ-loop
 follows-requires c κs =
@@ -89,19 +113,18 @@ broken-image-requires-2 c κs =
 
 returns-3 : tie.Need-returns-3 Inv-loop μ-loop
 returns-3 c =
-    let g = c .before .before .before .before .before .before .before .before .before .before .before .before .before .before .before .before .before .args in
-    breaks (g .rows .now) (itemEnd (g .rows .now) (g .run .now)) (g .run .now) (g .from) (c .before .before .before .before .before .before .before .before .before .before .before .before .before .before .loop .q) (c .before .before .before .before .before .before .before .before .before .before .before .before .before .before .loop .i) (c .before .before .before .before .before .before .before .before .before .before .before .before .before .before .loop .inv) (c .before .before .before .before .before .before .before .before .before .before .before .wide .result) (c .before .before .before .before .before .before .before .before .before .before .before .before .before .loop-test .taken) (c .before .before .before .before .before .before .before .before .before .before .before .wide .ensures) (c .before .before .before .before .before .before .before .before .before .before .if1 .left) (c .before .before .before .before .before .before .before .before .before .follows .result) (c .before .before .before .before .before .before .before .before .before .follows .ensures) (c .broken-image2 .result) (c .before .before .value-end .result) (c .broken-image2 .ensures) (c .before .before .before .before .before .before .before .before .if3 .taken) (item-leaf _ _ _ _ _ (c .before .before .before .before .before .before .before .is-leaf .ensures) (c .before .before .before .before .before .before .if4 .taken) _ _ _ _ (c .before .before .before .before .before .cell .ensures) (c .before .before .before .before .cell2 .ensures) (c .before .before .before .cell3 .ensures) (c .before .before .value-end .ensures .0)) (c .before .if5 .taken)
+    let at-value-end = c .before .before in
+    breaks (leafed at-value-end) _ _ (c .broken-image2 .ensures) (at-value-end .before .before .before .before .before .before .if3 .taken) (leaf-end at-value-end) (c .before .if5 .taken)
 
 loop-less : tie.Need-loop-less Inv-loop μ-loop
 loop-less c =
-    let g = c .before .before .before .before .before .before .before .before .before .before .before .before .before .before .before .before .args in
-    let e = item-leaf (g .rows .now) (g .run .now) (c .before .before .before .before .before .before .before .before .before .before .wide .result) (c .before .before .before .before .before .before .before .before .before .before .before .before .before .loop .i + 1) _ (c .before .before .before .before .before .before .is-leaf .ensures) (c .before .before .before .before .before .if4 .taken) _ _ _ _ (c .before .before .before .before .cell .ensures) (c .before .before .before .cell2 .ensures) (c .before .before .cell3 .ensures) (c .before .value-end .ensures .0) in
-    omega (arith, c .before .before .before .before .before .before .before .before .before .before .before .before .loop-test .taken, c .if5 .left, e, item-on (g .rows .now) (g .run .now) (c .before .before .before .before .before .before .before .before .before .before .wide .result) (c .before .before .before .before .before .before .before .before .before .before .before .before .before .loop .i + 1) (subst (λ z. 0 < z) e (search needs)))
+    let read = leafed (c .before) .read in
+    let e = leaf-end (c .before) in
+    omega (arith, read .inside, c .if5 .left, e, item-on (read .t) (read .s) (read .x) (read .i + 1) (subst (λ z. 0 < z) e (search needs)))
 
 loop-again : tie.Need-loop-again Inv-loop μ-loop
 loop-again c =
-    let g = c .before .before .before .before .before .before .before .before .before .before .before .before .before .before .before .before .args in
-    goes-on (g .rows .now) (itemEnd (g .rows .now) (g .run .now)) (g .run .now) (g .from) (c .before .before .before .before .before .before .before .before .before .before .before .before .before .loop .q) (c .before .before .before .before .before .before .before .before .before .before .before .before .before .loop .i) (c .before .before .before .before .before .before .before .before .before .before .before .before .before .loop .inv) (c .before .before .before .before .before .before .before .before .before .before .wide .result) (c .before .before .before .before .before .before .before .before .before .before .before .before .loop-test .taken) (c .before .before .before .before .before .before .before .before .before .before .wide .ensures) (c .before .before .before .before .before .before .before .before .before .if1 .left) (c .before .before .before .before .before .before .before .before .follows .result) (c .before .before .before .before .before .before .before .before .follows .ensures) (c .before .value-end .result) (c .before .before .before .before .before .before .before .if3 .taken) (item-leaf _ _ _ _ _ (c .before .before .before .before .before .before .is-leaf .ensures) (c .before .before .before .before .before .if4 .taken) _ _ _ _ (c .before .before .before .before .cell .ensures) (c .before .before .before .cell2 .ensures) (c .before .before .cell3 .ensures) (c .before .value-end .ensures .0)) (c .if5 .left)
+    goes-on (leafed (c .before)) _ (c .before .before .before .before .before .before .before .if3 .taken) (leaf-end (c .before)) (c .if5 .left)
 
 add-i : tie.Need-add-i Inv-loop μ-loop
 add-i c =
@@ -113,8 +136,7 @@ loop-less-2 c =
 
 loop-again-2 : tie.Need-loop-again-2 Inv-loop μ-loop
 loop-again-2 c =
-    let g = c .before .before .before .before .before .before .before .before .before .before .before .args in
-    goes-on (g .rows .now) (itemEnd (g .rows .now) (g .run .now)) (g .run .now) (g .from) (c .before .before .before .before .before .before .before .before .loop .q) (c .before .before .before .before .before .before .before .before .loop .i) (c .before .before .before .before .before .before .before .before .loop .inv) (c .before .before .before .before .before .wide .result) (c .before .before .before .before .before .before .before .loop-test .taken) (c .before .before .before .before .before .wide .ensures) (c .before .before .before .before .if1 .left) (c .before .before .before .follows .result) (c .before .before .before .follows .ensures) (c .before .before .before .before .before .before .before .before .loop .i + 1) (c .before .before .if3 .taken) (item-group _ _ _ _ _ (c .before .is-leaf .ensures) (c .if4 .left)) (omega arith)
+    goes-on (rowed (c .before .before .before)) _ (c .before .before .if3 .taken) (item-group _ _ _ _ _ (c .before .is-leaf .ensures) (c .if4 .left)) (omega arith)
 
 broken-image-requires-3 : tie.Need-broken-image-requires-3 Inv-loop μ-loop
 broken-image-requires-3 c κs =
@@ -122,8 +144,7 @@ broken-image-requires-3 c κs =
 
 returns-4 : tie.Need-returns-4 Inv-loop μ-loop
 returns-4 c =
-    let g = c .before .before .before .before .before .before .before .before .before .before .args in
-    strays (g .rows .now) (itemEnd (g .rows .now) (g .run .now)) (g .run .now) (g .from) (c .before .before .before .before .before .before .before .loop .q) (c .before .before .before .before .before .before .before .loop .i) (c .before .before .before .before .before .before .before .loop .inv) (c .before .before .before .before .wide .result) (c .before .before .before .before .before .before .loop-test .taken) (c .before .before .before .before .wide .ensures) (c .before .before .before .if1 .left) (c .before .before .follows .result) (c .before .before .follows .ensures) (c .broken-image3 .result) (c .broken-image3 .ensures) (c .before .if3 .left)
+    strays (rowed (c .before .before)) _ (c .broken-image3 .ensures) (c .before .if3 .left)
 
 broken-image-requires-4 : tie.Need-broken-image-requires-4 Inv-loop μ-loop
 broken-image-requires-4 c κs =

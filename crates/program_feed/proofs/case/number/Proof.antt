@@ -58,7 +58,12 @@ add-result-3 c = search needs
 
 returns : tie.Need-returns
 returns c =
-    rw (c .before .before .before .before .before .before .wide .ensures .0, c .before .before .before .before .wide2 .ensures .0, c .before .before .wide3 .ensures .0, c .wide4 .ensures .0) (sym (four (c .before .before .before .before .before .before .before .before .before .args .s .now) (c .before .before .before .before .before .before .before .before .before .args .at) (c .before .before .before .before .before .before .before .before .before .pre)))
+    let at-wide3 = c .before .before in
+    let at-wide2 = at-wide3 .before .before in
+    let at-wide = at-wide2 .before .before in
+    let start = at-wide .before .before .before in
+    rw (at-wide .wide .ensures .0, at-wide2 .wide2 .ensures .0, at-wide3 .wide3 .ensures .0, c .wide4 .ensures .0)
+    (sym (four (start .args .s .now) (start .args .at) (start .pre)))
 
 pub number-spec : {M : Type 1} → statement M
 number-spec =

@@ -47,7 +47,12 @@ returns-3 : tie.Need-returns-3
 returns-3 c =
     let o = c .before .before .before .before .before .before .before .before .before .before .before .before in
     let p = slice (o .args .from) (o .args .to) (o .args .s .now) in
-    (put-whole (answerLine (o .args .a) p) (o .args .out .now) (c .before .before .spread-answer .result) _ (omega (arith, c .before .before .before .before .before .before .before .before .put-numbers .ensures .0, c .before .before .before .before .before .part-len .ensures, length-answer (o .args .a) p)) (c .before .before .spread-answer .ensures .0) (c .before .before .spread-answer .ensures .1), answer-most (o .args .a) p (omega (arith, c .before .before .before .before .before .before .before .before .put-numbers .ensures .0, c .before .before .before .before .before .before .before .before .put-numbers .ensures .1 .0)))
+    let at-spread-answer = c .before .before in
+    let at-part-len = at-spread-answer .before .before .before in
+    let at-put-numbers = at-part-len .before .before .before in (
+      put-whole (answerLine (o .args .a) p) (o .args .out .now) (at-spread-answer .spread-answer .result) _ (omega (arith, at-put-numbers .put-numbers .ensures .0, at-part-len .part-len .ensures, length-answer (o .args .a) p)) (at-spread-answer .spread-answer .ensures .0) (at-spread-answer .spread-answer .ensures .1),
+      answer-most (o .args .a) p (omega (arith, at-put-numbers .put-numbers .ensures .0, at-put-numbers .put-numbers .ensures .1 .0)),
+    )
 
 pub put-answer-spec : {M : Type 1} → statement M
 put-answer-spec =

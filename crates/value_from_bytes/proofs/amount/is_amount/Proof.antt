@@ -50,17 +50,46 @@ returns-3 c =
 returns-4 : tie.Need-returns-4
 unfolding isAmount
 returns-4 c =
-    rw (sym (exactly-one _ _ (c .before .before .before .before .before .is-ccy .ensures) (currency-exactly _)) ∙ not-false _ (c .before .before .before .before .if2 .left), le-leb (getD (c .before .before .before .before .before .before .before .before .before .args .b .now) 3 0) 5 (omega (arith, c .before .before .before .byte .ensures)), le-ltb (number (take 8 (drop 4 (c .before .before .before .before .before .before .before .before .before .args .b .now)))) (10 ^ 18) (omega (arith, c .before .before .get64 .ensures)))
+    let at-get64 = c .before .before in
+    let at-byte = at-get64 .before in
+    let at-if2 = at-byte .before in
+    let at-is-ccy = at-if2 .before in
+    let start = at-is-ccy .before .before .before .before in
+    rw (
+      sym (exactly-one _ _ (at-is-ccy .is-ccy .ensures) (currency-exactly _)) ∙ not-false _ (at-if2 .if2 .left),
+      le-leb (getD (start .args .b .now) 3 0) 5 (omega (arith, at-byte .byte .ensures)),
+      le-ltb (number (take 8 (drop 4 (start .args .b .now)))) (10 ^ 18) (omega (arith, at-get64 .get64 .ensures)),
+    )
 
 returns-5 : tie.Need-returns-5
 unfolding isAmount
 returns-5 c =
-    rw (sym (exactly-one _ _ (c .before .before .before .before .before .before .is-ccy .ensures) (currency-exactly _)) ∙ not-false _ (c .before .before .before .before .before .if2 .left), le-leb (getD (c .before .before .before .before .before .before .before .before .before .before .args .b .now) 3 0) 5 (omega (arith, c .before .before .before .before .byte .ensures)), lt-ltb (number (take 8 (drop 4 (c .before .before .before .before .before .before .before .before .before .before .args .b .now)))) (10 ^ 18) (omega (arith, c .before .before .before .get64 .ensures)), eq-eqb (getD (c .before .before .before .before .before .before .before .before .before .before .args .b .now) 3 0) 0 (omega (arith, c .before .before .before .before .byte .ensures)))
+    let at-get64 = c .before .before .before in
+    let at-byte = at-get64 .before in
+    let at-if2 = at-byte .before in
+    let at-is-ccy = at-if2 .before in
+    let start = at-is-ccy .before .before .before .before in
+    rw (
+      sym (exactly-one _ _ (at-is-ccy .is-ccy .ensures) (currency-exactly _)) ∙ not-false _ (at-if2 .if2 .left),
+      le-leb (getD (start .args .b .now) 3 0) 5 (omega (arith, at-byte .byte .ensures)),
+      lt-ltb (number (take 8 (drop 4 (start .args .b .now)))) (10 ^ 18) (omega (arith, at-get64 .get64 .ensures)),
+      eq-eqb (getD (start .args .b .now) 3 0) 0 (omega (arith, at-byte .byte .ensures)),
+    )
 
 returns-6 : tie.Need-returns-6
 unfolding isAmount
 returns-6 c =
-    rw (sym (exactly-one _ _ (c .before .before .before .before .before .before .is-ccy .ensures) (currency-exactly _)) ∙ not-false _ (c .before .before .before .before .before .if2 .left), le-leb (getD (c .before .before .before .before .before .before .before .before .before .before .args .b .now) 3 0) 5 (omega (arith, c .before .before .before .before .byte .ensures)), lt-ltb (number (take 8 (drop 4 (c .before .before .before .before .before .before .before .before .before .before .args .b .now)))) (10 ^ 18) (omega (arith, c .before .before .before .get64 .ensures)), ne-eqb (getD (c .before .before .before .before .before .before .before .before .before .before .args .b .now) 3 0) 0 (omega (arith, c .before .before .before .before .byte .ensures))) (ap (λ (x : ℕ). not (eqb (x % 10) 0)) (c .before .before .before .get64 .ensures))
+    let at-get64 = c .before .before .before in
+    let at-byte = at-get64 .before in
+    let at-if2 = at-byte .before in
+    let at-is-ccy = at-if2 .before in
+    let start = at-is-ccy .before .before .before .before in
+    rw (
+      sym (exactly-one _ _ (at-is-ccy .is-ccy .ensures) (currency-exactly _)) ∙ not-false _ (at-if2 .if2 .left),
+      le-leb (getD (start .args .b .now) 3 0) 5 (omega (arith, at-byte .byte .ensures)),
+      lt-ltb (number (take 8 (drop 4 (start .args .b .now)))) (10 ^ 18) (omega (arith, at-get64 .get64 .ensures)),
+      ne-eqb (getD (start .args .b .now) 3 0) 0 (omega (arith, at-byte .byte .ensures)),
+    ) (ap (λ (x : ℕ). not (eqb (x % 10) 0)) (at-get64 .get64 .ensures))
 
 pub is-amount-spec : {M : Type 1} → statement M
 is-amount-spec =

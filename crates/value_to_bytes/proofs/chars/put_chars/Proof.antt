@@ -58,19 +58,51 @@ sub-j c =
 
 add-j-2 : tie.Need-add-j-2 Inv-loop μ-loop
 add-j-2 c =
-    omega (arith, next-within _ _ _ _ _ _ _ (c .before .before .before .before .before .before .before .before .before .before .before .before .loop .inv) (c .before .before .before .before .before .before .before .before .before .before .before .loop-test .taken) _ (c .before .before .before .before .before .before .before .before .before .before .next-char .ensures) _ (c .before .before .before .before .before .before .before .before .run-end2 .ensures))
+    omega (
+      arith,
+      (let at-run-end2 = c .before .before .before .before .before .before .before .before in
+          let at-next-char = at-run-end2 .before .before in
+          let at-loop-test = at-next-char .before in
+          let at-loop = at-loop-test .before in
+          next-within _ _ _ _ _ _ _ (at-loop .loop .inv) (at-loop-test .loop-test .taken) _ (at-next-char .next-char .ensures) _
+          (at-run-end2 .run-end2 .ensures)),
+    )
 
 add-j-3 : tie.Need-add-j-3 Inv-loop μ-loop
 add-j-3 c =
-    omega (arith, next-room _ _ _ _ _ _ _ (c .before .before .before .before .before .before .before .before .before .before .before .before .loop .inv) (c .before .before .before .before .before .before .before .before .before .before .before .loop-test .taken) _ (c .before .before .before .before .before .before .before .before .before .before .next-char .ensures) _ (c .before .before .before .before .before .before .before .before .run-end2 .ensures))
+    omega (
+      arith,
+      (let at-run-end2 = c .before .before .before .before .before .before .before .before in
+          let at-next-char = at-run-end2 .before .before in
+          let at-loop-test = at-next-char .before in
+          let at-loop = at-loop-test .before in
+          next-room _ _ _ _ _ _ _ (at-loop .loop .inv) (at-loop-test .loop-test .taken) _ (at-next-char .next-char .ensures) _ (at-run-end2 .run-end2 .ensures)),
+    )
 
 loop-less : tie.Need-loop-less Inv-loop μ-loop
 loop-less c =
-    omega (arith, next-within _ _ _ _ _ _ _ (c .before .before .before .before .before .before .before .before .before .before .before .before .loop .inv) (c .before .before .before .before .before .before .before .before .before .before .before .loop-test .taken) _ (c .before .before .before .before .before .before .before .before .before .before .next-char .ensures) _ (c .before .before .before .before .before .before .before .before .run-end2 .ensures), some-len _ _ _ _ _ _ _ (c .before .before .before .before .before .before .before .before .before .before .before .before .loop .inv) (c .before .before .before .before .before .before .before .before .before .before .before .loop-test .taken) _ (c .before .before .before .before .before .before .before .before .before .before .next-char .ensures), c .before .before .before .before .before .before .before .before .run-end2 .ensures)
+    omega (
+      arith,
+      (let at-run-end2 = c .before .before .before .before .before .before .before .before in
+          let at-next-char = at-run-end2 .before .before in
+          let at-loop-test = at-next-char .before in
+          let at-loop = at-loop-test .before in
+          next-within _ _ _ _ _ _ _ (at-loop .loop .inv) (at-loop-test .loop-test .taken) _ (at-next-char .next-char .ensures) _
+          (at-run-end2 .run-end2 .ensures)),
+      some-len _ _ _ _ _ _ _ (c .before .before .before .before .before .before .before .before .before .before .before .before .loop .inv) (c .before .before .before .before .before .before .before .before .before .before .before .loop-test .taken) _ (c .before .before .before .before .before .before .before .before .before .before .next-char .ensures),
+      c .before .before .before .before .before .before .before .before .run-end2 .ensures,
+    )
 
 loop-again : tie.Need-loop-again Inv-loop μ-loop
 loop-again c =
-    going-again _ _ _ _ _ _ _ (c .before .before .before .before .before .before .before .before .before .before .before .before .loop .inv) (c .before .before .before .before .before .before .before .before .before .before .before .loop-test .taken) _ (c .before .before .before .before .before .before .before .before .before .before .next-char .ensures) _ (c .before .before .before .before .before .before .before .before .run-end2 .ensures) _ (c .before .before .before .before .before .before .place .ensures) _ (c .before .before .copy2 .ensures)
+    let at-copy2 = c .before .before in
+    let at-place = at-copy2 .before .before .before .before in
+    let at-run-end2 = at-place .before .before in
+    let at-next-char = at-run-end2 .before .before in
+    let at-loop-test = at-next-char .before in
+    let at-loop = at-loop-test .before in
+    going-again _ _ _ _ _ _ _ (at-loop .loop .inv) (at-loop-test .loop-test .taken) _ (at-next-char .next-char .ensures) _
+    (at-run-end2 .run-end2 .ensures) _ (at-place .place .ensures) _ (at-copy2 .copy2 .ensures)
 
 same-length : tie.Need-same-length Inv-loop μ-loop
 same-length c =

@@ -36,22 +36,40 @@ is-capital-requires-2 c κs = search needs
 
 returns-3 : tie.Need-returns-3
 returns-3 c =
-    ccy-not (c .before .before .before .before .before .before .before .before .before .args .s .now) (c .before .before .before .before .before .before .before .before .before .args .c) (c .before .before .before .before .before .before .before .before .before .args .d) _ (c .before .before .before .before .before .before .before .part-len .ensures) (c .before .before .before .before .before .before .if1 .left) 1 (omega arith) _ (c .before .is-capital2 .ensures) (c .if3 .taken)
+    let at-if1 = c .before .before .before .before .before .before in
+    let at-part-len = at-if1 .before in
+    let start = at-part-len .before .before in
+    ccy-not (start .args .s .now) (start .args .c) (start .args .d) _ (at-part-len .part-len .ensures) (at-if1 .if1 .left) 1 (omega arith) _
+    (c .before .is-capital2 .ensures) (c .if3 .taken)
 
 add-is-capital-2 : tie.Need-add-is-capital-2
 add-is-capital-2 c =
-    omega (arith, ccy-room (c .before .before .before .before .before .before .before .before .before .args .s .now) (c .before .before .before .before .before .before .before .before .before .args .c) (c .before .before .before .before .before .before .before .before .before .args .d) _ (c .before .before .before .before .before .before .before .part-len .ensures) (c .before .before .before .before .before .before .if1 .left))
+    let at-if1 = c .before .before .before .before .before .before in
+    let at-part-len = at-if1 .before in
+    let start = at-part-len .before .before in
+    omega (arith, ccy-room (start .args .s .now) (start .args .c) (start .args .d) _ (at-part-len .part-len .ensures) (at-if1 .if1 .left))
 
 shared-slice-read-is-capital-3 : tie.Need-shared-slice-read-is-capital-3
 shared-slice-read-is-capital-3 c =
-    omega (arith, ccy-room (c .before .before .before .before .before .before .before .before .before .before .args .s .now) (c .before .before .before .before .before .before .before .before .before .before .args .c) (c .before .before .before .before .before .before .before .before .before .before .args .d) _ (c .before .before .before .before .before .before .before .before .part-len .ensures) (c .before .before .before .before .before .before .before .if1 .left))
+    let at-if1 = c .before .before .before .before .before .before .before in
+    let at-part-len = at-if1 .before in
+    let start = at-part-len .before .before in
+    omega (arith, ccy-room (start .args .s .now) (start .args .c) (start .args .d) _ (at-part-len .part-len .ensures) (at-if1 .if1 .left))
 
 is-capital-requires-3 : tie.Need-is-capital-requires-3
 is-capital-requires-3 c κs = search needs
 
 returns-4 : tie.Need-returns-4
 returns-4 c =
-    ccy-last (c .before .before .before .before .before .before .before .before .before .before .before .args .s .now) (c .before .before .before .before .before .before .before .before .before .before .before .args .c) (c .before .before .before .before .before .before .before .before .before .before .before .args .d) _ (c .before .before .before .before .before .before .before .before .before .part-len .ensures) (c .before .before .before .before .before .before .before .before .if1 .left) _ _ _ (c .before .before .before .before .before .before .is-capital .ensures) (c .before .before .before .before .before .if2 .left) (c .before .before .before .is-capital2 .ensures) (c .before .before .if3 .left) (c .is-capital3 .ensures)
+    let at-if3 = c .before .before in
+    let at-is-capital2 = at-if3 .before in
+    let at-if2 = at-is-capital2 .before .before in
+    let at-is-capital = at-if2 .before in
+    let at-if1 = at-is-capital .before .before in
+    let at-part-len = at-if1 .before in
+    let start = at-part-len .before .before in
+    ccy-last (start .args .s .now) (start .args .c) (start .args .d) _ (at-part-len .part-len .ensures) (at-if1 .if1 .left) _ _ _
+    (at-is-capital .is-capital .ensures) (at-if2 .if2 .left) (at-is-capital2 .is-capital2 .ensures) (at-if3 .if3 .left) (c .is-capital3 .ensures)
 
 pub is-currency-spec : {M : Type 1} → statement M
 is-currency-spec =

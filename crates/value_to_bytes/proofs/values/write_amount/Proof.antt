@@ -44,7 +44,15 @@ same-length c = search needs
 
 returns-3 : tie.Need-returns-3
 returns-3 c =
-    amount-put _ _ _ _ _ _ _ _ (c .before .before .before .before .before .before .before .before .before .before .before .before .before .before .before .is-currency .ensures .0 (not-false _ (c .before .before .before .before .before .before .before .before .before .before .before .before .before .before .if1 .left))) (fits _ (c .before .before .before .before .before .before .before .before .before .before .before .before .before .has-room .ensures) (c .before .before .before .before .before .before .before .before .before .before .before .before .if2 .left)) (c .before .before .before .before .before .before .before .before .before .before .copy .ensures) (c .before .before .before .before .before .before .place .ensures) (c .before .before .put64 .ensures)
+    let at-put64 = c .before .before in
+    let at-place = at-put64 .before .before .before .before in
+    let at-copy = at-place .before .before .before .before in
+    let at-if2 = at-copy .before .before in
+    let at-has-room = at-if2 .before in
+    let at-if1 = at-has-room .before in
+    let at-is-currency = at-if1 .before in
+    amount-put _ _ _ _ _ _ _ _ (at-is-currency .is-currency .ensures .0 (not-false _ (at-if1 .if1 .left)))
+    (fits _ (at-has-room .has-room .ensures) (at-if2 .if2 .left)) (at-copy .copy .ensures) (at-place .place .ensures) (at-put64 .put64 .ensures)
 
 pub write-amount-spec : {M : Type 1} → statement M
 write-amount-spec =

@@ -34,7 +34,14 @@ same-length c = search needs
 
 returns-2 : tie.Need-returns-2
 returns-2 c =
-    day-put _ _ (c .before .before .before .before .before .before .before .before .before .before .before .before .before .before .before .args .y) (c .before .before .before .before .before .before .before .before .before .before .before .before .before .before .before .args .m) (c .before .before .before .before .before .before .before .before .before .before .before .before .before .before .before .args .d) _ _ _ (fits _ (c .before .before .before .before .before .before .before .before .before .before .before .before .before .has-room .ensures) (c .before .before .before .before .before .before .before .before .before .before .before .before .if1 .left)) (c .before .before .before .before .before .before .before .before .before .before .put16 .ensures) (c .before .before .before .before .before .before .place .ensures) (c .before .before .place2 .ensures)
+    let at-place2 = c .before .before in
+    let at-place = at-place2 .before .before .before .before in
+    let at-put16 = at-place .before .before .before .before in
+    let at-if1 = at-put16 .before .before in
+    let at-has-room = at-if1 .before in
+    let start = at-has-room .before .before in
+    day-put _ _ (start .args .y) (start .args .m) (start .args .d) _ _ _ (fits _ (at-has-room .has-room .ensures) (at-if1 .if1 .left))
+    (at-put16 .put16 .ensures) (at-place .place .ensures) (at-place2 .place2 .ensures)
 
 pub write-day-spec : {M : Type 1} → statement M
 write-day-spec =

@@ -42,7 +42,15 @@ same-length c = search needs
 
 returns-2 : tie.Need-returns-2
 returns-2 c =
-    moment-put _ _ (c .before .before .before .before .before .before .before .before .before .before .before .before .before .before .before .before .before .before .before .args .m) _ _ _ _ _ (fits _ (c .before .before .before .before .before .before .before .before .before .before .before .before .before .before .before .before .before .has-room .ensures) (c .before .before .before .before .before .before .before .before .before .before .before .before .before .before .before .before .if1 .left)) (c .before .before .before .before .before .before .before .before .before .before .before .before .before .before .write-day .ensures) (c .before .before .before .before .before .before .before .before .before .before .put-clock .ensures) (c .before .before .before .before .before .before .put32 .ensures) (c .before .before .put16 .ensures)
+    let at-put16 = c .before .before in
+    let at-put32 = at-put16 .before .before .before .before in
+    let at-put-clock = at-put32 .before .before .before .before in
+    let at-write-day = at-put-clock .before .before .before .before in
+    let at-if1 = at-write-day .before .before in
+    let at-has-room = at-if1 .before in
+    let start = at-has-room .before .before in
+    moment-put _ _ (start .args .m) _ _ _ _ _ (fits _ (at-has-room .has-room .ensures) (at-if1 .if1 .left)) (at-write-day .write-day .ensures)
+    (at-put-clock .put-clock .ensures) (at-put32 .put32 .ensures) (at-put16 .put16 .ensures)
 
 pub write-moment-spec : {M : Type 1} → statement M
 write-moment-spec =

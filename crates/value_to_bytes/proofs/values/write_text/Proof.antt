@@ -31,18 +31,45 @@ part-of-requires c κs = search needs
 
 add-put-chars : tie.Need-add-put-chars
 add-put-chars c =
-    omega (arith, fits _ (c .before .before .before .before .before .before .before .has-room .ensures) (c .before .before .before .before .before .before .if2 .left), text-room _ _ _ _ (c .before .before .before .before .before .before .before .before .before .before .before .before .pre) _ (c .before .before .before .before .before .before .before .before .before .text-size .ensures) (c .before .before .before .before .before .before .before .before .if1 .left) _ (fits _ (c .before .before .before .before .before .before .before .has-room .ensures) (c .before .before .before .before .before .before .if2 .left)) (c .before .before .before .before .put16 .ensures) _ (c .before .part-of .ensures) .room)
+    omega (
+      arith,
+      fits _ (c .before .before .before .before .before .before .before .has-room .ensures) (c .before .before .before .before .before .before .if2 .left),
+      (let at-put16 = c .before .before .before .before in
+          let at-if2 = at-put16 .before .before in
+          let at-has-room = at-if2 .before in
+          let at-if1 = at-has-room .before in
+          let at-text-size = at-if1 .before in
+          let start = at-text-size .before .before .before in
+          text-room _ _ _ _ (start .pre) _ (at-text-size .text-size .ensures) (at-if1 .if1 .left) _
+          (fits _ (at-has-room .has-room .ensures) (at-if2 .if2 .left)) (at-put16 .put16 .ensures) _ (c .before .part-of .ensures) .room),
+    )
 
 put-chars-requires : tie.Need-put-chars-requires
 put-chars-requires c κs =
-    text-room _ _ _ _ (c .before .before .before .before .before .before .before .before .before .before .before .before .pre) _ (c .before .before .before .before .before .before .before .before .before .text-size .ensures) (c .before .before .before .before .before .before .before .before .if1 .left) _ (fits _ (c .before .before .before .before .before .before .before .has-room .ensures) (c .before .before .before .before .before .before .if2 .left)) (c .before .before .before .before .put16 .ensures) _ (c .before .part-of .ensures)
+    let at-put16 = c .before .before .before .before in
+    let at-if2 = at-put16 .before .before in
+    let at-has-room = at-if2 .before in
+    let at-if1 = at-has-room .before in
+    let at-text-size = at-if1 .before in
+    let start = at-text-size .before .before .before in
+    text-room _ _ _ _ (start .pre) _ (at-text-size .text-size .ensures) (at-if1 .if1 .left) _
+    (fits _ (at-has-room .has-room .ensures) (at-if2 .if2 .left)) (at-put16 .put16 .ensures) _ (c .before .part-of .ensures)
 
 same-length : tie.Need-same-length
 same-length c = search needs
 
 returns-3 : tie.Need-returns-3
 returns-3 c =
-    text-put _ _ _ _ (c .before .before .before .before .before .before .before .before .before .before .before .before .before .before .before .pre) _ (c .before .before .before .before .before .before .before .before .before .before .before .before .text-size .ensures) (c .before .before .before .before .before .before .before .before .before .before .before .if1 .left) _ (fits _ (c .before .before .before .before .before .before .before .before .before .before .has-room .ensures) (c .before .before .before .before .before .before .before .before .before .if2 .left)) (c .before .before .before .before .before .before .before .put16 .ensures) _ (c .before .before .before .before .part-of .ensures) _ (c .before .before .put-chars .ensures)
+    let at-put-chars = c .before .before in
+    let at-part-of = at-put-chars .before .before in
+    let at-put16 = at-part-of .before .before .before in
+    let at-if2 = at-put16 .before .before in
+    let at-has-room = at-if2 .before in
+    let at-if1 = at-has-room .before in
+    let at-text-size = at-if1 .before in
+    let start = at-text-size .before .before .before in
+    text-put _ _ _ _ (start .pre) _ (at-text-size .text-size .ensures) (at-if1 .if1 .left) _ (fits _ (at-has-room .has-room .ensures) (at-if2 .if2 .left))
+    (at-put16 .put16 .ensures) _ (at-part-of .part-of .ensures) _ (at-put-chars .put-chars .ensures)
 
 pub write-text-spec : {M : Type 1} → statement M
 write-text-spec =

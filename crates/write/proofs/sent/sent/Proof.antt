@@ -4,7 +4,7 @@ use native.Mathlib.Omega.{arith}
 use borrow.Author.Needs.{needs}
 use Rattle.program_line.proofs.Lines.{counts, line-taken, line-counts}
 use Rattle.file_letter.proofs.Rooms.{written-fits}
-use Rattle.write.specs.Sends.{line, file}
+use Rattle.write.specs.Sends.{noFile, file}
 use Rattle.write.proofs.sent.sent.Statement.{statement}
 use Rattle.write.proofs.sent.sent.Tie as tie
 
@@ -32,7 +32,7 @@ returns-2 c =
     let o = c .before .before .before .before .before .before .before .before .before .before .before .before in
     let w = c .before .before .before .before .before .before .before .before .write in
     let p = c .before .before .put-refusal in (
-      line _ _ _ (o .pre) (w .ensures) (c .before .before .before .before .if1 .left) (line-taken (w .result) _ _ _ (omega (arith, p .ensures .1 .0, o .pre)) (p .ensures .1 .1) (p .ensures .0)),
+      noFile _ _ _ (o .pre) (w .ensures) (c .before .before .before .before .if1 .left) (line-taken (w .result) _ _ _ (omega (arith, p .ensures .1 .0, o .pre)) (p .ensures .1 .1) (p .ensures .0)),
       line-counts (w .result) _ _ _ (omega (arith, p .ensures .1 .0, o .pre)) (p .ensures .1 .1),
     )
 

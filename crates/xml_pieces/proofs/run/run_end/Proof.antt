@@ -34,7 +34,14 @@ element-copy-out-if1 c =
 
 returns : tie.Need-returns Inv-loop μ-loop
 returns c =
-    omega (arith, run-stop (c .before .before .before .before .before .before .before .args .classes .now) (c .before .before .before .before .before .before .before .args .level) (c .before .before .before .before .before .before .before .args .s .now) (c .before .before .before .before .before .loop .i) (c .before .before .before .before .loop-test .taken) (c .before .before .wide .result) (c .before .before .wide .ensures .0) (c .if1 .taken))
+    let at-wide = c .before .before in
+    let at-loop-test = at-wide .before .before in
+    let at-loop = at-loop-test .before in
+    let start = at-loop .before .before in
+    omega (
+      arith,
+      run-stop (start .args .classes .now) (start .args .level) (start .args .s .now) (at-loop .loop .i) (at-loop-test .loop-test .taken) (at-wide .wide .result) (at-wide .wide .ensures .0) (c .if1 .taken),
+    )
 
 add-i : tie.Need-add-i Inv-loop μ-loop
 add-i c =
@@ -46,7 +53,14 @@ loop-less c =
 
 loop-again : tie.Need-loop-again Inv-loop μ-loop
 loop-again c =
-    omega (arith, run-go (c .before .before .before .before .before .before .before .args .classes .now) (c .before .before .before .before .before .before .before .args .level) (c .before .before .before .before .before .before .before .args .s .now) (c .before .before .before .before .before .loop .i) (c .before .before .before .before .loop-test .taken) (c .before .before .wide .result) (c .before .before .wide .ensures .0) (c .if1 .left))
+    let at-wide = c .before .before in
+    let at-loop-test = at-wide .before .before in
+    let at-loop = at-loop-test .before in
+    let start = at-loop .before .before in
+    omega (
+      arith,
+      run-go (start .args .classes .now) (start .args .level) (start .args .s .now) (at-loop .loop .i) (at-loop-test .loop-test .taken) (at-wide .wide .result) (at-wide .wide .ensures .0) (c .if1 .left),
+    )
 
 returns-2 : tie.Need-returns-2 Inv-loop μ-loop
 returns-2 c =

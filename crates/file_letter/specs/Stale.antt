@@ -1,0 +1,31 @@
+-- What an image may hold and a file may not say any more: the first such item of a content. Assumes nothing.
+use mathlib.Core.Path.{_≡_}
+use mathlib.Core.List.{List, _∷_, _++_}
+use mathlib.Core.Option.{none, some}
+use Prim.Native.Nat.{ℕ, _+_}
+use lib.ListN.{length}
+use Rattle.text.specs.Lists.{Each}
+use Rattle.list.specs.Listing.{Listing}
+use Rattle.value.specs.Rules.{InThousandths}
+use Rattle.image.specs.Kinds.{values}
+use Rattle.image.specs.Image.{Item, bytes}
+
+-- P holds of none of them
+abbrev pub NoneOf : (Item values → Type 0) → List (Item values) → Type 0
+NoneOf P is = Each (λ i. P i → ⊥) is
+
+-- the first of the items that P holds of: its row, and its place in a run where the items begin at `from`
+pub record FirstAt (l : Listing) (P : Item values → Type 0) (from : ℕ) (is : List (Item values)) (row place : ℕ) : Type 0 where
+  pub before : List (Item values)
+  pub item : Item values
+  pub rest : List (Item values)
+  pub at : is ≡ before ++ (item ∷ rest)
+  pub its : P item
+  pub clean : NoneOf P before
+  pub own : row ≡ item .0
+  pub stands : place ≡ from + length (bytes values l before)
+
+-- "Stored images with finer fractions": a date-time with a part of a second below a thousandth
+abbrev pub Finer : Item values → Type 0
+Finer (r, none) = ⊥
+Finer (r, some v) = InThousandths v → ⊥

@@ -1,0 +1,129 @@
+"""Tests of kto.py: document 01's example, the files of examples/ against their table, and the entries against Python's own XML parser.
+
+    python3 examples/python/test_kto.py
+
+KTO_LIBRARY names the shared library; where it is empty the program `replay` is asked.
+"""
+import datetime
+import decimal
+import os
+import pathlib
+import sys
+import unittest
+import xml.etree.ElementTree
+
+sys.path.insert(0, str(pathlib.Path(__file__).resolve().parent))
+import kto  # noqa: E402
+
+EXAMPLES = pathlib.Path(__file__).resolve().parent.parent
+SPACE = 'urn:iso:std:iso:20022:tech:xsd:camt.053.001.08'
+STMT = 'Document/BkToCstmrStmt/Stmt'
+
+# Document 01: "A whole one", and its image
+WHOLE = (
+    f'<Document xmlns="{SPACE}"><BkToCstmrStmt>'
+    '<GrpHdr><MsgId>M1</MsgId><CreDtTm>2024-03-01T06:00:00Z</CreDtTm></GrpHdr>'
+    '<Stmt><Id>S1</Id><Acct><Id><Othr><Id>9</Id></Othr></Id></Acct>'
+    '<Bal><Tp><CdOrPrtry><Cd>CLBD</Cd></CdOrPrtry></Tp><Amt Ccy="EUR">5.00</Amt><CdtDbtInd>CRDT</CdtDbtInd>'
+    '<Dt><Dt>2024-02-29</Dt></Dt></Bal></Stmt></BkToCstmrStmt></Document>'
+).encode()
+IMAGE = bytes.fromhex(
+    '4B544F0001 01 02 03 0400024D31 0507E80301060000000000000348 06 0700025331 09 0A 0C 0D000139 0F 10 11 1202'
+    '13455552000000000000000005 1401 15 1607E8021D 00'
+)
+
+
+def read(name):
+    return (EXAMPLES / name).read_bytes()
+
+
+def plain(path, element):
+    """What Python's own parser says of a leaf, as kto.py would say it."""
+    name, text = path.rsplit('/', 1)[-1], element.text.strip(' \t\r\n')
+    if name == 'Amt':
+        return kto.Amount(decimal.Decimal(text), element.get('Ccy'))
+    if name == 'Dt':
+        return datetime.date.fromisoformat(text)
+    if name == 'CreDtTm':
+        return datetime.datetime.fromisoformat(text.replace('Z', '+00:00'))
+    if name == 'ElctrncSeqNb':
+        return int(text)
+    if name == 'RvslInd':
+        return text in ('true', '1')
+    return element.text
+
+
+def elements(element, above=''):
+    """The elements of a message in document order: path, and value of a leaf."""
+    path = above + element.tag.removeprefix(f'{{{SPACE}}}')
+    yield path, None if len(element) else plain(path, element)
+    for child in element:
+        yield from elements(child, path + '/')
+
+
+class Kto(unittest.TestCase):
+    def refused(self, call, *words):
+        with self.assertRaises(kto.Refused) as caught:
+            call(*words)
+        return caught.exception
+
+    def test_the_example_of_document_01(self):
+        self.assertEqual(kto.check(WHOLE), IMAGE)
+        self.assertEqual(kto.read(IMAGE), 67)
+        self.assertEqual(kto.pick(IMAGE, kto.ROW['Document/BkToCstmrStmt/GrpHdr/MsgId']), 'M1')
+        self.assertEqual(kto.pick(IMAGE, kto.ROW[f'{STMT}/Bal/Amt']), kto.Amount(decimal.Decimal(5), 'EUR'))
+        self.assertEqual(kto.pick(IMAGE, kto.ROW[f'{STMT}/Bal/Tp/CdOrPrtry/Cd']), 'CLBD')
+        utc = datetime.timezone.utc
+        self.assertEqual(kto.pick(IMAGE, 5), datetime.datetime(2024, 3, 1, 6, tzinfo=utc))
+        places = [(item.row, item.place) for item in kto.items(IMAGE)]
+        self.assertEqual(places, [
+            (1, 6), (2, 7), (3, 8), (4, 11), (5, 14), (6, 28), (7, 31), (9, 34), (10, 35), (12, 36), (13, 39), (15, 41), (16, 42), (17, 43),
+            (18, 44), (19, 46), (20, 59), (21, 61), (22, 62),
+        ])
+
+    def test_items_are_what_another_parser_says(self):
+        for name in ('rent-account.xml', 'several-statements.xml'):
+            expected = list(elements(xml.etree.ElementTree.fromstring(read(name))))
+            self.assertEqual([(item.path, item.value) for item in kto.items(kto.check(read(name)))], expected, name)
+
+    def test_files_get_the_answers_of_their_table(self):
+        lines = (EXAMPLES / 'ANSWERS.txt').read_text().splitlines()
+        table = [line.split()[:4] for line in lines if line and not line.startswith('#')]
+        self.assertTrue(table)
+        for name, *numbers in table:
+            code, row, place = map(int, numbers)
+            if code == 0:
+                self.assertEqual(len(kto.check(read(name))), place, name)
+            else:
+                refused = self.refused(kto.check, read(name))
+                self.assertEqual((refused.code, refused.row, refused.place), (code, row, place), name)
+
+    def test_a_refusal_says_where(self):
+        file = read('damaged/12-bad-value.xml')
+        line = next(n for n, text in enumerate(file.splitlines(), 1) if b'2024-02-30' in text)
+        refused = self.refused(kto.check, file)
+        self.assertEqual((refused.path, refused.line), (f'{STMT}/Ntry/BookgDt/Dt', line))
+        self.assertEqual(str(refused), f'refused 12 BAD_VALUE, row 30 {refused.path}, byte 20076, line {line}')
+        self.assertEqual(self.refused(kto.check, b'').path, None)
+
+    def test_runs(self):
+        self.assertEqual(kto.read(IMAGE + b'rest'), 67)
+        self.assertEqual(kto.read(IMAGE * 20000), 67, 'a run of more than 1 MiB')
+        for run, code, place in ((b'', 15, 0), (b'KTO\0\2', 16, 3), (IMAGE[:66], 17, 66)):
+            for call in (kto.read, lambda run: list(kto.items(run)), lambda run: kto.pick(run, 4)):
+                refused = self.refused(call, run)
+                self.assertEqual((refused.code, refused.row, refused.place, refused.line), (code, 0, place, None))
+        for row, n in ((4, 1), (6, 0), (0, 0), (58, 0), (2 ** 40, 2 ** 40)):
+            self.assertEqual(self.refused(kto.pick, IMAGE, row, n).code, 18)
+        self.assertRaises(ValueError, kto.pick, IMAGE, -1)
+
+
+class Who(unittest.TestCase):
+    def test_the_one_that_was_named_answers(self):
+        named = os.environ.get('KTO_LIBRARY')
+        if named is not None:
+            self.assertIsInstance(kto._unit(), kto.Library if named else kto.Program)
+
+
+if __name__ == '__main__':
+    unittest.main()
