@@ -25,7 +25,7 @@ use Rattle.xml.specs.House.{HouseXml}
 use Rattle.xml.specs.Message.{messageOf}
 use Rattle.xml_tags.specs.declared.token.Kind.the-variants.{Close}
 use Rattle.xml_tags.specs.declared.token.Token.{Token}
-use Rattle.xml_tags.specs.Passing.{but, headIs, behind}
+use Rattle.xml_tags.specs.Marks.{but, headIs, behind}
 use Rattle.xml_tags.specs.Tokens.{openAt}
 use Rattle.xml_tags.specs.Story.{events, tokenIn}
 use Rattle.file_walk.specs.declared.found.Found.the-variants.{Fine, Violation}
@@ -35,7 +35,8 @@ use Rattle.file_walk.specs.declared.step.Turn.{Turn}
 use Rattle.file_walk.specs.Types.{Spelling}
 use Rattle.file_walk.specs.First.{First}
 use Rattle.file_walk.specs.Machine.{Speller, judgeOf, spellerOf, before, advance, run}
-use Rattle.file_walk.specs.Tables.{isGroupIn, levels}
+use Rattle.file_walk.specs.Numbers.{isGroupIn}
+use Rattle.file_walk.specs.Tables.{levels}
 use Rattle.file_walk.specs.Stride.{rowIn, inner, stepIn, stackIn}
 use Rattle.file_walk.specs.Begin.{beginIn}
 use Rattle.file_walk.proofs.Sound.{Placed, group-in}

@@ -26,7 +26,7 @@ ghost use Prim.Native.Nat.{_≤_};
 ghost use lib.Seq.{slice};
 ghost use Rattle.list.specs.Listing.{child};
 ghost use Rattle.list.specs.Table.{cell, wordsIn, listOf};
-ghost use Rattle.file_walk.specs.Tables.{isGroupIn};
+ghost use Rattle.file_walk.specs.Numbers.{isGroupIn};
 ghost use Rattle.file.specs.Instance.{houseKinds};
 ghost use Rattle.file_measure.specs.Measured.{Faultless};
 ghost use Rattle.file_measure.specs.Pass.{Worded, Valued, Shuts, Ready};

@@ -15,7 +15,7 @@ use Rattle.text.proofs.Puts.{puts-none, puts-pasted, puts-then}
 use Rattle.list.specs.Listing.{Leaf, leaf, isGroup}
 use Rattle.list.specs.Table.{cell, wordsIn}
 use Rattle.list.proofs.Codes.{group-is}
-use Rattle.file_walk.specs.Tables.{isGroupIn}
+use Rattle.file_walk.specs.Numbers.{isGroupIn}
 use Rattle.file.specs.Instance.{Kinds}
 use Rattle.file_measure.specs.Pass.{kindIn, given, Valued, ItemPut, Shuts, Opens}
 
@@ -23,7 +23,7 @@ use Rattle.file_measure.specs.Pass.{kindIn, given, Valued, ItemPut, Shut
 module _ (t : List ℕ) (row q : ℕ) (e : q ≡ cell t row 2) (g : Bool) (f : g ≡ isGroupIn q) where
   group-told : (pool : List ℕ) → isGroup (kindIn t pool row) ≡ g
   unfolding isGroupIn
-  group-told pool = group-is (cell t row 3) (wordsIn t pool row) (cell t row 2) ∙ ap (λ n. not (inRange 2 11 n)) (sym e) ∙ sym f
+  group-told pool = group-is (cell t row 3) (wordsIn t pool row) (cell t row 2) ∙ ap (λ n. not (inRange 2 11 n)) (sym e) ∙ sym (group-is 0 [] q) ∙ sym f
 
   module _ (k : Kinds) (d : List ℕ) (at : ℕ) where
     -- the beginning

@@ -18,6 +18,7 @@ use Rattle.text.proofs.Pasting.{length-pasted}
 use Rattle.text.proofs.Puts.{puts-none, puts-pasted, puts-as}
 use Rattle.text_characters.proofs.Spelling.{one-text}
 use Rattle.list.specs.Listing.{Leaf, ref, enum, Kind, group, choice, leaf, isGroup}
+use Rattle.list.proofs.Codes.{group-is}
 use Rattle.list.specs.WellFormed.{LeafOk}
 use Rattle.list.specs.Table.{cell, byteOf, placeIn, kindOf, wordsIn}
 use Rattle.list.proofs.Places.{place-found, place-none, byte-near}
@@ -26,7 +27,7 @@ use Rattle.value.specs.Kind.{code, Given}
 use Rattle.value.specs.Value.{Value, text, place, Form, reference, writing, account, currency, listed, either, count, money, dated, timed, Spelt, bytes}
 use Rattle.value.proofs.Rights.{word-spelt, spelt-word}
 use Rattle.value.proofs.Values.{value-laws}
-use Rattle.file_walk.specs.Tables.{isGroupIn}
+use Rattle.file_walk.specs.Numbers.{isGroupIn}
 use Rattle.value_to_bytes.specs.Giving.{Counted, Gives, Sized, Written}
 use Rattle.value_to_bytes.specs.Giving as giving
 use Rattle.value_to_bytes.proofs.Putting.{text-long, natural-long, amount-long, day-long, moment-long}
@@ -85,7 +86,7 @@ coded (suc (suc (suc (suc (suc (suc (suc (suc (suc (suc (suc (suc c)))))))))))) 
 -- what is no group's number is at most 11
 pub leaf-kind : (q : ℕ) (g : Bool) → g ≡ isGroupIn q → g ≡ false → q ≤ 11
 unfolding isGroupIn
-leaf-kind q g e f = in-range-is 2 11 q (go (inRange 2 11 q) (sym e ∙ f)) .1
+leaf-kind q g e f = in-range-is 2 11 q (go (inRange 2 11 q) (sym (group-is 0 [] q) ∙ sym e ∙ f)) .1
   where
     go : (b : Bool) → not b ≡ false → b ≡ true
     go true h = refl

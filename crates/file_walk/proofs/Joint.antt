@@ -32,7 +32,8 @@ use Rattle.file_walk.specs.declared.found.Found.the-variants.{Fine, Viol
 use Rattle.file_walk.specs.Types.{Judge}
 use Rattle.file_walk.specs.First.{refuse, orElse, empty, currency, kindOf}
 use Rattle.file_walk.specs.Machine.{Speller, judgeOf, at, pop, openTest, closeTest, run}
-use Rattle.file_walk.specs.Tables.{isGroupIn, openingIn, groupEndIn}
+use Rattle.file_walk.specs.Numbers.{isGroupIn}
+use Rattle.file_walk.specs.Tables.{openingIn, groupEndIn}
 use Rattle.file_walk.specs.Stride.{inkBefore, endIn, rowIn, ownIn}
 use Rattle.file_walk.proofs.Answers.{or-right, or-assoc}
 use Rattle.file_walk.proofs.Sound.{Placed, group-in, opening-in, group-end-in}

@@ -21,7 +21,8 @@ use Rattle.xml_tags.specs.declared.attribute.Attribute.{Attribute}
 use Rattle.xml_tags.specs.declared.token.Kind.{Kind}
 use Rattle.xml_tags.specs.declared.token.Kind.the-variants.{Open, Empty, Close, End}
 use Rattle.xml_tags.specs.declared.token.Token.{Token}
-use Rattle.xml_tags.specs.Passing.{but, inName, pass, one, headIs, behind}
+use Rattle.xml_tags.specs.Marks.{but, pass, one, headIs, behind}
+use Rattle.xml_tags.specs.Passing.{inName}
 use Rattle.xml_tags.specs.Tokens.{bare, shutAt, tailAt, tagAt, openAt, tokenAt}
 use Rattle.xml_tags.specs.Story.{tokenIn}
 use Rattle.xml_tags.proofs.Passing.{pass-at, pass-any}
@@ -33,7 +34,8 @@ use Rattle.file_walk.specs.declared.step.Here.{Here}
 use Rattle.file_walk.specs.declared.step.Turn.{Turn}
 use Rattle.file_walk.specs.declared.step.Met.{Met}
 use Rattle.file_walk.specs.declared.step.Met.the-variants.{Opened, Closed, Refused, Lost}
-use Rattle.file_walk.specs.Tables.{isGroupIn, openingIn}
+use Rattle.file_walk.specs.Numbers.{isGroupIn}
+use Rattle.file_walk.specs.Tables.{openingIn}
 use Rattle.file_walk.specs.Stride.{ownIn, inkBefore, endIn, refusedAt, lostAt, outer, closedBy, closedIn, rowIn, inner, enteredBy, enteredIn, vacantBy, vacantIn, metIn, inkAhead, stepBy, stepIn}
 
 -- ---- a token, by the bytes

@@ -1,28 +1,34 @@
 -- The tests of a tag over the tables, from what the code's calls told. Assumes nothing.
 use mathlib.Core.Path.{_≡_, sym, _∙_, ap}
 use mathlib.Core.Bool.{Bool, true, false, _||_, not}
-use mathlib.Core.List.{List}
+use mathlib.Core.List.{List, []}
 use Prim.Native.Nat.{ℕ, _≤_, _<_}
 use lib.Dec.{eqb, ltb, leb}
 use borrow.Author.Tests.{eq-eqb, ne-eqb, lt-ltb, le-ltb, le-leb, lt-leb}
 use Rattle.answer.specs.declared.Answer.{Answer}
 use Rattle.answer.specs.Table as table
+use Rattle.text.specs.Bytes.{inRange}
 use Rattle.list.specs.Table.{cell}
+use Rattle.list.proofs.Codes.{group-is}
 use Rattle.file_walk.specs.declared.level.Level.{Level}
 use Rattle.file_walk.specs.declared.found.Found.the-variants.{Fine, Violation}
-use Rattle.file_walk.specs.Tables.{isGroupIn, passedIn, againIn, openingIn, brokenIn, groupEndIn}
+use Rattle.file_walk.specs.Numbers.{isGroupIn}
+use Rattle.file_walk.specs.Tables.{passedIn, againIn, openingIn, brokenIn, groupEndIn}
 
-pub leaf-kind : (c : ℕ) → 2 ≤ c → c ≤ 11 → false ≡ isGroupIn c
-unfolding isGroupIn
-leaf-kind c a b = rw (le-leb 2 c a, le-leb c 11 b)
+-- by the number, between those of leaves or not
+module _ (c : ℕ) where
+  kind-is : isGroupIn c ≡ not (inRange 2 11 c)
+  unfolding isGroupIn
+  kind-is = group-is 0 [] c
 
-pub low-kind : (c : ℕ) → c < 2 → true ≡ isGroupIn c
-unfolding isGroupIn
-low-kind c a = rw (lt-leb 2 c a)
+  pub leaf-kind : 2 ≤ c → c ≤ 11 → false ≡ isGroupIn c
+  leaf-kind a b = rw (kind-is, le-leb 2 c a, le-leb c 11 b)
 
-pub high-kind : (c : ℕ) → 2 ≤ c → 11 < c → true ≡ isGroupIn c
-unfolding isGroupIn
-high-kind c a b = rw (le-leb 2 c a, lt-leb c 11 b)
+  pub low-kind : c < 2 → true ≡ isGroupIn c
+  low-kind a = rw (kind-is, lt-leb 2 c a)
+
+  pub high-kind : 2 ≤ c → 11 < c → true ≡ isGroupIn c
+  high-kind a b = rw (kind-is, le-leb 2 c a, lt-leb c 11 b)
 
 module _ (t : List ℕ) (lv : Level) where
   module _ (k : ℕ) (e : k ≡ cell t (lv .row) 2) (r : ℕ) where

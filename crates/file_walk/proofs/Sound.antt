@@ -20,7 +20,8 @@ use Rattle.file_walk.specs.declared.level.Level.{Level}
 use Rattle.file_walk.specs.First.{refuse, firstOf, attrsOk}
 use Rattle.file_walk.specs.First.{kindOf as kindIn}
 use Rattle.file_walk.specs.Machine.{Speller, judgeOf, misses, fresh, advance, again, openTest, groupTest}
-use Rattle.file_walk.specs.Tables.{freshIn, advanceIn, isGroupIn, passedIn, againIn, openingIn, brokenIn, groupEndIn}
+use Rattle.file_walk.specs.Numbers.{isGroupIn}
+use Rattle.file_walk.specs.Tables.{freshIn, advanceIn, passedIn, againIn, openingIn, brokenIn, groupEndIn}
 
 module _ (t pool : List ℕ) (s : Sound t pool) where
   abbrev l : Listing
@@ -52,7 +53,7 @@ module _ (t pool : List ℕ) (s : Sound t pool) where
 
   pub group-in : (r : ℕ) → 0 < r → r ≤ size l → isGroupIn (cell t r 2) ≡ isGroup (rowAt l r .kind)
   unfolding isGroupIn
-  group-in r a b = sym (ap isGroup (kind-is t pool r a (row-within r b)) ∙ group-is (cell t r 3) (wordsIn t pool r) (cell t r 2))
+  group-in r a b = group-is 0 [] (cell t r 2) ∙ sym (ap isGroup (kind-is t pool r a (row-within r b)) ∙ group-is (cell t r 3) (wordsIn t pool r) (cell t r 2))
 
   choice-in : (r : ℕ) → 0 < r → r ≤ size l → eqb (cell t r 2) 1 ≡ isChoice (rowAt l r .kind)
   choice-in r a b = sym (ap isChoice (kind-is t pool r a (row-within r b)) ∙ choice-is (cell t r 3) (wordsIn t pool r) (cell t r 2))

@@ -31,7 +31,8 @@ use Rattle.file_walk.specs.declared.found.Found.the-variants.{Fine, Viol
 use Rattle.file_walk.specs.declared.step.Here.{Here}
 use Rattle.file_walk.specs.declared.step.Turn.{Turn}
 use Rattle.file_walk.specs.declared.step.Met.the-variants.{Opened, Closed}
-use Rattle.file_walk.specs.Tables.{isGroupIn, freshIn, advanceIn, openingIn, groupEndIn, pushed}
+use Rattle.file_walk.specs.Numbers.{isGroupIn}
+use Rattle.file_walk.specs.Tables.{freshIn, advanceIn, openingIn, groupEndIn, pushed}
 use Rattle.file_walk.specs.Stride.{isCurrency, named, ownIn, inkBefore, textFrom, inkFrom, endIn, refusedAt, lostAt, outer, closedBy, closedIn, rowIn, enteredBy, enteredIn, belowBy, belowIn, vacantBy, vacantIn, inner, numberOf, metIn, leftIn, inkAhead, stepBy, stackBy, stepIn, stackIn}
 
 -- ---- a kind by its number

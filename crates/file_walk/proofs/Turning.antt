@@ -35,7 +35,8 @@ use Rattle.file_walk.specs.declared.step.Turn.{Turn}
 use Rattle.file_walk.specs.declared.step.Met.the-variants.{Opened, Closed}
 use Rattle.file_walk.specs.First.{refuse, orElse, firstOf, currency, attrsOk, kindOf}
 use Rattle.file_walk.specs.Machine.{Speller, judgeOf, State, at, pop, fresh, advance, closeTest, run, opens, closes, emits}
-use Rattle.file_walk.specs.Tables.{isGroupIn, freshIn, advanceIn, passedIn, againIn, openingIn, levelAt, pushed, levels}
+use Rattle.file_walk.specs.Numbers.{isGroupIn}
+use Rattle.file_walk.specs.Tables.{freshIn, advanceIn, passedIn, againIn, openingIn, levelAt, pushed, levels}
 use Rattle.file_walk.specs.Stride.{isCurrency, ownIn, inkBefore, endIn, rowIn, refusedAt, closedIn, enteredIn, belowIn, vacantIn, stepIn, stackIn}
 use Rattle.file_walk.proofs.Answers.{or-fine, refuse-no, attrs-group}
 use Rattle.file_walk.proofs.Sound.{fresh-in, advance-in}

@@ -5,6 +5,8 @@ pub mod Types
 pub mod First
 -- which content a message has
 pub mod Denotes
+-- kinds by their numbers
+pub mod Numbers
 -- a mirror: the same walk over tags and characters, with five numbers for each open element
 pub mod Machine
 -- a mirror: its numbers and tests over the cells of two tables

@@ -24,7 +24,8 @@ use Rattle.file_walk.specs.declared.step.Here.{Here}
 use Rattle.file_walk.specs.declared.step.Turn.{Turn}
 use Rattle.file_walk.specs.declared.step.Met.the-variants.{Opened, Closed, Refused, Lost}
 use Rattle.file_walk.specs.First.{refuse}
-use Rattle.file_walk.specs.Tables.{isGroupIn, freshIn, advanceIn, openingIn, groupEndIn, levelAt, pushed}
+use Rattle.file_walk.specs.Numbers.{isGroupIn}
+use Rattle.file_walk.specs.Tables.{freshIn, advanceIn, openingIn, groupEndIn, levelAt, pushed}
 
 -- ---- attributes
 

@@ -5,17 +5,12 @@ use Prim.Native.Nat.{ℕ, zero, suc, _+_, _*_}
 use lib.Dec.{eqb, ltb}
 use lib.ListN.{getD, set}
 use Rattle.answer.specs.Table as table
-use Rattle.text.specs.Bytes.{inRange}
 use Rattle.list.specs.Table.{cell}
 use Rattle.list.specs.Lookup.{dueAfter}
 use Rattle.file_walk.specs.declared.level.Level.{Level}
 use Rattle.file_walk.specs.declared.found.Found.{Found}
 use Rattle.file_walk.specs.First.{refuse, firstOf}
 use Rattle.file_walk.specs.Machine.{misses}
-
--- a kind's number is no leaf's
-unfoldable pub isGroupIn : ℕ → Bool
-isGroupIn c = not (inRange 2 11 c)
 
 module _ (t : List ℕ) where
   abbrev pub freshIn : ℕ → ℕ → Level

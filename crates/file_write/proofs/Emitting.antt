@@ -30,7 +30,7 @@ use Rattle.image.specs.Image.{Item, valueBytes, bytes, body}
 use Rattle.image.specs.Kinds.{values}
 use Rattle.image.specs.Place.{Holds}
 use Rattle.image.specs.Follow.{OfKind, ItemOk}
-use Rattle.file_walk.specs.Tables.{isGroupIn}
+use Rattle.file_walk.specs.Numbers.{isGroupIn}
 use Rattle.file_walk.proofs.Sound.{group-in}
 use Rattle.file_letter.specs.Letter.{textIn, coinOf, wordsIn as inWords, letterOf}
 use Rattle.file_letter.specs.Tell.{opens, shuts, closes, tell}

@@ -13,6 +13,7 @@ use Rattle.list.specs.Listing.{Listing, rowAt, size, Child, child, nextD
 use Rattle.list.specs.Table.{cell, nameIn, listOf}
 use Rattle.list.specs.Sound.{nextChild, Sound}
 use Rattle.list.specs.Lookup.{dueAfter, along, childAlong}
+use Rattle.list.specs.Means.{DueNext, ChildCalled}
 use Rattle.list.proofs.Tests.{byCases, clash}
 use Rattle.list.proofs.Words.{same-eq, same-of}
 use Rattle.list.proofs.Rows.{size-is, name-is}
@@ -152,3 +153,22 @@ module _ (t pool : List ℕ) (s : Sound t pool) where
   unfolding dueAfter
   due-after p q h (inl e) = rw (eq-eqb q 0 e) (s .derived p h .dueChild ∙ ap (nextDue l p) (sym e))
   due-after p q h (inr c) = rw (ne-eqb q 0 (λ z. omega (arith, c .first))) (s .derived q (c .last) .dueSibling ∙ ap (λ x. nextDue l x q) (c .parent))
+
+-- and for the two columns of `due_after`
+module _ (t : List ℕ) (p q r : ℕ) where
+  pub due-first : q ≡ 0 → r ≡ cell t p 11 → r ≡ dueAfter t p q
+  unfolding dueAfter
+  due-first z e = rw (eq-eqb q 0 z) e
+
+  pub due-other : (q ≡ 0 → ⊥) → r ≡ cell t q 12 → r ≡ dueAfter t p q
+  unfolding dueAfter
+  due-other z e = rw (ne-eqb q 0 z) e
+
+-- ---- the two promises of each lookup: the second follows from the first
+
+module _ (t : List ℕ) (p q r : ℕ) where
+  pub due-means : r ≡ dueAfter t p q → (r ≡ dueAfter t p q) × DueNext t p q r
+  due-means e = (e, (λ pool s h b. e ∙ due-after t pool s p q h b))
+
+  pub child-means : (pool n : List ℕ) → r ≡ childAlong t pool p q n → (r ≡ childAlong t pool p q n) × ChildCalled t pool p q n r
+  child-means pool n e = (e, (λ s h b. e ∙ child-along t pool s n p q h b))

@@ -19,5 +19,7 @@ pub mod Sound
 pub mod EachRow
 -- soundness as one computed test
 pub mod Test
+-- what the lookups answer in such tables
+pub mod Means
 -- how the lookups go
 pub mod Lookup

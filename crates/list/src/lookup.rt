@@ -13,6 +13,7 @@ ghost use lib.Seq.{slice};
 ghost use Rattle.text.specs.Lists.{same};
 ghost use Rattle.list.specs.Table.{cell, nameIn, listOf};
 ghost use Rattle.list.specs.Lookup.{dueAfter, along, childAlong};
+ghost use Rattle.list.specs.Means.{DueNext, ChildCalled};
 
 fn wide(x: u16) -> usize
     ensures { λ r. ⌜ r ≡ x ⌝ }
@@ -36,7 +37,8 @@ pub fn cell(rows: &[u16], r: usize, column: usize) -> usize
 
 // The lowest required child of `p` above `q`, which is 0 or a child of `p`; 0 where there is none.
 pub fn due_after(rows: &[u16], p: usize, q: usize) -> usize
-    ensures { λ r. ⌜ r ≡ dueAfter (now (rows .entry)) p q ⌝ }
+    ensures is { λ r. ⌜ r ≡ dueAfter (now (rows .entry)) p q ⌝ }
+    ensures means { λ r. ⌜ DueNext (now (rows .entry)) p q r ⌝ }
 {
     if q == 0 {
         cell(rows, p, DUE_CHILD)
@@ -97,7 +99,8 @@ pub fn child(
     a: usize,
     b: usize,
 ) -> usize
-    ensures { λ r. ⌜ r ≡ childAlong (now (rows .entry)) (now (pool .entry)) p last (slice a b (now (s .entry))) ⌝ }
+    ensures is { λ r. ⌜ r ≡ childAlong (now (rows .entry)) (now (pool .entry)) p last (slice a b (now (s .entry))) ⌝ }
+    ensures means { λ r. ⌜ ChildCalled (now (rows .entry)) (now (pool .entry)) p last (slice a b (now (s .entry))) r ⌝ }
 {
     let r = named(rows, pool, last, s, a, b);
     if 0 < r {

@@ -1,4 +1,4 @@
--- A mirror: the blanks at both ends as the code takes them away. Assumes nothing.
+-- What is left of a text without the blanks at both ends. Assumes nothing.
 use mathlib.Core.Path.{_≡_}
 use mathlib.Core.Bool.{false}
 use mathlib.Core.List.{List, [], _∷_, _++_}
@@ -14,7 +14,7 @@ pub record Trim (s t : List ℕ) : Type 0 where
   pub first : (x : ℕ) (u : List ℕ) → t ≡ x ∷ u → isBlank x ≡ false
   pub last : (u : List ℕ) (x : ℕ) → t ≡ u ++ (x ∷ []) → isBlank x ≡ false
 
--- from hi on there are blanks alone, and none stands just before it, unless it is lo
+-- a mirror: from hi on there are blanks alone, and none stands just before it, unless it is lo
 pub record InkEnd (s : List ℕ) (lo hi : ℕ) : Type 0 where
   pub order : lo ≤ hi
   pub within : hi ≤ length s

@@ -12,7 +12,7 @@ use Rattle.text.proofs.Classes.{and-is}
 use Rattle.text_characters.proofs.Decoding.{by-length}
 use Rattle.xml.specs.House.{Quote, single, double, mark, GoodValue}
 use Rattle.xml.proofs.Basics.{all-append}
-use Rattle.xml_tags.specs.Passing.{but}
+use Rattle.xml_tags.specs.Marks.{but}
 use Rattle.xml_tags.proofs.Passing.{but-other}
 
 -- a test of each, computed

@@ -16,7 +16,8 @@ use Rattle.text.proofs.Classes as classes
 use Rattle.text.proofs.Classes.{Named, only, _or_}
 use Rattle.text.proofs.Spans.{span-of, span-le, span-all, span-stop, span-go, span-append}
 use Rattle.xml.proofs.Basics.{all-weaken, isFullPart}
-use Rattle.xml_tags.specs.Passing.{but, noQuote, inName, pass, one, headIs, behind}
+use Rattle.xml_tags.specs.Marks.{but, pass, one, headIs, behind}
+use Rattle.xml_tags.specs.Passing.{noQuote, inName}
 
 -- ---- a byte that stops
 

@@ -14,7 +14,8 @@ use Rattle.xml.proofs.Basics.{all-weaken}
 use Rattle.xml.proofs.Lang.{endOn}
 use Rattle.xml_tags.specs.declared.token.Kind.the-variants.{Open, Empty, Close}
 use Rattle.xml_tags.specs.declared.token.Token.{Token}
-use Rattle.xml_tags.specs.Passing.{but}
+use Rattle.xml_tags.specs.Marks.{but}
+use Rattle.xml_tags.specs.Places.{RootAt}
 use Rattle.xml_tags.specs.Tokens.{tagAt, openAt, tokenAt, startOf}
 use Rattle.xml_tags.specs.Story.{Event, char, enter, leave, events, chars, Text, tokenIn, Tagged, Tells, enters, passes, leaves, ends}
 use Rattle.xml_tags.proofs.Passing.{but-by, stops, pass-none}
@@ -176,6 +177,10 @@ root-drop t =
     let d = declaration (t .declared) in
     let w = render (t .root) ++ t .after in
     drop-is (length d) (rootAt t) (whole t) (t .before) w (drop-append-seam d (t .before ++ w)) refl
+
+-- the two promises of `start`: the second follows
+pub start-means : (s : List ℕ) (r : ℕ) → r ≡ startOf s → (r ≡ startOf s) × RootAt s r
+start-means s r e = (e, (λ t g h. e ∙ ap startOf h ∙ start-root t g))
 
 -- where no text stands before its tag
 pub start-opens : (t : Tree) → GoodTree t → openAt (startOf (whole t)) (drop (startOf (whole t)) (whole t)) ≡ tokenAt (startOf (whole t)) (drop (startOf (whole t)) (whole t))

@@ -17,7 +17,8 @@ use Rattle.xml.proofs.Basics.{all-append, all-weaken, name-all, name-full}
 use Rattle.xml_tags.specs.declared.attribute.Attribute.{Attribute}
 use Rattle.xml_tags.specs.declared.token.Kind.the-variants.{Open, Empty, Close, End}
 use Rattle.xml_tags.specs.declared.token.Token.{Token}
-use Rattle.xml_tags.specs.Passing.{but, inName, pass, one, headIs, behind}
+use Rattle.xml_tags.specs.Marks.{but, pass, one, headIs, behind}
+use Rattle.xml_tags.specs.Passing.{inName}
 use Rattle.xml_tags.specs.Attributes.{attributeAt, passedAt}
 use Rattle.xml_tags.specs.Tokens.{bare, shutAt, tailAt, tagAt, tokenAt}
 use Rattle.xml_tags.specs.Places.{firstOf, tagOf}

@@ -8,7 +8,8 @@ use Rattle.text.specs.Bytes.{isBlank}
 use Rattle.text.specs.Lists.{span}
 use Rattle.xml_tags.specs.declared.attribute.Attribute.{Attribute}
 use Rattle.xml_tags.specs.declared.attribute.Passed.{Passed}
-use Rattle.xml_tags.specs.Passing.{but, noQuote, inName, pass, one}
+use Rattle.xml_tags.specs.Marks.{but, pass, one}
+use Rattle.xml_tags.specs.Passing.{noQuote, inName}
 
 -- no attribute
 abbrev pub nowhere : ℕ → Attribute

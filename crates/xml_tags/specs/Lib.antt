@@ -3,7 +3,9 @@
 pub mod Story
 -- the places of a tag and of an attribute of a tree
 pub mod Places
--- a mirror: how the cursor passes bytes of a class
+-- whether a byte stands next, up to the next one, past it
+pub mod Marks
+-- a mirror: which bytes the cursor passes in a tag
 pub mod Passing
 -- a mirror: how it passes attributes
 pub mod Attributes

@@ -1,13 +1,19 @@
 -- The places of an attribute and of a tag of a tree. Assumes nothing.
+use mathlib.Core.Path.{_≡_}
 use mathlib.Core.List.{List, [], _∷_}
 use Prim.Native.Nat.{ℕ, _+_}
 use lib.ListN.{length}
 use Rattle.text_characters.specs.Pieces.{spells}
-use Rattle.xml.specs.House.{Attr, Tag}
+use Rattle.xml.specs.House.{Attr, Tag, Tree, whole, GoodTree}
+use Rattle.xml.specs.Message.{rootAt}
 use Rattle.xml_tags.specs.declared.attribute.Attribute.{Attribute}
 use Rattle.xml_tags.specs.declared.token.Kind.{Kind}
 use Rattle.xml_tags.specs.declared.token.Token.{Token}
 use Rattle.xml_tags.specs.Attributes.{nowhere}
+
+-- r is the place of the `<` of the root, whichever good tree the text is
+abbrev pub RootAt : List ℕ → ℕ → Type 0
+RootAt s r = (t : Tree) → GoodTree t → s ≡ whole t → r ≡ rootAt t
 
 -- where an attribute's name begins, and where its value begins, if its blanks begin at o
 abbrev pub nameOf : ℕ → Attr → ℕ

@@ -10,7 +10,8 @@ use Rattle.xml_tags.specs.declared.attribute.Attribute.{Attribute}
 use Rattle.xml_tags.specs.declared.token.Kind.{Kind}
 use Rattle.xml_tags.specs.declared.token.Kind.the-variants.{Open, Empty, Close, End}
 use Rattle.xml_tags.specs.declared.token.Token.{Token}
-use Rattle.xml_tags.specs.Passing.{but, inName, pass, one, headIs, behind}
+use Rattle.xml_tags.specs.Marks.{but, pass, one, headIs, behind}
+use Rattle.xml_tags.specs.Passing.{inName}
 use Rattle.xml_tags.specs.Attributes.{nowhere, attributeAt, passedAt}
 
 -- a token without name and attributes, whose text ends at o

@@ -10,7 +10,7 @@ ghost use Prim.Native.Nat.{_+_};
 ghost use lib.ListN.{drop};
 ghost use Rattle.text.specs.Lists.{span};
 ghost use Rattle.text_characters.specs.Pieces.{less, greater, solidus};
-ghost use Rattle.xml_tags.specs.Passing.{but, headIs, behind};
+ghost use Rattle.xml_tags.specs.Marks.{but, headIs, behind};
 ghost use Rattle.xml_tags.specs.Skimmed.{tagOf};
 ghost use Rattle.xml_tags.specs.Tokens.{openAt};
 

@@ -10,6 +10,7 @@ use crate::pass::until;
 use text::span::blanks_end;
 ghost use mathlib.Core.Path.{_≡_};
 ghost use lib.ListN.{drop};
+ghost use Rattle.xml_tags.specs.Places.{RootAt};
 ghost use Rattle.xml_tags.specs.Tokens.{bare, shutAt, tailAt, openAt, tokenAt, isDeclared, startOf};
 
 // What stands behind a text.
@@ -141,7 +142,8 @@ fn is_declared(s: &[u8]) -> bool
 
 // Where the root begins.
 pub fn start(s: &[u8]) -> usize
-    ensures { λ r. ⌜ r ≡ startOf (now (s .entry)) ⌝ }
+    ensures is { λ r. ⌜ r ≡ startOf (now (s .entry)) ⌝ }
+    ensures means { λ r. ⌜ RootAt (now (s .entry)) r ⌝ }
 {
     if is_declared(s) {
         return blanks_end(s, past(s, until(s, 0, b'>')));

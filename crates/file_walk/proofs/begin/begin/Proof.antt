@@ -41,16 +41,16 @@ lost-requires-2 : tie.Need-lost-requires-2
 lost-requires-2 c κs = search needs
 
 returns : tie.Need-returns
-returns c = begin-open _ _ _ _ (c .before .before .before .before .before .before .start .ensures) _ (c .before .before .before .before .before .opening .ensures) _ (c .before .before .before .before .fresh .ensures) _ (c .before .before .before .is-root .ensures) _ (c .before .enum-told .given .1) (c .rooted .ensures)
+returns c = begin-open _ _ _ _ (c .before .before .before .before .before .before .start .ensures .0) _ (c .before .before .before .before .before .opening .ensures) _ (c .before .before .before .before .fresh .ensures) _ (c .before .before .before .is-root .ensures) _ (c .before .enum-told .given .1) (c .rooted .ensures)
 
 returns-2 : tie.Need-returns-2
-returns-2 c = begin-empty _ _ _ _ (c .before .before .before .before .before .before .start .ensures) _ (c .before .before .before .before .before .opening .ensures) _ (c .before .before .before .before .fresh .ensures) _ (c .before .before .before .is-root .ensures) _ (c .before .enum-told2 .given .1) (c .hollow .ensures)
+returns-2 c = begin-empty _ _ _ _ (c .before .before .before .before .before .before .start .ensures .0) _ (c .before .before .before .before .before .opening .ensures) _ (c .before .before .before .before .fresh .ensures) _ (c .before .before .before .is-root .ensures) _ (c .before .enum-told2 .given .1) (c .hollow .ensures)
 
 returns-3 : tie.Need-returns-3
-returns-3 c = begin-close _ _ _ _ (c .before .before .before .before .before .before .start .ensures) _ (c .before .before .before .before .before .opening .ensures) _ (c .before .before .before .before .fresh .ensures) _ (c .before .enum-told3 .given .1) (c .lost .ensures)
+returns-3 c = begin-close _ _ _ _ (c .before .before .before .before .before .before .start .ensures .0) _ (c .before .before .before .before .before .opening .ensures) _ (c .before .before .before .before .fresh .ensures) _ (c .before .enum-told3 .given .1) (c .lost .ensures)
 
 returns-4 : tie.Need-returns-4
-returns-4 c = begin-end _ _ _ _ (c .before .before .before .before .before .before .start .ensures) _ (c .before .before .before .before .before .opening .ensures) _ (c .before .before .before .before .fresh .ensures) _ (c .before .enum-told4 .given .1) (c .lost2 .ensures)
+returns-4 c = begin-end _ _ _ _ (c .before .before .before .before .before .before .start .ensures .0) _ (c .before .before .before .before .before .opening .ensures) _ (c .before .before .before .before .fresh .ensures) _ (c .before .enum-told4 .given .1) (c .lost2 .ensures)
 
 pub begin-spec : {M : Type 1} → statement M
 begin-spec =

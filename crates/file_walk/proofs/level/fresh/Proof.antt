@@ -8,7 +8,7 @@ due-after-requires c κs = search needs
 
 returns : tie.Need-returns
 returns c =
-    rw (c .due-after .ensures)
+    rw (c .due-after .ensures .0)
 
 pub fresh-spec : {M : Type 1} → statement M
 fresh-spec = tie.close (tie.spec due-after-requires returns)

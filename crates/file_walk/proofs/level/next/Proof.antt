@@ -9,7 +9,7 @@ due-after-requires c κs = search needs
 
 returns : tie.Need-returns
 returns c =
-    rw (c .due-after .ensures, eq-eqb _ _ (c .before .if1 .taken))
+    rw (c .due-after .ensures .0, eq-eqb _ _ (c .before .if1 .taken))
 
 returns-2 : tie.Need-returns-2
 returns-2 c =

@@ -13,7 +13,7 @@ child-requires c κs = search needs
 
 returns : tie.Need-returns
 returns c =
-    row-inside _ _ _ _ _ _ _ (c .before .if1 .taken) (c .child .ensures)
+    row-inside _ _ _ _ _ _ _ (c .before .if1 .taken) (c .child .ensures .0)
 
 returns-2 : tie.Need-returns-2
 returns-2 c =

@@ -5,7 +5,7 @@ use native.Mathlib.Omega.{arith}
 use lib.ListN.{length, drop}
 use borrow.Author.Needs.{needs}
 use Rattle.text.specs.Lists.{span}
-use Rattle.xml_tags.specs.Passing.{but}
+use Rattle.xml_tags.specs.Marks.{but}
 use Rattle.xml_tags.proofs.Passing.{until-found, until-again}
 use Rattle.xml_tags.proofs.pass.until.Statement.{statement}
 use Rattle.xml_tags.proofs.pass.until.Tie as tie

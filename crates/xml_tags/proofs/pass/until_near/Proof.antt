@@ -5,7 +5,7 @@ use lib.ListN.{length, drop}
 use borrow.Author.Needs.{needs}
 use Rattle.text.specs.Lists.{span}
 use Rattle.text.proofs.Spans.{span-over}
-use Rattle.xml_tags.specs.Passing.{but}
+use Rattle.xml_tags.specs.Marks.{but}
 use Rattle.xml_tags.proofs.Passing.{until-found, until-again}
 use Rattle.xml_tags.proofs.pass.until_near.Statement.{statement}
 use Rattle.xml_tags.proofs.pass.until_near.Tie as tie

@@ -2,6 +2,7 @@
 use mathlib.Core.Path.{sym, _∙_}
 use borrow.Author.Needs.{needs}
 use Rattle.xml_tags.proofs.Steps.{start-declared, start-plain}
+use Rattle.xml_tags.proofs.Story.{start-means}
 use Rattle.xml_tags.proofs.token.start.Statement.{statement}
 use Rattle.xml_tags.proofs.token.start.Tie as tie
 
@@ -20,13 +21,13 @@ blanks-end-requires c κs = search needs
 returns : tie.Need-returns
 returns c =
     let u = c .before .before in
-    start-declared _ _ _ _ (sym (u .before .before .is-declared .ensures) ∙ u .before .if1 .taken) (u .until .ensures) (c .before .past .ensures) (c .blanks-end .ensures)
+    start-means _ _ (start-declared _ _ _ _ (sym (u .before .before .is-declared .ensures) ∙ u .before .if1 .taken) (u .until .ensures) (c .before .past .ensures) (c .blanks-end .ensures))
 
 blanks-end-requires-2 : tie.Need-blanks-end-requires-2
 blanks-end-requires-2 c κs = search needs
 
 returns-2 : tie.Need-returns-2
-returns-2 c = start-plain _ _ (sym (c .before .before .is-declared .ensures) ∙ c .before .if1 .left) (c .blanks-end2 .ensures)
+returns-2 c = start-means _ _ (start-plain _ _ (sym (c .before .before .is-declared .ensures) ∙ c .before .if1 .left) (c .blanks-end2 .ensures))
 
 pub start-spec : {M : Type 1} → statement M
 start-spec =
