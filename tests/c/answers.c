@@ -67,12 +67,12 @@ static void picks(uint64_t row, uint64_t n, uint64_t code, uint64_t place, uint6
 }
 
 /* A file that is written from a run for so much room: the answer, and what is left in the buffer. */
-static void writes(const char *what, const uint8_t *run, uint64_t length, uint64_t room, uint64_t code, uint64_t place) {
+static void writes(const char *what, const uint8_t *run, uint64_t length, uint64_t room, uint64_t code, uint64_t row, uint64_t place) {
     uint64_t r = 77, p = 77;
     memset(out, 0xA5, sizeof out);
     printf("c: write of %s\n", what);
     same("the code", kto_write(run, length, out, room, &r, &p), code);
-    same("the row", r, 0);
+    same("the row", r, row);
     same("the place", p, place);
     uint64_t kept = code == KTO_ACCEPTED ? place : 0;
     for (uint64_t i = kept; i < sizeof out; i++) {
@@ -132,17 +132,25 @@ int main(void) {
     /* the file has `5` where the example has `5.00` */
     static uint8_t file[KTO_LIMIT];
     uint64_t size = length - 3;
-    writes("the image", image, sizeof image, sizeof out, KTO_ACCEPTED, size);
+    writes("the image", image, sizeof image, sizeof out, KTO_ACCEPTED, 0, size);
     for (uint64_t i = 0; i < size; i++) {
         file[i] = out[i];
     }
     checks("the written file", (const char *)file, size, 67, KTO_ACCEPTED, 0, 67);
     same("its image", memcmp(out, image, 67) == 0, 1);
-    writes("the image for just enough bytes", image, sizeof image, size, KTO_ACCEPTED, size);
-    writes("the image for a byte less", image, sizeof image, size - 1, KTO_NO_ROOM, size);
-    writes("all but the image's last byte", image, 66, sizeof out, KTO_BROKEN_IMAGE, 66);
-    writes("nothing", image, 0, sizeof out, KTO_NO_HEADER, 0);
-    writes("a run that is too long", large, sizeof large, sizeof out, KTO_TOO_LONG, KTO_LIMIT);
+    writes("the image for just enough bytes", image, sizeof image, size, KTO_ACCEPTED, 0, size);
+    writes("the image for a byte less", image, sizeof image, size - 1, KTO_NO_ROOM, 0, size);
+    writes("all but the image's last byte", image, 66, sizeof out, KTO_BROKEN_IMAGE, 0, 66);
+    /* the microseconds of CreDtTm are its item's bytes 8 to 11, and the item stands at 13: 1 is no thousandth, 1000 is one */
+    static uint8_t finer[sizeof image];
+    memcpy(finer, image, sizeof image);
+    finer[24] = 1;
+    writes("a date-time finer than thousandths", finer, sizeof finer, sizeof out, KTO_TOO_FINE, KTO_ROW_GRPHDR_CREDTTM, 13);
+    writes("the same, without room", finer, sizeof finer, 0, KTO_TOO_FINE, KTO_ROW_GRPHDR_CREDTTM, 13);
+    finer[23] = 3, finer[24] = 0xE8;
+    writes("a thousandth", finer, sizeof finer, sizeof out, KTO_ACCEPTED, 0, size + 4);
+    writes("nothing", image, 0, sizeof out, KTO_NO_HEADER, 0, 0);
+    writes("a run that is too long", large, sizeof large, sizeof out, KTO_TOO_LONG, 0, KTO_LIMIT);
 
     sizes("the whole example", whole, length, KTO_ACCEPTED, 0, 67);
     sizes("<a></b>", "<a></b>", 7, KTO_NOT_HOUSE_XML, 0, 5);
