@@ -340,6 +340,9 @@ def faults(definitions, besides):
         if int(spared.get(name, 1)) != len(where):
             yield f'{name} has {len(where)} meanings: ' + '; '.join(file.strip('`') + line + what for file, line, what in where)
     yield from (f'{name}: no exception is needed for it' for name in sorted(set(spared) - set(double)))
+    for path in sorted(CRATES.glob('*/specs/**/*.antt')):
+        if path.name != 'mirror.antt' and (path.parent.name == 'mirror') != path.read_text().startswith('-- A mirror'):
+            yield f'{path.relative_to(CRATES)}: mirrors stand in specs/mirror/, headed "A mirror", and nothing else does'
 
 
 def wrapped(text, first='', rest=''):

@@ -17,33 +17,7 @@ LONGEST = 400
 
 # Files that still have such lines. To be emptied; one that is not needed is a fault.
 EXCEPTED = '''
-    file_measure/proofs/measure/Proof.antt
-    file_walk/proofs/attributes/is_currency/Proof.antt
-    replay/proofs/reply/reply/Proof.antt
-    text_characters/proofs/piece/entity/Proof.antt
-    text_characters/proofs/utf8/decode_four/Proof.antt
-    text_characters/proofs/utf8/decode_three/Proof.antt
-    value/proofs/Named.antt
-    value/proofs/chars/spelled/Proof.antt
-    value/proofs/plain/truth/Proof.antt
-    value_amounts/proofs/amount/signed/Proof.antt
-    value_dates/proofs/day/day_at/Proof.antt
-    value_dates/proofs/day/two/Proof.antt
-    value_dates/proofs/moment/clocked/Proof.antt
-    value_dates/proofs/moment/fraction/Proof.antt
-    value_dates/proofs/moment/three/Proof.antt
-    value_dates/proofs/moment/zone/Proof.antt
     xml/proofs/Lang.antt
-    xml_scan/proofs/attribute/attribute/Proof.antt
-    xml_scan/proofs/attribute/equals/Proof.antt
-    xml_scan/proofs/attribute/value/Proof.antt
-    xml_scan/proofs/content/text_end/Proof.antt
-    xml_scan/proofs/document/Proof.antt
-    xml_scan/proofs/elements/any_tag/Proof.antt
-    xml_scan/proofs/elements/end_tag/Proof.antt
-    xml_scan/proofs/elements/start_tag/Proof.antt
-    xml_scan/proofs/tag/attributes/Proof.antt
-    xml_tags/proofs/pass/until/Proof.antt
 '''.split()
 BROKEN = 150
 PLACE = re.compile(r'(?<![\w\-′₀])c((?: \.before(?![\w\-]))+)')

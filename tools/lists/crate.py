@@ -100,7 +100,7 @@ def house(lists):
 
 
 def house_table(lists, cells, pool):
-    """specs/HouseTable.antt"""
+    """specs/mirror/HouseTable.antt"""
     text = f'''\
 -- A mirror: the numbers of the code's constants, sixteen a row (Table), and the pool. Assumes nothing.
 -- {MADE}
@@ -126,7 +126,7 @@ def tables(lists, cells, pool):
 // The house list as its two tables.
 // {MADE}
 ghost use mathlib.Core.Path.{{_≡_}};
-ghost use Rattle.list_house.specs.HouseTable.{{{mirrors}}};
+ghost use Rattle.list_house.specs.mirror.HouseTable.{{{mirrors}}};
 
 // Rows of sixteen cells (lookup's columns), row 0 the list's own.
 pub type Rows = [u16; {sum(map(len, cells[0]))}];
@@ -203,10 +203,10 @@ use Rattle.list.specs.Table.{{cell, words, rowOf, rowsFrom, rulesFrom, listOf}}
 use Rattle.list.specs.Sound.{{nextChild, firstOf, secondOf, levelIn, Sound}}
 use Rattle.list.specs.Test.{{every, begins, among, wordsOk, rowTests, ruleTests, derivedTests, well, derived, sound}}
 use Rattle.list.specs.EachRow.{{EachRow}}
-use Rattle.list.proofs.EachRow.{{each-row}}
-use Rattle.list.proofs.Sound.{{is-sound}}
+use Rattle.list.proofs.sound.EachRow.{{each-row}}
+use Rattle.list.proofs.sound.Sound.{{is-sound}}
 use Rattle.list_house.specs.House.{{{listed}}}
-use Rattle.list_house.specs.HouseTable.{{{tabled}}}
+use Rattle.list_house.specs.mirror.HouseTable.{{{tabled}}}
 '''
     for found, names in zip(lists, all_names):
         text += SOUND.format(message=found.message(), list=names.list, table=names.table, pool=names.pool)
@@ -219,7 +219,7 @@ def constant(function, table):
 -- `tables::{function}` meets its contract. Assumes nothing.
 -- {MADE}
 use mathlib.Core.Path.{{refl}}
-use Rattle.list_house.specs.HouseTable.{{{table}}}
+use Rattle.list_house.specs.mirror.HouseTable.{{{table}}}
 use Rattle.list_house.proofs.tables.{function}.Statement.{{statement}}
 use Rattle.list_house.proofs.tables.{function}.Tie as tie
 

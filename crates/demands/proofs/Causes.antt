@@ -14,15 +14,15 @@ use Rattle.list.specs.Listing.{Leaf, Kind, group, choice, leaf, rowAt, child, i
 use Rattle.list.specs.WellFormed.{KindOk}
 use Rattle.list_house.specs.House.{house}
 use Rattle.list_house.proofs.HouseSound.{house-well}
-use Rattle.image.proofs.Rows.{well}
+use Rattle.image.proofs.content.Rows.{well}
 use Rattle.xml.specs.Message.{Attrs, Parts, none, char, element}
 use Rattle.value.specs.Value.{Value, Spelt}
 use Rattle.file_walk.specs.declared.found.Found.{Found}
 use Rattle.file_walk.specs.declared.found.Found.the-variants.{Fine, Violation}
 use Rattle.file_walk.specs.Types.{Judge, Decides}
 use Rattle.file_walk.specs.First.{First, refuse, firstOf, empty, passed, breaks, textOf, currency, noAttrs, attrsOk, kindOf, isRoot, over, absent, childRows, opening, groupEnd, closing, inside, firstViolation}
-use Rattle.file_walk.proofs.Answers.{no-attrs}
-use Rattle.file_walk.proofs.Attrs.{leaf-mean}
+use Rattle.file_walk.proofs.violation.Answers.{no-attrs}
+use Rattle.file_walk.proofs.violation.Attrs.{leaf-mean}
 use Rattle.file.specs.Instance.{houseTypes}
 use Rattle.demands.specs.Causes.{AttrsOf, Stands, here, after, behind, within, inner, BadValue, BadAttributes}
 

@@ -24,15 +24,15 @@ use Rattle.value_to_text.specs.Spelled.{Spelled, SpelledByEither}
 use Rattle.value_to_text.proofs.Scripts.{both-rules}
 use Rattle.file_walk.specs.declared.found.Found.the-variants.{Violation}
 use Rattle.file_walk.specs.First.{First, firstViolation}
-use Rattle.file_walk.proofs.Accept as walk
-use Rattle.file_walk.proofs.Judges.{first-one}
-use Rattle.file_walk.proofs.Beginning.{one-element}
+use Rattle.file_walk.proofs.violation.Accept as walk
+use Rattle.file_walk.proofs.violation.Judges.{first-one}
+use Rattle.file_walk.proofs.bytes.Root.{one-element}
 use Rattle.image.specs.Kinds.{values}
 use Rattle.image.specs.Place.{over, foreign, version, broken, whole}
 use Rattle.image.specs.Pick.{refused, missing, found as at}
-use Rattle.image.proofs.Lawful.{lawful}
-use Rattle.image.proofs.Images.{told, image-long}
-use Rattle.image.proofs.Answers.{image-begins}
+use Rattle.image.proofs.types.Lawful.{lawful}
+use Rattle.image.proofs.content.Images.{told, image-long}
+use Rattle.image.proofs.answers.One.{image-begins}
 use Rattle.image_reading.specs.Reads.{stored, HouseAccepts, HouseReads, HousePicks}
 use Rattle.image_reading.proofs.House.{house-reads-some, house-reads-one, house-reads-exactly, house-begins, house-picks-some, house-picks-one}
 use Rattle.image_hold.proofs.Holding.{next-one, next-some}

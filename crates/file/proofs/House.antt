@@ -17,20 +17,20 @@ use Rattle.list.specs.Content.{Content}
 use Rattle.list.specs.Within.{Kept}
 use Rattle.list_house.specs.House.{house}
 use Rattle.list_house.specs.Lists.{stored}
-use Rattle.list.proofs.Words.{firstFrom-none}
-use Rattle.list.proofs.Next.{row-past}
+use Rattle.list.proofs.rows.Words.{firstFrom-none}
+use Rattle.list.proofs.rows.Next.{row-past}
 use Rattle.list_house.proofs.HouseSound.{house-well}
 use Rattle.list_house.proofs.Lists.{asked-kept, house-asked}
 use Rattle.value.specs.Value.{Value}
-use Rattle.value.proofs.Values.{value-laws}
+use Rattle.value.proofs.types.Values.{value-laws}
 use Rattle.value.specs.Spell.{spell}
-use Rattle.value.proofs.Spell.{spell-sound, spell-some, spell-complete}
+use Rattle.value.proofs.types.Spell.{spell-sound, spell-some, spell-complete}
 use Rattle.file_walk.specs.declared.found.Found.the-variants.{Fine}
 use Rattle.file_walk.specs.Types.{Judge, Decides, Spelling}
 use Rattle.file_walk.specs.First.{First}
-use Rattle.file_walk.specs.Machine.{judgeOf, spellerOf, Computes}
-use Rattle.file_walk.proofs.Judges.{computes-decides}
-use Rattle.image.proofs.Lawful.{lawful}
+use Rattle.file_walk.specs.mirror.Machine.{judgeOf, spellerOf, Computes}
+use Rattle.file_walk.proofs.violation.Judges.{computes-decides}
+use Rattle.image.proofs.types.Lawful.{lawful}
 use Rattle.image_reading.specs.Reads.{HouseAccepts, HouseReads}
 use Rattle.image_reading.proofs.House.{house-accepts-one}
 use Rattle.file.specs.Instance.{houseTypes, houseKinds}

@@ -13,8 +13,8 @@ use Rattle.list.specs.Within.{Kept}
 use Rattle.list.proofs.Within.{meets-within}
 use Rattle.image.specs.Image.{Lawful, header, body, image}
 use Rattle.image.specs.Place.{now, Accepts, Reads, whole}
-use Rattle.image.proofs.Within.{image-within}
-use Rattle.image.proofs.Images.{told}
+use Rattle.image.proofs.content.Within.{image-within}
+use Rattle.image.proofs.content.Images.{told}
 use Rattle.file.specs.Instance.{Kinds, valuesOf}
 use Rattle.file.specs.File.{imageOf}
 use Rattle.file.proofs.Accepted.{Taken, written}

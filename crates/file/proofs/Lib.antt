@@ -13,11 +13,11 @@ pub mod Hints
 pub mod Short
 -- all of it for document 01's types and list
 pub mod House
--- codes 1 and 2
-pub mod Saying
 -- a computed test for good trees
 pub mod Trees
 -- some answer fits every file and every buffer
 pub mod Some
 -- document 01's starred examples
 pub mod Stars
+-- codes 1 and 2
+pub mod Early

@@ -21,8 +21,8 @@ use Rattle.file_walk.specs.declared.found.Found.the-variants.{Fine, Violation}
 use Rattle.file_walk.specs.Types.{Judge, Decides, Spelling}
 use Rattle.file_walk.specs.First.{First, firstViolation}
 use Rattle.file_walk.specs.Denotes.{Has}
-use Rattle.file_walk.proofs.Accept as walk
-use Rattle.file_walk.proofs.Judges.{first-one}
+use Rattle.file_walk.proofs.violation.Accept as walk
+use Rattle.file_walk.proofs.violation.Judges.{first-one}
 use Rattle.file.specs.Instance.{Kinds}
 use Rattle.file.specs.File.{Whole, messageIn, File, imageOf}
 use Rattle.file.specs.Checks.{Answers, long, bytes, markup, violation, room, image}

@@ -19,7 +19,7 @@ use Rattle.file_walk.specs.Types.{Spelling}
 use Rattle.file_walk.specs.First.{textOf, isHint, unhinted, currency}
 use Rattle.file_walk.specs.Denotes.{plain, LeafAttrs, Spells as Holds, Denotes, Has}
 use Rattle.image.specs.Image.{Item, header, valueBytes, itemBytes, bytes, image}
-use Rattle.image.proofs.Heads.{header-length}
+use Rattle.image.proofs.answers.Heads.{header-length}
 use Rattle.file.specs.Instance.{Kinds, valuesOf}
 use Rattle.file.specs.File.{File, imageOf}
 

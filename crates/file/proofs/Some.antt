@@ -10,7 +10,7 @@ use lib.ListN.{length, drop, length-drop}
 use Rattle.answer.specs.declared.Answer.{Answer}
 use Rattle.answer.specs.Table.{accepted, limit, tooLong, notUtf8, notHouseXml, noRoom}
 use Rattle.text_characters.specs.Utf8.{LongestUtf8}
-use Rattle.text_characters.specs.Decoding.{decoded}
+use Rattle.text_characters.specs.mirror.Decoding.{decoded}
 use Rattle.text_characters.proofs.Longest.{stop, more}
 use Rattle.list.specs.Listing.{Listing}
 use Rattle.list.specs.WellFormed.{WellFormed}
@@ -19,20 +19,20 @@ use Rattle.list_house.specs.House.{house}
 use Rattle.list_house.proofs.HouseSound.{house-well}
 use Rattle.xml.specs.House.{HouseXml}
 use Rattle.xml.specs.Message.{rootAt}
-use Rattle.xml.specs.Auto.{done, start, first, before, root, declare, name, tail, gap, attr, equals, quote, value, within, slash, content, part, less, close, St, dead, at, run, liveLen}
+use Rattle.xml.specs.mirror.Auto.{done, start, first, before, root, declare, name, tail, gap, attr, equals, quote, value, within, slash, content, part, less, close, St, dead, at, run, liveLen}
 use Rattle.xml.proofs.Theorem as xml
 use Rattle.file_walk.specs.declared.found.Found.{Found}
 use Rattle.file_walk.specs.declared.found.Found.the-variants.{Fine, Violation}
 use Rattle.file_walk.specs.Types.{Judge, Decides, Spelling}
 use Rattle.file_walk.specs.First.{First, firstViolation}
-use Rattle.file_walk.proofs.Accept.{accept}
+use Rattle.file_walk.proofs.violation.Accept.{accept}
 use Rattle.file.specs.Instance.{Kinds, houseKinds}
 use Rattle.file.specs.File.{Whole, messageIn, File, imageOf}
 use Rattle.file.specs.Checks.{Answers, Checks, long, bytes, markup, violation, room, image}
 use Rattle.file.proofs.House.{spelling, houseJudge, deciding}
 use Rattle.file.proofs.One.{answers-one}
-use Rattle.file_walk.proofs.Beginning.{one-element}
-use Rattle.file.proofs.Saying.{says-bytes, all-utf8}
+use Rattle.file_walk.proofs.bytes.Root.{one-element}
+use Rattle.file.proofs.Early.{says-bytes, all-utf8}
 
 -- ---- a longest beginning that is UTF-8
 

@@ -23,25 +23,25 @@ use Rattle.list.specs.Content.{Content as Kept}
 use Rattle.list_house.specs.House.{house}
 use Rattle.list.specs.Test.{every as all, begins}
 use Rattle.list_house.proofs.HouseSound.{house-well}
-use Rattle.list.proofs.Words.{same-eq}
+use Rattle.list.proofs.rows.Words.{same-eq}
 use Rattle.xml.specs.House.{double, Tag, Content, end, piece, empty, full, OneElement, whole}
 use Rattle.xml.specs.Message.{messageOf}
-use Rattle.xml.specs.Auto.{at, start, step, next, lead, run, liveLen}
+use Rattle.xml.specs.mirror.Auto.{at, start, step, next, lead, run, liveLen}
 use Rattle.xml.proofs.Theorem.{longest, refused}
 use Rattle.xml_tags.specs.Story.{events}
 use Rattle.value.specs.Plain.{decimalFrom}
 use Rattle.value.specs.Text.{isRef, isTxt}
-use Rattle.value.specs.Texts.{textFrom}
-use Rattle.value.specs.Reading.{readOf, signedOf, pointOf, wholeOf, fracOf, answer as judged}
+use Rattle.value.specs.mirror.Texts.{textFrom}
+use Rattle.value.specs.mirror.Reading.{readOf, signedOf, pointOf, wholeOf, fracOf, answer as judged}
 use Rattle.list.specs.Table.{placeFrom}
 use Rattle.value.specs.Spell.{spell, frontOff, backOff, passesFrom, dayOf, fractionOf, zoneOf, momentOf}
 use Rattle.value.specs.Value.{Value}
 use Rattle.file_walk.specs.declared.found.Found.{Found}
 use Rattle.file_walk.specs.declared.found.Found.the-variants.{Fine, Violation}
 use Rattle.file_walk.specs.First.{absent, childRows, inside, firstViolation}
-use Rattle.file_walk.specs.Machine.{spellerOf, before, fresh, advance, emits}
-use Rattle.file_walk.proofs.Accept.{accept}
-use Rattle.file_walk.proofs.Items.{items-are}
+use Rattle.file_walk.specs.mirror.Machine.{spellerOf, before, fresh, advance, emits}
+use Rattle.file_walk.proofs.violation.Accept.{accept}
+use Rattle.file_walk.proofs.events.Items.{items-are}
 use Rattle.image.specs.Image.{header, bytes, image}
 use Rattle.image.specs.Kinds.{values}
 use Rattle.file.specs.Instance.{houseTypes, houseKinds}
@@ -51,7 +51,7 @@ use Rattle.file.specs.Checks as checks
 use Rattle.file.specs.Stars.{Buffers, every, from, under, Lent, Star, Shows, stars, times}
 use Rattle.file.proofs.House.{spelling, computing, houseJudge, deciding}
 use Rattle.file.proofs.Trees.{contentTest, rootTree, tree-good, asciiTest, ascii-utf8, not-is}
-use Rattle.file_walk.proofs.Beginning.{one-element}
+use Rattle.file_walk.proofs.bytes.Root.{one-element}
 use Rattle.file.proofs.Some.{isDone}
 
 -- ---- the test of a row

@@ -13,8 +13,8 @@ use Rattle.text_characters.specs.Utf8.{Scalar, encode, encodeAll, Utf8}
 use Rattle.text_characters.specs.Pieces.{less, ampersand, low, Piece, char, entity, GoodPiece}
 use Rattle.text.proofs.Classes.{and-is}
 use Rattle.list.specs.Test.{every, begins}
-use Rattle.list.proofs.Tests.{clash}
-use Rattle.list.proofs.Sound.{every-is, begins-is}
+use Rattle.list.proofs.sound.Tests.{clash}
+use Rattle.list.proofs.sound.Sound.{every-is, begins-is}
 use Rattle.xml.specs.House.{Quote, mark, GoodValue, IsAttrName, Attr, GoodAttr, GoodAttrs, Tag, GoodTag, Content, end, piece, empty, full, cut, Good, OneElement, Tree, GoodTree}
 
 pub not-is : (b : Bool) → not b ≡ true → b ≡ false

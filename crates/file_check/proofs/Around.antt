@@ -12,10 +12,10 @@ use Rattle.text.specs.Lists.{same}
 use Rattle.list.specs.Listing.{Listing, rowAt, size, Child, child}
 use Rattle.list.specs.Table.{cell, nameIn, listOf}
 use Rattle.list.specs.Sound.{nextChild}
-use Rattle.list.proofs.Words.{same-eq, same-of}
-use Rattle.list.proofs.Rows.{size-is, name-is}
-use Rattle.list.proofs.Next.{next-child, no-child}
-use Rattle.list.proofs.Child.{child-found, child-is}
+use Rattle.list.proofs.rows.Words.{same-eq, same-of}
+use Rattle.list.proofs.rows.Rows.{size-is, name-is}
+use Rattle.list.proofs.rows.Next.{next-child, no-child}
+use Rattle.list.proofs.rows.Child.{child-found, child-is}
 use Rattle.file_check.specs.Fill.{roundIn, Comes}
 
 -- how far it is from row r to row x, once around where x is before r: no list has 1000 rows

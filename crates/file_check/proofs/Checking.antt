@@ -13,7 +13,7 @@ use Rattle.list.specs.Listing.{Listing}
 use Rattle.list.specs.Table.{listOf}
 use Rattle.list.specs.Content.{Content}
 use Rattle.list_house.specs.House.{house}
-use Rattle.list_house.specs.HouseTable.{houseRows, housePool}
+use Rattle.list_house.specs.mirror.HouseTable.{houseRows, housePool}
 use Rattle.value.specs.Value.{Value}
 use Rattle.file.specs.Instance.{houseKinds}
 use Rattle.file.specs.File.{File, imageOf}
@@ -22,7 +22,7 @@ use Rattle.file.proofs.House.{image-no-longer, good-fine}
 use Rattle.file.proofs.Accepted.{Taken, taken}
 use Rattle.file_measure.specs.Measured.{Faultless}
 use Rattle.file_measure.specs.Pass.{Ready}
-use Rattle.file_measure.proofs.Saying.{list-is, house-ready}
+use Rattle.file_measure.proofs.Finds.{list-is, house-ready}
 use Rattle.file_check.specs.Fill.{FilledIn}
 
 -- a list written at the start of a buffer that it fits in

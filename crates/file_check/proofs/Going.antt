@@ -19,14 +19,14 @@ use Rattle.text_characters.specs.Pieces.{less, greater, solidus}
 use Rattle.list.specs.Listing.{Listing, rowAt, size, Child, child, isGroup}
 use Rattle.list.specs.Table.{cell, listOf}
 use Rattle.list.specs.Sound.{Sound}
-use Rattle.list.proofs.Along.{child-along}
-use Rattle.list.proofs.Rows.{size-is, parent-is}
+use Rattle.list.proofs.rows.Along.{child-along}
+use Rattle.list.proofs.rows.Rows.{size-is, parent-is}
 use Rattle.xml.specs.House.{HouseXml}
 use Rattle.xml.specs.Message.{messageOf}
 use Rattle.xml_tags.specs.declared.token.Kind.the-variants.{Close}
 use Rattle.xml_tags.specs.declared.token.Token.{Token}
 use Rattle.xml_tags.specs.Marks.{but, headIs, behind}
-use Rattle.xml_tags.specs.Tokens.{openAt}
+use Rattle.xml_tags.specs.mirror.Tokens.{openAt}
 use Rattle.xml_tags.specs.Story.{events, tokenIn}
 use Rattle.file_walk.specs.declared.found.Found.the-variants.{Fine, Violation}
 use Rattle.file_walk.specs.declared.step.Here.{Here}
@@ -34,16 +34,16 @@ use Rattle.file_walk.specs.declared.step.Met.the-variants.{Opened, Closed}
 use Rattle.file_walk.specs.declared.step.Turn.{Turn}
 use Rattle.file_walk.specs.Types.{Spelling}
 use Rattle.file_walk.specs.First.{First}
-use Rattle.file_walk.specs.Machine.{Speller, judgeOf, spellerOf, before, advance, run}
+use Rattle.file_walk.specs.mirror.Machine.{Speller, judgeOf, spellerOf, before, advance, run}
 use Rattle.file_walk.specs.Numbers.{isGroupIn}
-use Rattle.file_walk.specs.Tables.{levels}
-use Rattle.file_walk.specs.Stride.{rowIn, inner, stepIn, stackIn}
-use Rattle.file_walk.specs.Begin.{beginIn}
-use Rattle.file_walk.proofs.Sound.{Placed, group-in}
-use Rattle.file_walk.proofs.Own.{Coins}
-use Rattle.file_walk.proofs.Judges.{first-one}
-use Rattle.file_walk.proofs.Turned.{Nested, Enters, Leaves, refused, opened, closed, whole, Starts, denied, starts, finds}
-use Rattle.file_walk.proofs.Known.{less-is, is-open, close-end, blanks-less, Went, goesOn, known, there, by-close, by-open, opened-here, closed-here}
+use Rattle.file_walk.specs.mirror.Tables.{levels}
+use Rattle.file_walk.specs.mirror.Stride.{rowIn, inner, stepIn, stackIn}
+use Rattle.file_walk.specs.mirror.Begin.{beginIn}
+use Rattle.file_walk.proofs.bytes.Sound.{Placed, group-in}
+use Rattle.file_walk.proofs.bytes.Own.{Coins}
+use Rattle.file_walk.proofs.violation.Judges.{first-one}
+use Rattle.file_walk.proofs.bytes.Stands.{Nested, Enters, Leaves, refused, opened, closed, whole, Starts, denied, starts, finds}
+use Rattle.file_walk.proofs.bytes.Known.{less-is, is-open, close-end, blanks-less, Went, goesOn, known, there, by-close, by-open, opened-here, closed-here}
 use Rattle.image.specs.Image.{header}
 use Rattle.file.specs.Instance.{Kinds}
 use Rattle.file_check.specs.declared.fill.Spot.{Spot}

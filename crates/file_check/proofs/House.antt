@@ -19,12 +19,12 @@ use Rattle.list.specs.Sound.{Sound}
 use Rattle.xml.specs.House.{HouseXml}
 use Rattle.xml_tags.specs.declared.token.Token.{Token}
 use Rattle.xml_tags.specs.Marks.{but, headIs, behind}
-use Rattle.xml_tags.specs.Tokens.{openAt}
+use Rattle.xml_tags.specs.mirror.Tokens.{openAt}
 use Rattle.file_walk.specs.declared.step.Turn.{Turn}
 use Rattle.xml_tags.specs.declared.skim.Tag.{Tag}
-use Rattle.xml_tags.specs.Skimmed.{tagOf}
+use Rattle.xml_tags.specs.mirror.Skimmed.{tagOf}
 use Rattle.file_walk.specs.Numbers.{isGroupIn}
-use Rattle.file_walk.specs.Begin.{beginIn}
+use Rattle.file_walk.specs.mirror.Begin.{beginIn}
 use Rattle.image.specs.Image.{header}
 use Rattle.file.specs.Instance.{houseKinds}
 use Rattle.file.proofs.House.{spelling}

@@ -13,9 +13,9 @@ use Rattle.list.specs.Listing.{Leaf, ref, iban, ccy, bool, num, amt, date, dtm,
 use Rattle.list.specs.WellFormed.{LeafOk}
 use Rattle.value.specs.Text.{isTxt, isRef}
 use Rattle.value.specs.Value.{Value, IsValue}
-use Rattle.value.proofs.Classes.{Solid, each-all, each-map}
-use Rattle.value.proofs.Trim.{Dense}
-use Rattle.value.proofs.Named.{reference, writing}
+use Rattle.value.proofs.classes.Classes.{Solid, each-all, each-map}
+use Rattle.value.proofs.raw.Trim.{Dense}
+use Rattle.value.proofs.classes.Named.{reference, writing}
 use Rattle.value_to_text.specs.Script.{scriptOf}
 use Rattle.value_to_text.proofs.Scripts.{script-dense}
 

@@ -21,7 +21,7 @@ use Rattle.xml.specs.Message.{messageOf}
 use Rattle.xml.proofs.Unique.{tree-one}
 use Rattle.xml.proofs.Coded.{house-utf8}
 use Rattle.file_walk.specs.Denotes.{Has}
-use Rattle.file_walk.proofs.Accept as walk
+use Rattle.file_walk.proofs.violation.Accept as walk
 use Rattle.image_reading.specs.Reads.{HouseAccepts}
 use Rattle.image_reading.proofs.House.{only, house-begins}
 use Rattle.file.specs.Instance.{houseTypes, houseKinds}

@@ -17,11 +17,11 @@ use Rattle.text_characters.proofs.Unmarked.{unmarked}
 use Rattle.list.specs.Listing.{Leaf, Kind, group, choice, leaf, Listing, rowAt, Child}
 use Rattle.list.specs.Sound.{level}
 use Rattle.list.specs.WellFormed.{WellFormed, LeafOk, KindOk}
-use Rattle.list.proofs.Levels.{level-root, level-child, level-bound}
+use Rattle.list.proofs.rows.Levels.{level-root, level-child, level-bound}
 use Rattle.list.specs.Content.{Content, end, value, node, rows, Good, Meets, ValueOf}
 use Rattle.value.specs.Rules.{InThousandths}
 use Rattle.value.specs.Value.{Value, IsValue, Spelt}
-use Rattle.value.proofs.Classes.{each-all}
+use Rattle.value.proofs.classes.Classes.{each-all}
 use Rattle.xml.specs.House.{IsName, IsAttrName, double, GoodValue, GoodAttr, GoodTag, Content as Tags, end as over, piece, empty, full, render, isChar, begins, behind, cut, Good as Fine, GoodTree}
 use Rattle.value_to_text.specs.Script.{scriptOf, currencyOf}
 use Rattle.value_to_text.specs.Raw.{pieceOf, rawOf}

@@ -16,7 +16,7 @@ use Rattle.list.specs.Content.{Content, end, value, node, rows, items, Good, Me
 use Rattle.value.specs.Value.{Value, IsValue}
 use Rattle.xml.specs.House.{tag, render}
 use Rattle.file_letter.specs.Letter.{textIn, attrOf, tagOf, coinOf, wordsIn, treeIn, letterOf}
-use Rattle.file_letter.specs.Tell.{opens, shuts, closes, tell}
+use Rattle.file_letter.specs.mirror.Tell.{opens, shuts, closes, tell}
 
 module _ (l : Listing) (wf : WellFormed l) where
   -- how much fuel there is changes nothing, if it is enough

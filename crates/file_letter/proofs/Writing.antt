@@ -18,7 +18,7 @@ use Rattle.value_to_text.specs.Spelled.{Spelled}
 use Rattle.image.specs.Image.{header}
 use Rattle.image.specs.Kinds.{values}
 use Rattle.image.specs.Place.{Front, now, whole as read}
-use Rattle.image.proofs.Answers.{accepting}
+use Rattle.image.proofs.answers.One.{accepting}
 use Rattle.image_reading.specs.Reads.{stored, HouseAccepts, HouseReads}
 use Rattle.image_reading.proofs.House.{only, house-accepts-one, house-reads-one, house-reads-some}
 use Rattle.file.specs.Checks.{Checks}

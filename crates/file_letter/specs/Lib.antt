@@ -5,5 +5,5 @@ pub mod Letter
 pub mod Stale
 -- what writing answers, and what it leaves in the buffer
 pub mod Writes
--- a mirror: how it is told, item by item
-pub mod Tell
+-- mirrors, which say how the code goes
+pub mod mirror

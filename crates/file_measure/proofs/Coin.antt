@@ -13,10 +13,10 @@ use Rattle.text.proofs.Classes.{and-is}
 use Rattle.list.specs.Listing.{ccy}
 use Rattle.value.specs.Code.{Ccy}
 use Rattle.value.specs.Value.{Value, text, Form, currency}
-use Rattle.value.proofs.Codes.{ccy-last}
-use Rattle.file_walk.specs.Stride.{isCurrency}
-use Rattle.file_walk.proofs.Answers.{iff-same}
-use Rattle.file_walk.proofs.Own.{Coins, coins-of}
+use Rattle.value.proofs.classes.Codes.{ccy-last}
+use Rattle.file_walk.specs.mirror.Stride.{isCurrency}
+use Rattle.file_walk.proofs.violation.Answers.{iff-same}
+use Rattle.file_walk.proofs.bytes.Own.{Coins, coins-of}
 use Rattle.file.proofs.House.{houseJudge, deciding}
 
 -- three capitals, tested and defined

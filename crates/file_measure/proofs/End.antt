@@ -11,10 +11,10 @@ use Rattle.list.specs.Content.{Content}
 use Rattle.xml.specs.Message.{Parts, messageOf}
 use Rattle.file_walk.specs.declared.found.Found.the-variants.{Fine, Violation}
 use Rattle.file_walk.specs.Types.{Spelling}
-use Rattle.file_walk.proofs.Accept.{unique}
+use Rattle.file_walk.proofs.violation.Accept.{unique}
 use Rattle.file.specs.Instance.{Kinds}
 use Rattle.file.specs.File.{imageOf}
-use Rattle.file_walk.proofs.Judges.{first-one}
+use Rattle.file_walk.proofs.violation.Judges.{first-one}
 use Rattle.file.proofs.One.{fine-found}
 use Rattle.file_measure.specs.Measured as measured
 use Rattle.file_measure.specs.Measured.{Says, Message}

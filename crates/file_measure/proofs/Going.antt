@@ -18,7 +18,7 @@ use Rattle.list.specs.WellFormed.{LeafOk, KindOk}
 use Rattle.list.specs.Content.{Content, items, Meets}
 use Rattle.list.specs.Table.{listOf}
 use Rattle.list.specs.Sound.{Sound}
-use Rattle.list.proofs.Rows.{size-is, kind-is}
+use Rattle.list.proofs.rows.Rows.{size-is, kind-is}
 use Rattle.xml.specs.House.{HouseXml}
 use Rattle.xml.specs.Message.{Attrs, rootAt, messageOf}
 use Rattle.xml_tags.specs.Story.{Event, events}
@@ -32,20 +32,20 @@ use Rattle.file_walk.specs.declared.step.Turn.{Turn}
 use Rattle.file_walk.specs.Types.{Spelling}
 use Rattle.file_walk.specs.First.{First, refuse, orElse, currency}
 use Rattle.file_walk.specs.Denotes.{Has}
-use Rattle.file_walk.specs.Machine.{Speller, isNone, judgeOf, spellerOf, Computes, before, advance, opens, closes, run, emits}
-use Rattle.file_walk.specs.Stride.{stepIn, stackIn}
-use Rattle.file_walk.specs.Begin.{beginIn}
-use Rattle.file_walk.proofs.Answers.{kinds}
-use Rattle.file_walk.proofs.Judges.{computes-decides}
-use Rattle.file_walk.proofs.Sound.{Placed}
-use Rattle.file_walk.proofs.Joint.{judged}
-use Rattle.file_walk.proofs.Own.{Coins}
-use Rattle.file_walk.proofs.Turning.{turned, judged-group}
-use Rattle.list.proofs.Tests.{byCases}
-use Rattle.file_walk.proofs.Beginning.{one-element, began, first-is}
-use Rattle.file_walk.proofs.Accept.{accept}
-use Rattle.file_walk.proofs.Items.{opens-group, closes-group, items-are}
-use Rattle.file_walk.proofs.Turned.{Stands, Nested, Enters, Leaves, Ends, Turned, refused, opened, closed, whole, Starts, Began, denied, starts, finds, hands}
+use Rattle.file_walk.specs.mirror.Machine.{Speller, isNone, judgeOf, spellerOf, Computes, before, advance, opens, closes, run, emits}
+use Rattle.file_walk.specs.mirror.Stride.{stepIn, stackIn}
+use Rattle.file_walk.specs.mirror.Begin.{beginIn}
+use Rattle.file_walk.proofs.violation.Answers.{kinds}
+use Rattle.file_walk.proofs.violation.Judges.{computes-decides}
+use Rattle.file_walk.proofs.bytes.Sound.{Placed}
+use Rattle.file_walk.proofs.bytes.Joint.{judged}
+use Rattle.file_walk.proofs.bytes.Own.{Coins}
+use Rattle.file_walk.proofs.bytes.OneStep.{turned, judged-group}
+use Rattle.list.proofs.sound.Tests.{byCases}
+use Rattle.file_walk.proofs.bytes.Root.{one-element, began, first-is}
+use Rattle.file_walk.proofs.violation.Accept.{accept}
+use Rattle.file_walk.proofs.events.Items.{opens-group, closes-group, items-are}
+use Rattle.file_walk.proofs.bytes.Stands.{Stands, Nested, Enters, Leaves, Ends, Turned, refused, opened, closed, whole, Starts, Began, denied, starts, finds, hands}
 use Rattle.image.specs.Image.{bytes, itemBytes, valueBytes, header, image}
 use Rattle.file.specs.Instance.{Kinds, valuesOf}
 use Rattle.file.specs.File.{imageOf}

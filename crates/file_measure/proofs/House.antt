@@ -19,8 +19,8 @@ use Rattle.file_walk.specs.declared.step.Here.{Here}
 use Rattle.file_walk.specs.declared.step.Met.{Met}
 use Rattle.file_walk.specs.declared.step.Met.the-variants.{Opened, Closed, Refused, Lost}
 use Rattle.file_walk.specs.declared.step.Turn.{Turn}
-use Rattle.file_walk.specs.Stride.{stepIn, stackIn}
-use Rattle.file_walk.specs.Begin.{beginIn}
+use Rattle.file_walk.specs.mirror.Stride.{stepIn, stackIn}
+use Rattle.file_walk.specs.mirror.Begin.{beginIn}
 use Rattle.image.specs.Image.{header}
 use Rattle.file.specs.Instance.{houseKinds}
 use Rattle.file_measure.specs.Measured.{Measured}

@@ -1,6 +1,4 @@
 -- What the proofs of `file_measure` share.
--- an answer, from what the calls told
-pub mod Saying
 -- the first bytes of an image
 pub mod Head
 -- where a pass stands, and what each step adds
@@ -15,3 +13,5 @@ pub mod End
 pub mod Coin
 -- a pass with document 01's types
 pub mod House
+-- an answer, from what the calls told
+pub mod Finds

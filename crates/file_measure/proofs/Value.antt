@@ -18,15 +18,15 @@ use Rattle.text.proofs.Pasting.{length-pasted}
 use Rattle.text.proofs.Puts.{puts-none, puts-pasted, puts-as}
 use Rattle.text_characters.proofs.Spelling.{one-text}
 use Rattle.list.specs.Listing.{Leaf, ref, enum, Kind, group, choice, leaf, isGroup}
-use Rattle.list.proofs.Codes.{group-is}
+use Rattle.list.proofs.rows.Codes.{group-is}
 use Rattle.list.specs.WellFormed.{LeafOk}
 use Rattle.list.specs.Table.{cell, byteOf, placeIn, kindOf, wordsIn}
-use Rattle.list.proofs.Places.{place-found, place-none, byte-near}
+use Rattle.list.proofs.words.Places.{place-found, place-none, byte-near}
 use Rattle.value.specs.Code.{Ccy, WordAt}
 use Rattle.value.specs.Kind.{code, Given}
 use Rattle.value.specs.Value.{Value, text, place, Form, reference, writing, account, currency, listed, either, count, money, dated, timed, Spelt, bytes}
-use Rattle.value.proofs.Rights.{word-spelt, spelt-word}
-use Rattle.value.proofs.Values.{value-laws}
+use Rattle.value.proofs.types.Rights.{word-spelt, spelt-word}
+use Rattle.value.proofs.types.Values.{value-laws}
 use Rattle.file_walk.specs.Numbers.{isGroupIn}
 use Rattle.value_to_bytes.specs.Giving.{Counted, Gives, Sized, Written}
 use Rattle.value_to_bytes.specs.Giving as giving

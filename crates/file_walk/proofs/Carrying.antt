@@ -13,16 +13,16 @@ use Rattle.text_characters.specs.Pieces.{Spells}
 use Rattle.text_characters.proofs.Unmarked.{unmarked-same}
 use Rattle.list.specs.Table.{listOf}
 use Rattle.list.specs.Sound.{Sound}
-use Rattle.list.proofs.Words.{same-eq, same-of}
+use Rattle.list.proofs.rows.Words.{same-eq, same-of}
 use Rattle.xml.specs.Message.{Attrs}
 use Rattle.xml_tags.specs.declared.attribute.Attribute.{Attribute}
-use Rattle.xml_tags.specs.Attributes.{attributeAt}
+use Rattle.xml_tags.specs.mirror.Attributes.{attributeAt}
 use Rattle.xml_tags.specs.Story.{attributeIn, Finds}
 use Rattle.file_walk.specs.declared.hints.Carried.{Carried}
 use Rattle.file_walk.specs.First.{only, carries, unhinted, rootAttrs, noAttrs}
-use Rattle.file_walk.specs.Stride.{named}
-use Rattle.file_walk.specs.Begin.{spaceIn, noted, notedIn, nothing, carriedIn, allowed}
-use Rattle.file_walk.proofs.Answers.{iff-same}
+use Rattle.file_walk.specs.mirror.Stride.{named}
+use Rattle.file_walk.specs.mirror.Begin.{spaceIn, noted, notedIn, nothing, carriedIn, allowed}
+use Rattle.file_walk.proofs.violation.Answers.{iff-same}
 
 or-yes : (b : Bool) → (b || true) ≡ true
 or-yes true = refl

@@ -7,13 +7,7 @@ pub mod First
 pub mod Denotes
 -- kinds by their numbers
 pub mod Numbers
--- a mirror: the same walk over tags and characters, with five numbers for each open element
-pub mod Machine
--- a mirror: its numbers and tests over the cells of two tables
-pub mod Tables
--- a mirror: one step over bytes and tables
-pub mod Stride
--- a mirror: the root's tag
-pub mod Begin
 -- messages against the house list, with their first violations
 pub mod Example
+-- mirrors, which say how the code goes
+pub mod mirror

@@ -10,7 +10,7 @@ use xml_tags::attribute::Attribute;
 ghost use mathlib.Core.Path.{_≡_};
 ghost use lib.Seq.{slice};
 ghost use Rattle.text.specs.Bytes.{ascii};
-ghost use Rattle.file_walk.specs.Stride.{isCurrency, named, ownIn};
+ghost use Rattle.file_walk.specs.mirror.Stride.{isCurrency, named, ownIn};
 
 const CCY: [u8; 3] = *b"Ccy";
 

@@ -16,7 +16,7 @@ use xml_tags::token::Kind;
 use xml_tags::token::opening;
 use xml_tags::token::start;
 ghost use mathlib.Core.Path.{_≡_};
-ghost use Rattle.file_walk.specs.Begin.{isFirstIn, isRootIn, rootedIn, hollowIn, beginIn};
+ghost use Rattle.file_walk.specs.mirror.Begin.{isFirstIn, isRootIn, rootedIn, hollowIn, beginIn};
 
 // Whether s from a to b is row 1's name.
 fn is_first(rows: &[u16], pool: &[u8], s: &[u8], a: usize, b: usize) -> bool

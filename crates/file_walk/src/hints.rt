@@ -7,8 +7,8 @@ use xml_tags::attribute::attribute_at;
 ghost use mathlib.Core.Bool.{_&&_, not};
 ghost use mathlib.Core.Path.{_≡_};
 ghost use Rattle.text.specs.Bytes.{ascii};
-ghost use Rattle.file_walk.specs.Stride.{named};
-ghost use Rattle.file_walk.specs.Begin.{spaceIn, notedIn, nothing, carriedIn, allowed};
+ghost use Rattle.file_walk.specs.mirror.Stride.{named};
+ghost use Rattle.file_walk.specs.mirror.Begin.{spaceIn, notedIn, nothing, carriedIn, allowed};
 
 const XMLNS: [u8; 5] = *b"xmlns";
 

@@ -6,8 +6,8 @@ use list::table::MATE;
 use list::table::PAIR;
 ghost use mathlib.Core.Path.{_≡_};
 ghost use Prim.Native.Nat.{_<_};
-ghost use Rattle.file_walk.specs.Machine.{misses};
-ghost use Rattle.file_walk.specs.Tables.{freshIn, advanceIn, nextIn, oddIn, bit, levelAt, pushed};
+ghost use Rattle.file_walk.specs.mirror.Machine.{misses};
+ghost use Rattle.file_walk.specs.mirror.Tables.{freshIn, advanceIn, nextIn, oddIn, bit, levelAt, pushed};
 
 // Its row, the place of its `<`, the row of its last child (0: none yet), its lowest required child that has not come (0: none), and
 // whether a row of a rule has come for good without the other.

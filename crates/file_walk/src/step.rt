@@ -20,7 +20,7 @@ use xml_tags::token::Kind;
 use xml_tags::token::next;
 ghost use mathlib.Core.Path.{_≡_};
 ghost use Prim.Native.Nat.{_<_};
-ghost use Rattle.file_walk.specs.Stride.{textFrom, inkFrom, endIn, refusedAt, lostAt, outer, closedIn, rowIn, enteredIn, belowIn, vacantIn, numberOf, stepIn, stackIn};
+ghost use Rattle.file_walk.specs.mirror.Stride.{textFrom, inkFrom, endIn, refusedAt, lostAt, outer, closedIn, rowIn, enteredIn, belowIn, vacantIn, numberOf, stepIn, stackIn};
 
 // Where the walk stands: the innermost open element, how many are around it (they are on the stack), the place behind the last tag, and
 // where that tag's first attribute has its value.

@@ -11,7 +11,7 @@ use list::table::OPTIONAL;
 use list::table::PAIR;
 ghost use mathlib.Core.Path.{_≡_};
 ghost use Rattle.file_walk.specs.Numbers.{isGroupIn};
-ghost use Rattle.file_walk.specs.Tables.{passedIn, againIn, openingIn, brokenIn, groupEndIn};
+ghost use Rattle.file_walk.specs.mirror.Tables.{passedIn, againIn, openingIn, brokenIn, groupEndIn};
 
 // Whether a kind is a group's or a choice's: what is no leaf's number is.
 pub fn is_group(kind: usize) -> bool

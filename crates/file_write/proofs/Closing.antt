@@ -7,11 +7,11 @@ use native.Mathlib.Omega.{arith}
 use lib.ListN.{length, length-append}
 use Rattle.list.specs.Listing.{Listing, size, rowAt, Child}
 use Rattle.list.specs.Table.{cell, nameIn, listOf}
-use Rattle.list.proofs.Rows.{size-is, parent-is}
-use Rattle.file_letter.specs.Tell.{shuts, closes}
+use Rattle.list.proofs.rows.Rows.{size-is, parent-is}
+use Rattle.file_letter.specs.mirror.Tell.{shuts, closes}
 use Rattle.file_letter.proofs.Telling.{same-group, no-group, one-up}
 use Rattle.text.specs.Puts.{Puts}
-use Rattle.file_write.specs.Tags.{shutIn, Opened}
+use Rattle.file_write.specs.mirror.Tags.{shutIn, Opened}
 use Rattle.text.proofs.Puts.{puts-none, puts-then, puts-as}
 use Rattle.file_write.proofs.Putting.{part-most}
 use Rattle.file_write.proofs.Tagging.{shut-is}

@@ -19,25 +19,25 @@ use Rattle.list.specs.WellFormed.{LeafOk, KindOk}
 use Rattle.list.specs.Content.{Content, end, value, node, rows, items, Good, Meets}
 use Rattle.list.specs.Table.{cell, kindOf, wordsIn, listOf}
 use Rattle.list.specs.Sound.{wordCount, Sound}
-use Rattle.list.proofs.Rows.{size-is, parent-is, kind-is}
+use Rattle.list.proofs.rows.Rows.{size-is, parent-is, kind-is}
 use Rattle.value.specs.Value.{Value, IsValue, bytes as valued}
 use Rattle.value_to_text.specs.Script.{scriptOf}
 use Rattle.value_from_bytes.specs.Stands.{taken}
-use Rattle.value_from_bytes.specs.Ends.{valueEnd}
+use Rattle.value_from_bytes.specs.mirror.Ends.{valueEnd}
 use Rattle.value_from_bytes.proofs.Meaning.{ends-one}
 use Rattle.xml.specs.House.{render}
 use Rattle.image.specs.Image.{Item, valueBytes, bytes, body}
 use Rattle.image.specs.Kinds.{values}
 use Rattle.image.specs.Place.{Holds}
-use Rattle.image.specs.Follow.{OfKind, ItemOk}
+use Rattle.image.specs.mirror.Follow.{OfKind, ItemOk}
 use Rattle.file_walk.specs.Numbers.{isGroupIn}
-use Rattle.file_walk.proofs.Sound.{group-in}
+use Rattle.file_walk.proofs.bytes.Sound.{group-in}
 use Rattle.file_letter.specs.Letter.{textIn, coinOf, wordsIn as inWords, letterOf}
-use Rattle.file_letter.specs.Tell.{opens, shuts, closes, tell}
+use Rattle.file_letter.specs.mirror.Tell.{opens, shuts, closes, tell}
 use Rattle.file_letter.proofs.Has.{rooted}
 use Rattle.file_letter.proofs.Telling.{letter-told}
-use Rattle.file_write.specs.Tags.{startIn, openIn, shutIn, rootIn, Opened}
-use Rattle.file_write.specs.Emit.{coinText, ValueAt, leafIn, LeafPut, Held, Emits}
+use Rattle.file_write.specs.mirror.Tags.{startIn, openIn, shutIn, rootIn, Opened}
+use Rattle.file_write.specs.mirror.Emit.{coinText, ValueAt, leafIn, LeafPut, Held, Emits}
 use Rattle.file_write.proofs.Standing.{Standing, kids, is-root, stand-first, stand-start, stand-in, stand-end, Ahead, ahead, row-parent, row-parent-in, group-none, group-after, Leafed, leafed, value-at, end-is, leaf-after}
 use Rattle.file_write.proofs.Tagging.{closes-most, open-most, root-most, open-is, shut-is, root-is, leaf-open}
 

@@ -19,12 +19,12 @@ use Rattle.list.specs.Table.{cell, kindOf, nameIn, wordsIn}
 use Rattle.value.specs.Value.{Value, IsValue, bytes}
 use Rattle.value_to_text.specs.Script.{scriptOf}
 use Rattle.value_to_text.specs.Raw.{rawOf}
-use Rattle.value_to_text.specs.Stored.{rawAt}
+use Rattle.value_to_text.specs.mirror.Stored.{rawAt}
 use Rattle.value_to_text.proofs.Meaning.{currency-first, put-value}
 use Rattle.value_from_bytes.proofs.Numbered.{by-kind}
 use Rattle.file_letter.proofs.Good.{text-raw}
-use Rattle.file_write.specs.Tags.{startIn, openIn, shutIn, coinIn}
-use Rattle.file_write.specs.Emit.{coinText, coinAt, ValueAt, leafIn}
+use Rattle.file_write.specs.mirror.Tags.{startIn, openIn, shutIn, coinIn}
+use Rattle.file_write.specs.mirror.Emit.{coinText, coinAt, ValueAt, leafIn}
 use Rattle.file_write.proofs.Putting.{part-most}
 
 spread : (a b c e : List ℕ) → (a ++ (b ++ c)) ++ e ≡ a ++ (b ++ (c ++ e))

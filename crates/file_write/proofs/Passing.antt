@@ -20,15 +20,15 @@ use Rattle.list.specs.Sound.{Sound}
 use Rattle.value.specs.Value.{Value, text, place, truth, natural, amount, day, moment, IsValue, bytes as valued}
 use Rattle.value.specs.Rules.{InThousandths}
 use Rattle.value.specs.Kind.{code}
-use Rattle.value_from_bytes.specs.Ends.{valueEnd}
+use Rattle.value_from_bytes.specs.mirror.Ends.{valueEnd}
 use Rattle.value_to_text.proofs.Meaning.{kind-number}
 use Rattle.image.specs.Image.{Item, valueBytes, itemBytes, bytes}
 use Rattle.image.specs.Kinds.{values}
 use Rattle.image.specs.Place.{Holds}
-use Rattle.file_walk.specs.Tables.{isGroupIn}
+use Rattle.file_walk.specs.mirror.Tables.{isGroupIn}
 use Rattle.file_letter.specs.Stale.{NoneOf, FirstAt, Finer}
-use Rattle.file_write.specs.Emit.{Held, ValueAt}
-use Rattle.file_write.specs.Stale.{finerBy, FirstFiner, clear, found, Stale}
+use Rattle.file_write.specs.mirror.Emit.{Held, ValueAt}
+use Rattle.file_write.specs.mirror.Stale.{finerBy, FirstFiner, clear, found, Stale}
 use Rattle.file_write.proofs.Standing.{Standing, kids, is-root, stand-first, stand-start, stand-in, stand-end, Ahead, ahead, group-none, group-after, Leafed, leafed, value-at, end-is, leaf-after}
 
 -- ---- what is asked of a value's bytes

@@ -15,19 +15,19 @@ use Rattle.list.specs.WellFormed.{LeafOk, KindOk}
 use Rattle.list.specs.Content.{Content, end, value, node, rows, items, Good, Meets}
 use Rattle.list.specs.Table.{cell, kindOf, wordsIn, listOf}
 use Rattle.list.specs.Sound.{wordCount, Sound}
-use Rattle.list.proofs.Rows.{size-is, parent-is, kind-is}
+use Rattle.list.proofs.rows.Rows.{size-is, parent-is, kind-is}
 use Rattle.value.specs.Value.{Value, IsValue, bytes as valued}
 use Rattle.value_from_bytes.specs.Stands.{taken}
-use Rattle.value_from_bytes.specs.Ends.{valueEnd}
+use Rattle.value_from_bytes.specs.mirror.Ends.{valueEnd}
 use Rattle.value_from_bytes.proofs.Meaning.{ends-one}
 use Rattle.image.specs.Image.{Item, valueBytes, bytes, body}
 use Rattle.image.specs.Kinds.{values}
 use Rattle.image.specs.Place.{Holds}
-use Rattle.image.specs.Follow.{OfKind, ItemOk}
-use Rattle.file_walk.specs.Tables.{isGroupIn}
-use Rattle.file_walk.proofs.Sound.{group-in}
+use Rattle.image.specs.mirror.Follow.{OfKind, ItemOk}
+use Rattle.file_walk.specs.mirror.Tables.{isGroupIn}
+use Rattle.file_walk.proofs.bytes.Sound.{group-in}
 use Rattle.file_letter.proofs.Has.{rooted}
-use Rattle.file_write.specs.Emit.{ValueAt}
+use Rattle.file_write.specs.mirror.Emit.{ValueAt}
 
 each-both : {A : Type 0} (P : A → Type 0) (a b : List A) → Each P a → Each P b → Each P (a ++ b)
 each-both P [] b h k = k

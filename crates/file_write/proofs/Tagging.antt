@@ -18,14 +18,14 @@ use Rattle.text_characters.specs.Pieces.{spells}
 use Rattle.list.specs.Listing.{Leaf, Row, Listing, size, rowAt}
 use Rattle.list.specs.WellFormed.{WellFormed}
 use Rattle.list.specs.Table.{cell, nameIn, listOf}
-use Rattle.list.proofs.Rows.{size-is, name-is}
-use Rattle.list.proofs.Next.{row-past}
+use Rattle.list.proofs.rows.Rows.{size-is, name-is}
+use Rattle.list.proofs.rows.Next.{row-past}
 use Rattle.value.specs.Value.{Value, IsValue}
-use Rattle.value.proofs.Classes.{each-all}
+use Rattle.value.proofs.classes.Classes.{each-all}
 use Rattle.file_letter.specs.Letter.{plainly, attrOf, coinOf}
-use Rattle.file_letter.specs.Tell.{opens, shuts, closes}
-use Rattle.file_write.specs.Tags.{startIn, openIn, shutIn, rootIn, coinIn}
-use Rattle.file_write.specs.Emit.{coinText}
+use Rattle.file_letter.specs.mirror.Tell.{opens, shuts, closes}
+use Rattle.file_write.specs.mirror.Tags.{startIn, openIn, shutIn, rootIn, coinIn}
+use Rattle.file_write.specs.mirror.Emit.{coinText}
 use Rattle.file_write.proofs.Putting.{part-most}
 
 -- ---- attribute values are written as they stand

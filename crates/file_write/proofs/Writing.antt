@@ -13,7 +13,7 @@ use Rattle.text.proofs.Pasting.{pasted-yes}
 use Rattle.list.specs.Listing.{Listing}
 use Rattle.list.specs.Content.{Content, items, Meets}
 use Rattle.list.specs.Table.{listOf}
-use Rattle.list_house.specs.HouseTable.{housePool}
+use Rattle.list_house.specs.mirror.HouseTable.{housePool}
 use Rattle.value.specs.Value.{Value, IsValue}
 use Rattle.image.specs.Image.{Item, body}
 use Rattle.image.specs.Kinds.{values}
@@ -25,8 +25,8 @@ use Rattle.image_reading.proofs.House.{only, Says, begun-reads}
 use Rattle.file_letter.specs.Letter.{letterOf}
 use Rattle.file_letter.specs.Writes.{letterIn, large, short, delivered, Writes, unread, finer, begun}
 use Rattle.file_letter.specs.Stale.{NoneOf, FirstAt, Finer}
-use Rattle.file_write.specs.Emit.{Held, Emits}
-use Rattle.file_write.specs.Stale.{FirstFiner, clear, found, Stale}
+use Rattle.file_write.specs.mirror.Emit.{Held, Emits}
+use Rattle.file_write.specs.mirror.Stale.{FirstFiner, clear, found, Stale}
 
 pool-small : length housePool ≤ 65535
 unfolding housePool

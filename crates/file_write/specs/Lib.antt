@@ -1,7 +1,3 @@
 -- The mirrors of `file_write`; what it promises is in `file_letter`.
--- a mirror: the tags of a row
-pub mod Tags
--- a mirror: a leaf's element, and what the pass puts
-pub mod Emit
--- a mirror: the first item that no file may say any more
-pub mod Stale
+-- mirrors, which say how the code goes
+pub mod mirror

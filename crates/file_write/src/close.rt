@@ -3,9 +3,9 @@ use crate::put::put_close;
 use list::lookup::cell;
 use list::table::PARENT;
 ghost use Rattle.list.specs.Table.{listOf};
-ghost use Rattle.file_letter.specs.Tell.{closes};
+ghost use Rattle.file_letter.specs.mirror.Tell.{closes};
 ghost use Rattle.text.specs.Puts.{Puts};
-ghost use Rattle.file_write.specs.Tags.{Opened};
+ghost use Rattle.file_write.specs.mirror.Tags.{Opened};
 
 // From the group `from` up to p, without p's own; p is 0 at the end, when the root's is the last.
 pub(crate) fn close_to(

@@ -12,7 +12,7 @@ use list::table::PARENT;
 use list::table::WORD_COUNT;
 use value_from_bytes::kinds::value_end;
 ghost use mathlib.Core.Path.{_≡_};
-ghost use Rattle.file_write.specs.Emit.{Held, Emits};
+ghost use Rattle.file_write.specs.mirror.Emit.{Held, Emits};
 
 pub(crate) fn wide(x: u8) -> usize
     ensures { λ r. ⌜ r ≡ x ⌝ }

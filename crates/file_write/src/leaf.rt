@@ -13,8 +13,8 @@ ghost use Prim.Native.Nat.{_≤_};
 ghost use lib.ListN.{length};
 ghost use Rattle.text.specs.Bytes.{ascii};
 ghost use Rattle.text.specs.Puts.{Puts};
-ghost use Rattle.file_write.specs.Tags.{startIn};
-ghost use Rattle.file_write.specs.Emit.{coinAt, LeafPut};
+ghost use Rattle.file_write.specs.mirror.Tags.{startIn};
+ghost use Rattle.file_write.specs.mirror.Emit.{coinAt, LeafPut};
 
 // The opening tag; an amount begins with the three bytes of its currency.
 fn open_leaf(

@@ -12,7 +12,7 @@ ghost use lib.ListN.{length};
 ghost use lib.Seq.{slice};
 ghost use Rattle.list.specs.Table.{nameIn};
 ghost use Rattle.text.specs.Puts.{Puts};
-ghost use Rattle.file_write.specs.Tags.{startIn, openIn, shutIn, rootIn, coinIn};
+ghost use Rattle.file_write.specs.mirror.Tags.{startIn, openIn, shutIn, rootIn, coinIn};
 
 // A part of a slice.
 fn put_part(src: &[u8], a: usize, b: usize, out: &mut [u8], at: usize) -> usize

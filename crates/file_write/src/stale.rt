@@ -11,8 +11,8 @@ use value_from_bytes::kinds::value_end;
 ghost use mathlib.Core.Path.{_≡_};
 ghost use Prim.Native.Nat.{_≤_};
 ghost use lib.ListN.{drop};
-ghost use Rattle.file_write.specs.Emit.{Held};
-ghost use Rattle.file_write.specs.Stale.{finerBy, Stale};
+ghost use Rattle.file_write.specs.mirror.Emit.{Held};
+ghost use Rattle.file_write.specs.mirror.Stale.{finerBy, Stale};
 
 // A date-time, whose bytes stand from i on, with a part of a second below a thousandth: its microseconds have the bytes 7 to 10.
 fn is_finer(kind: usize, run: &[u8], i: usize) -> bool

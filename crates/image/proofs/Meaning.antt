@@ -13,26 +13,26 @@ use Rattle.list.specs.Listing.{Leaf, Kind, group, choice, leaf, Listing, size, 
 use Rattle.list.specs.WellFormed.{LeafOk, KindOk}
 use Rattle.list.specs.Table.{cell, kindOf, wordsIn, listOf}
 use Rattle.list.specs.Sound.{wordCount, Sound}
-use Rattle.list.proofs.Rows.{size-is, kind-is}
+use Rattle.list.proofs.rows.Rows.{size-is, kind-is}
 use Rattle.value.specs.Value.{Value, IsValue, bytes}
 use Rattle.image.specs.Image.{valueBytes}
 use Rattle.image.specs.Kinds.{lengthBytes, values}
 use Rattle.image.specs.Place.{Holds, Tells}
 use Rattle.image.specs.Pick.{Selects}
 use Rattle.image.specs.Means.{ItemEnds, Told, SelectsAnswer, SelectsPart}
-use Rattle.image.specs.Follow.{OfKind, ItemOk}
-use Rattle.image.specs.Step.{isLeaf}
-use Rattle.value_from_bytes.specs.Ends.{valueEnd}
+use Rattle.image.specs.mirror.Follow.{OfKind, ItemOk}
+use Rattle.image.specs.mirror.Step.{isLeaf}
+use Rattle.value_from_bytes.specs.mirror.Ends.{valueEnd}
 use Rattle.value_from_bytes.specs.Stands.{Ends}
 use Rattle.value_from_bytes.proofs.Numbered.{by-kind}
 use Rattle.value_from_bytes.proofs.Meaning.{end-none, end-some, ends}
-use Rattle.image.specs.Ends.{itemEnd}
-use Rattle.image.specs.Run.{Behind, headOf, Chooses, Answered, Handed}
-use Rattle.image.proofs.Rows.{well}
-use Rattle.image.proofs.Lines.{lines}
-use Rattle.image.proofs.Lawful.{lawful}
-use Rattle.image.proofs.Run.{Ending, behind-tells, behind-some}
-use Rattle.image.proofs.Choose.{chooses-selects}
+use Rattle.image.specs.mirror.Ends.{itemEnd}
+use Rattle.image.specs.mirror.Run.{Behind, headOf, Chooses, Answered, Handed}
+use Rattle.image.proofs.content.Rows.{well}
+use Rattle.image.proofs.next.Lines.{lines}
+use Rattle.image.proofs.types.Lawful.{lawful}
+use Rattle.image.proofs.loops.Reader.{Ending, behind-tells, behind-some}
+use Rattle.image.proofs.loops.Picker.{chooses-selects}
 
 -- two bytes stand before a text, by the number of its kind
 head-code : (k : ℕ) (ws : List (List ℕ)) (f : Leaf) (c : ℕ) → kindOf c k ws ≡ leaf f → cond (leb c 5) 2 0 ≡ lengthBytes f

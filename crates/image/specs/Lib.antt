@@ -11,13 +11,5 @@ pub mod Pick
 pub mod Means
 -- document 01's example
 pub mod Example
--- a mirror: which row may come directly behind which
-pub mod Follow
--- a mirror: the same as the code finds it in the tables
-pub mod Step
--- a mirror: where an item ends
-pub mod Ends
--- a mirror: the reader and the picker over a run
-pub mod Run
--- a mirror: the reader item by item
-pub mod Reader
+-- mirrors, which say how the code goes
+pub mod mirror

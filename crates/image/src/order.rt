@@ -10,7 +10,7 @@ use list::table::PAIR;
 use list::table::PARENT;
 use list::table::SIZE;
 ghost use mathlib.Core.Path.{_≡_};
-ghost use Rattle.image.specs.Step.{isLeaf, again, owed, before, mated, inOrder, beside, inside, climbs, follows, rests, ended};
+ghost use Rattle.image.specs.mirror.Step.{isLeaf, again, owed, before, mated, inOrder, beside, inside, climbs, follows, rests, ended};
 
 // A leaf's row, by its kind.
 pub(crate) fn is_leaf(rows: &[u16], r: usize) -> bool

@@ -6,10 +6,10 @@ use answer::Answer;
 use list::lookup::cell;
 use list::table::KIND;
 ghost use mathlib.Core.Path.{_≡_};
-ghost use Rattle.image.specs.Ends.{itemEnd};
+ghost use Rattle.image.specs.mirror.Ends.{itemEnd};
 ghost use Rattle.image.specs.Pick.{Lies};
 ghost use Rattle.image.specs.Means.{SelectsAnswer, SelectsPart};
-ghost use Rattle.image.specs.Run.{Comes, headOf, hunt, Finds, Answered, Handed};
+ghost use Rattle.image.specs.mirror.Run.{Comes, headOf, hunt, Finds, Answered, Handed};
 
 // How many bytes stand before a value's own: the two of a text's length.
 pub fn head(rows: &[u16], r: usize) -> usize

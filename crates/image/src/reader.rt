@@ -9,8 +9,8 @@ use list::table::MOST;
 use list::table::WORD_COUNT;
 use value_from_bytes::kinds::value_end;
 ghost use mathlib.Core.Path.{_≡_};
-ghost use Rattle.image.specs.Ends.{itemEnd};
-ghost use Rattle.image.specs.Run.{Goes, Behind};
+ghost use Rattle.image.specs.mirror.Ends.{itemEnd};
+ghost use Rattle.image.specs.mirror.Run.{Goes, Behind};
 ghost use Rattle.image.specs.Means.{ItemEnds, Told};
 
 pub(crate) fn wide(x: u8) -> usize

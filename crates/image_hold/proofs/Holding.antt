@@ -21,7 +21,7 @@ use Rattle.image.specs.Pick.{Lies, refused}
 use Rattle.image_hold.specs.Held.{left, Moves, Steps, HeldPicked, Next, Calls, rested, called}
 use Rattle.image_hold.specs.declared.held.Held.{Held}
 use Rattle.image_hold.specs.declared.held.Step.{Step}
-use Rattle.image.proofs.Answers.{accepting, accepts-in, image-begins}
+use Rattle.image.proofs.answers.One.{accepting, accepts-in, image-begins}
 use Rattle.image_reading.specs.Reads.{stored, HouseAccepts, HouseReads, HouseAnswers, HousePicked}
 use Rattle.image_reading.proofs.House.{house-reads-one, house-reads-some, house-answers-one}
 

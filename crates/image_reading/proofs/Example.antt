@@ -11,25 +11,25 @@ use Rattle.answer.specs.declared.Answer.{Answer}
 use Rattle.answer.specs.Table.{accepted, brokenImage, picked}
 use Rattle.text.specs.Bytes.{ascii, isCapital}
 use Rattle.text.specs.Numbers.{bigEndian, numberFrom}
-use Rattle.text_characters.specs.Decoding.{decoded}
+use Rattle.text_characters.specs.mirror.Decoding.{decoded}
 use Rattle.list.specs.Table.{cell}
 use Rattle.list_house.specs.House.{house}
-use Rattle.list_house.specs.HouseTable.{houseRows}
+use Rattle.list_house.specs.mirror.HouseTable.{houseRows}
 use Rattle.list_house.proofs.HouseSound.{house-is, house-sound}
 use Rattle.value.specs.Text.{isRef, isTxt}
-use Rattle.value_from_bytes.specs.Tests.{isByte, every, some as any, apart as slashes}
-use Rattle.value_from_bytes.specs.Chars.{charsFrom}
-use Rattle.value_from_bytes.specs.Judges.{isReference, textFrom, isWriting, isCurrency, isPlace, isAmount, isReal, isDay, isMoment}
-use Rattle.value_from_bytes.specs.Ends.{head, width, isValue, begins, valueEnd}
+use Rattle.value_from_bytes.specs.mirror.Tests.{isByte, every, some as any, apart as slashes}
+use Rattle.value_from_bytes.specs.mirror.Chars.{charsFrom}
+use Rattle.value_from_bytes.specs.mirror.Judges.{isReference, textFrom, isWriting, isCurrency, isPlace, isAmount, isReal, isDay, isMoment}
+use Rattle.value_from_bytes.specs.mirror.Ends.{head, width, isValue, begins, valueEnd}
 use Rattle.image.specs.Image.{header}
-use Rattle.image.specs.Step.{isLeaf, again, owed, before, mated, inOrder, beside, inside, climbs, follows, rests, ended}
-use Rattle.image.specs.Ends.{itemEnd}
-use Rattle.image.specs.Run.{Turn, stop, next, Comes, halts, moves, headOf, turn, Behind, rooted, hunt, leaves, found}
+use Rattle.image.specs.mirror.Step.{isLeaf, again, owed, before, mated, inOrder, beside, inside, climbs, follows, rests, ended}
+use Rattle.image.specs.mirror.Ends.{itemEnd}
+use Rattle.image.specs.mirror.Run.{Turn, stop, next, Comes, halts, moves, headOf, turn, Behind, rooted, hunt, leaves, found}
 use Rattle.image.specs.Example.{printed}
-use Rattle.image.proofs.Heads.{header-is}
+use Rattle.image.proofs.answers.Heads.{header-is}
 use Rattle.image_reading.specs.Reads.{HouseReads, HousePicks}
 use Rattle.image_reading.specs.Forms.{Begun}
-use Rattle.image_reading.specs.Front.{Fronts}
+use Rattle.image_reading.specs.mirror.Front.{Fronts}
 use Rattle.image_reading.specs.declared.front.Reading.{Reading}
 use Rattle.image_reading.proofs.House.{Says, front-first, begins as reading-begins, begins-not, begun-reads, begun-picks}
 

@@ -11,8 +11,8 @@ use lib.ListN.{length, getD, take}
 use borrow.Author.Tests.{eqb-true, eqb-false}
 use Rattle.text.specs.Bytes.{ascii}
 use Rattle.image.specs.Image.{versioned}
-use Rattle.image.proofs.Heads.{versioned-is}
-use Rattle.image_reading.specs.Front.{Kto, Named, OfVersion}
+use Rattle.image.proofs.answers.Heads.{versioned-is}
+use Rattle.image_reading.specs.mirror.Front.{Kto, Named, OfVersion}
 
 first-three : (s : List ℕ) → 5 ≤ length s → take 3 s ≡ getD s 0 0 ∷ getD s 1 0 ∷ getD s 2 0 ∷ []
 first-three [] h = absurd (omega arith)

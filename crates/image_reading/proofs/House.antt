@@ -17,7 +17,7 @@ use Rattle.list.specs.Content.{Content, Meets}
 use Rattle.list.specs.Table.{listOf}
 use Rattle.list.specs.Sound.{Sound}
 use Rattle.list.specs.Laid.{laid}
-use Rattle.list_house.specs.HouseTable.{housePool}
+use Rattle.list_house.specs.mirror.HouseTable.{housePool}
 use Rattle.list_house.specs.Kind.{houseKind}
 use Rattle.list_house.specs.Lists.{kept, keptRows}
 use Rattle.list_house.proofs.HouseKind.{low-group}
@@ -27,16 +27,16 @@ use Rattle.image.specs.Image.{versioned, header, body, image}
 use Rattle.image.specs.Kinds.{values}
 use Rattle.image.specs.Place.{Holds, Tells, held, broke, Front, now, Among, Apart, over, foreign, version, broken, whole}
 use Rattle.image.specs.Pick.{Selects, none-such, one-such, refused, missing, found}
-use Rattle.image.specs.Ends.{itemEnd}
-use Rattle.image.specs.Run.{Behind, Chooses, Answered, Handed}
-use Rattle.image.proofs.Heads.{header-is, apart}
-use Rattle.image.proofs.Answers.{accepts-one, accepts-head, accepts-content, reads-one, reads-exactly, picks-one, answers-one, hands-one}
-use Rattle.image.proofs.Lawful.{lawful}
+use Rattle.image.specs.mirror.Ends.{itemEnd}
+use Rattle.image.specs.mirror.Run.{Behind, Chooses, Answered, Handed}
+use Rattle.image.proofs.answers.Heads.{header-is, apart}
+use Rattle.image.proofs.answers.One.{accepts-one, accepts-head, accepts-content, reads-one, reads-exactly, picks-one, answers-one, hands-one}
+use Rattle.image.proofs.types.Lawful.{lawful}
 use Rattle.image.proofs.Meaning.{body-means, body-some, pick-means}
-use Rattle.image.proofs.Some.{picks-some}
+use Rattle.image.proofs.answers.Some.{picks-some}
 use Rattle.image_reading.specs.Reads.{stored, HouseAccepts, HouseReads, HousePicks, HouseAnswers, HouseHands}
 use Rattle.image_reading.specs.Forms.{Formed, first, Begun, refuses, accepts}
-use Rattle.image_reading.specs.Front.{Kto, Named, OfVersion, Fronts, nothing, headed}
+use Rattle.image_reading.specs.mirror.Front.{Kto, Named, OfVersion, Fronts, nothing, headed}
 use Rattle.image_reading.specs.declared.front.Reading.{Reading}
 use Rattle.image_reading.proofs.Heads.{named-some, version-some}
 

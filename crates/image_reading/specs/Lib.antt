@@ -3,5 +3,5 @@
 pub mod Reads
 -- the forms of images, and what is told of the first one
 pub mod Forms
--- a mirror: how a run begins
-pub mod Front
+-- mirrors, which say how the code goes
+pub mod mirror

@@ -1,7 +1,7 @@
 // How a run begins: the form of its first image, by its name and its version, and where the items of that image stand.
 use answer::Answer;
 ghost use mathlib.Core.Path.{_≡_};
-ghost use Rattle.image_reading.specs.Front.{Kto, Named, OfVersion, Fronts};
+ghost use Rattle.image_reading.specs.mirror.Front.{Kto, Named, OfVersion, Fronts};
 
 // What is told of the image that a run begins with: the answer, its form and where its items begin; 0 and 0 where none begins there.
 pub struct Reading {

@@ -22,7 +22,7 @@ use Rattle.list.specs.Listing.{Listing}
 use Rattle.image.specs.Image.{header, bytes}
 use Rattle.image.specs.Kinds.{values}
 use Rattle.image.specs.Place.{Front, now}
-use Rattle.image.proofs.Answers.{accepting, accepts-in}
+use Rattle.image.proofs.answers.One.{accepting, accepts-in}
 use Rattle.image_reading.specs.Reads.{stored, HouseReads}
 use Rattle.image_reading.proofs.House.{house-reads-one}
 use Rattle.image_hold.specs.Held.{Steps}

@@ -1,3 +1,3 @@
 -- The laws of `kto`.
 -- what is written, case by case
-pub mod Saying
+pub mod Written

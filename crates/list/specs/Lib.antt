@@ -21,5 +21,5 @@ pub mod EachRow
 pub mod Test
 -- what the lookups answer in such tables
 pub mod Means
--- how the lookups go
-pub mod Lookup
+-- mirrors, which say how the code goes
+pub mod mirror

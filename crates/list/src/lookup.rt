@@ -12,7 +12,7 @@ ghost use mathlib.Core.Path.{_≡_};
 ghost use lib.Seq.{slice};
 ghost use Rattle.text.specs.Lists.{same};
 ghost use Rattle.list.specs.Table.{cell, nameIn, listOf};
-ghost use Rattle.list.specs.Lookup.{dueAfter, along, childAlong};
+ghost use Rattle.list.specs.mirror.Lookup.{dueAfter, along, childAlong};
 ghost use Rattle.list.specs.Means.{DueNext, ChildCalled};
 
 fn wide(x: u16) -> usize

@@ -11,7 +11,7 @@ ghost use lib.ListN.{length, getD};
 ghost use lib.Seq.{slice};
 ghost use Rattle.text.specs.Lists.{span};
 ghost use Rattle.list.specs.Table.{byteOf, placeIn, wordsIn};
-ghost use Rattle.list.specs.Lookup.{notSpace};
+ghost use Rattle.list.specs.mirror.Lookup.{notSpace};
 
 // Where the word that starts at `i` ends: at the next space, and at `end` where there is none.
 fn word_end(pool: &[u8], i: usize, end: usize) -> usize

@@ -9,10 +9,10 @@ use borrow.Author.Tests.{eqb-true}
 use Rattle.text.proofs.Classes.{every, passes}
 use Rattle.list.specs.Listing.{ref, iban, ccy, bool, num, amt, date, dtm, txt, enum, Kind, group, choice, leaf, Row, size, rowAt, isGroup}
 use Rattle.list.specs.Table.{cell}
-use Rattle.list.proofs.Next.{row-past}
-use Rattle.list.proofs.Cells.{no-row}
+use Rattle.list.proofs.rows.Next.{row-past}
+use Rattle.list.proofs.rows.Cells.{no-row}
 use Rattle.list_house.specs.House.{house}
-use Rattle.list_house.specs.HouseTable.{houseRows}
+use Rattle.list_house.specs.mirror.HouseTable.{houseRows}
 use Rattle.list_house.proofs.HouseSound.{house-well}
 use Rattle.list_house.specs.Kind.{numberOf, houseKind}
 

@@ -12,10 +12,10 @@ use Rattle.list.specs.Table.{cell, words, rowOf, rowsFrom, rulesFrom, listOf}
 use Rattle.list.specs.Sound.{nextChild, firstOf, secondOf, levelIn, Sound}
 use Rattle.list.specs.Test.{every, begins, among, wordsOk, rowTests, ruleTests, derivedTests, well, derived, sound}
 use Rattle.list.specs.EachRow.{EachRow}
-use Rattle.list.proofs.EachRow.{each-row}
-use Rattle.list.proofs.Sound.{is-sound}
+use Rattle.list.proofs.sound.EachRow.{each-row}
+use Rattle.list.proofs.sound.Sound.{is-sound}
 use Rattle.list_house.specs.House.{house}
-use Rattle.list_house.specs.HouseTable.{houseRows, housePool}
+use Rattle.list_house.specs.mirror.HouseTable.{houseRows, housePool}
 
 -- ---- camt.053.001.08
 

@@ -12,7 +12,7 @@ use Rattle.list.specs.Within.{Among, Kept}
 use Rattle.list.proofs.Laid.{laid-list, laid-sound}
 use Rattle.list.proofs.Within.{within-itself}
 use Rattle.list_house.specs.House.{house}
-use Rattle.list_house.specs.HouseTable.{housePool}
+use Rattle.list_house.specs.mirror.HouseTable.{housePool}
 use Rattle.list_house.specs.Lists.{asked, kept, keptRows, stored}
 use Rattle.list_house.proofs.HouseSound.{house-is, house-sound, house-well}
 

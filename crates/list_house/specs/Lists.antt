@@ -3,7 +3,7 @@ use mathlib.Core.List.{List, [], _∷_}
 use Prim.Native.Nat.{ℕ}
 use Rattle.list.specs.Listing.{Listing}
 use Rattle.list_house.specs.House.{house}
-use Rattle.list_house.specs.HouseTable.{houseRows}
+use Rattle.list_house.specs.mirror.HouseTable.{houseRows}
 
 -- of files
 abbrev pub asked : List Listing

@@ -1,7 +1,7 @@
 // The house list as its two tables.
 // Written by tools/lists/make.
 ghost use mathlib.Core.Path.{_≡_};
-ghost use Rattle.list_house.specs.HouseTable.{houseRows, housePool};
+ghost use Rattle.list_house.specs.mirror.HouseTable.{houseRows, housePool};
 
 // Rows of sixteen cells (lookup's columns), row 0 the list's own.
 pub type Rows = [u16; 928];

@@ -14,7 +14,7 @@ use borrow.Author.Tests.{lt-ltb, le-ltb, le-leb, ltb-true, ltb-false, leb-true}
 use Rattle.text.specs.Lists.{span}
 use Rattle.text_characters.specs.Utf8.{Scalar, encode}
 use Rattle.text_characters.specs.Chars.{charOf, Begun, Decoded}
-use Rattle.text_characters.specs.Decoding.{isAscii, AsciiOver, isTail, isScalar, kept, two, three, four, byFirst, decoded}
+use Rattle.text_characters.specs.mirror.Decoding.{isAscii, AsciiOver, isTail, isScalar, kept, two, three, four, byFirst, decoded}
 use Rattle.text_characters.specs.declared.utf8.Char.{Char}
 use Rattle.text.proofs.Classes.{Named, from, _or_, within, is-in, and-is}
 use Rattle.text.proofs.Spans.{span-jump}

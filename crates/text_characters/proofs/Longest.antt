@@ -12,7 +12,7 @@ use borrow.Author.Tests.{ltb-true}
 use Rattle.text.specs.Lists.{Each, span}
 use Rattle.text_characters.specs.Utf8.{Scalar, encode, encodeAll, Utf8, LongestUtf8}
 use Rattle.text_characters.specs.Chars.{Begun, Decoded}
-use Rattle.text_characters.specs.Decoding.{isAscii, decoded}
+use Rattle.text_characters.specs.mirror.Decoding.{isAscii, decoded}
 use Rattle.text_characters.specs.declared.utf8.Char.{Char}
 use Rattle.text_characters.proofs.Chars as chars
 use Rattle.text.proofs.Spans.{span-le}

@@ -15,8 +15,8 @@ use Rattle.text.specs.Words.{starts}
 use Rattle.text_characters.specs.Utf8.{Scalar, encode}
 use Rattle.text_characters.specs.Pieces.{less, ampersand, XmlChar, tab, line, return, low, middle, high, Entity, amp, lt, gt, quot, apos, word, stands, Piece, char, entity, spell, resolved, GoodPiece}
 use Rattle.text_characters.specs.Chars.{charOf, Begun, NextChar, Decoded}
-use Rattle.text_characters.specs.Decoding.{decoded}
-use Rattle.text_characters.specs.Resolving.{isXmlChar, orElse, entityAt, plainAt, charAt}
+use Rattle.text_characters.specs.mirror.Decoding.{decoded}
+use Rattle.text_characters.specs.mirror.Resolving.{isXmlChar, orElse, entityAt, plainAt, charAt}
 use Rattle.text_characters.specs.declared.utf8.Char.{Char}
 use Rattle.text.proofs.Classes.{Named, only, from, _or_, yes-in, is-in}
 use Rattle.text.proofs.Parts.{starts-is}

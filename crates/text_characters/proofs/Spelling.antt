@@ -11,7 +11,7 @@ use Rattle.text.specs.Lists.{Each}
 use Rattle.text_characters.specs.Pieces.{Piece, spell, spells, resolved, resolvedAll, GoodPiece, Spells}
 use Rattle.text_characters.specs.Chars.{charOf, Begun, NextChar}
 use Rattle.text_characters.specs.Passing.{Passes}
-use Rattle.text_characters.specs.Resolving.{charAt}
+use Rattle.text_characters.specs.mirror.Resolving.{charAt}
 use Rattle.text_characters.specs.declared.utf8.Char.{Char}
 use Rattle.text_characters.proofs.Chars as chars
 use Rattle.text_characters.proofs.Resolving.{complete, sound, piece-some, next-is, next-one}

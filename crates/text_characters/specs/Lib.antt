@@ -5,9 +5,7 @@ pub mod Utf8
 pub mod Pieces
 -- one character at the front of a text
 pub mod Chars
--- a mirror: how a character is decoded
-pub mod Decoding
--- a mirror: how the next character is read, entities resolved
-pub mod Resolving
 -- texts whose characters pass a test
 pub mod Passing
+-- mirrors, which say how the code goes
+pub mod mirror

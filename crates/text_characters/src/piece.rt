@@ -8,7 +8,7 @@ use text::part::begins;
 ghost use mathlib.Core.Path.{_≡_};
 ghost use lib.ListN.{drop};
 ghost use Rattle.text_characters.specs.Chars.{charOf, NextChar};
-ghost use Rattle.text_characters.specs.Resolving.{isXmlChar, entityAt, plainAt};
+ghost use Rattle.text_characters.specs.mirror.Resolving.{isXmlChar, entityAt, plainAt};
 
 fn is_xml_char(c: u32) -> bool
     ensures { λ r. ⌜ r ≡ isXmlChar c ⌝ }

@@ -4,7 +4,7 @@ ghost use mathlib.Core.Path.{_≡_};
 ghost use Prim.Native.Nat.{_+_, _/_, _≤_};
 ghost use lib.ListN.{length, drop, getD};
 ghost use Rattle.text_characters.specs.Chars.{charOf, Decoded};
-ghost use Rattle.text_characters.specs.Decoding.{isAscii, AsciiOver, isTail, isScalar, kept, two, three, four};
+ghost use Rattle.text_characters.specs.mirror.Decoding.{isAscii, AsciiOver, isTail, isScalar, kept, two, three, four};
 ghost use Rattle.text.specs.Lists.{span};
 ghost use Rattle.text_characters.specs.Utf8.{LongestUtf8};
 

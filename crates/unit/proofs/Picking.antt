@@ -8,7 +8,7 @@ use lib.Seq.{slice}
 use Rattle.answer.specs.declared.Answer.{Answer}
 use Rattle.text.proofs.Parts.{part-length}
 use Rattle.image.specs.Kinds.{values}
-use Rattle.image.proofs.There.{picks-there}
+use Rattle.image.proofs.answers.There.{picks-there}
 use Rattle.image_reading.specs.Reads.{stored, HousePicks, HouseAnswers, HouseHands}
 use Rattle.image_reading.proofs.House.{house-picks-one}
 

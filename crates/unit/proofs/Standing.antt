@@ -15,19 +15,19 @@ use Rattle.list.specs.Content.{GroupOf}
 use Rattle.list.specs.WellFormed.{WellFormed, KindOk}
 use Rattle.list.specs.Table.{cell, listOf}
 use Rattle.list.specs.Sound.{Sound}
-use Rattle.list.proofs.Rows.{size-is}
-use Rattle.list_house.specs.HouseTable.{houseRows, housePool}
+use Rattle.list.proofs.rows.Rows.{size-is}
+use Rattle.list_house.specs.mirror.HouseTable.{houseRows, housePool}
 use Rattle.list_house.specs.Lists.{kept}
 use Rattle.list_house.proofs.HouseSound.{house-is, house-sound}
 use Rattle.list_house.proofs.Lists.{kept-well}
 use Rattle.value.specs.Value.{Value, IsValue, bytes}
 use Rattle.image.specs.Image.{valueBytes}
 use Rattle.image.specs.Kinds.{lengthBytes, values}
-use Rattle.image.specs.Follow.{OfKind}
-use Rattle.image.specs.Ends.{itemEnd}
-use Rattle.image.specs.Run.{headOf}
-use Rattle.image.proofs.Rows.{well}
-use Rattle.image.proofs.Lawful.{lawful}
+use Rattle.image.specs.mirror.Follow.{OfKind}
+use Rattle.image.specs.mirror.Ends.{itemEnd}
+use Rattle.image.specs.mirror.Run.{headOf}
+use Rattle.image.proofs.content.Rows.{well}
+use Rattle.image.proofs.types.Lawful.{lawful}
 use Rattle.image.proofs.Meaning.{ending, head-is}
 use Rattle.unit.specs.Items.{Stands, closes, opens, holds, ItemTold, standing, lacking, HouseItem}
 

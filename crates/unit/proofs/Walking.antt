@@ -15,10 +15,10 @@ use Rattle.list_house.proofs.Lists.{kept-well}
 use Rattle.value.specs.Value.{Value, IsValue, bytes}
 use Rattle.image.specs.Image.{Item, valueBytes, itemBytes, bytes as bytesOf, body}
 use Rattle.image.specs.Kinds.{lengthBytes, values}
-use Rattle.image.specs.Follow.{OfKind, ItemOk, Trail, Whole}
-use Rattle.image.proofs.Rows.{is-group, next-in, well}
-use Rattle.image.proofs.Theorem.{content-whole, root-group}
-use Rattle.image.proofs.Lawful.{lawful}
+use Rattle.image.specs.mirror.Follow.{OfKind, ItemOk, Trail, Whole}
+use Rattle.image.proofs.content.Rows.{is-group, next-in, well}
+use Rattle.image.proofs.content.Begins.{content-whole, root-group}
+use Rattle.image.proofs.types.Lawful.{lawful}
 use Rattle.image_reading.specs.Reads.{HouseAccepts}
 use Rattle.image_reading.proofs.House.{only}
 use Rattle.unit.specs.Items.{Stands, closes, opens, holds}

@@ -12,9 +12,9 @@ use lib.ListN.{length, List·getD-eq-default}
 use borrow.Author.Tests.{le-ltb, lt-ltb, ne-eqb}
 use Rattle.text.proofs.Classes.{every, passes, and-is, no as none}
 use Rattle.value.specs.Text.{isTxt}
-use Rattle.value.specs.Texts.{quietTxt}
-use Rattle.value.specs.Pages.{bitOf, wordIn, words, wordOf, looked, quietWords, quietLooked}
-use Rattle.value.proofs.Named.{writing, quiet-writing}
+use Rattle.value.specs.mirror.Texts.{quietTxt}
+use Rattle.value.specs.mirror.Pages.{bitOf, wordIn, words, wordOf, looked, quietWords, quietLooked}
+use Rattle.value.proofs.classes.Named.{writing, quiet-writing}
 
 -- ---- the words, as the code finds them
 

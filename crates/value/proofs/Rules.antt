@@ -10,9 +10,9 @@ use Rattle.value.specs.Day.{Real, dayText, nextDay}
 use Rattle.value.specs.Moment.{DateRule, former, present, clockText, absent, decimals, fractionText, Zone, ahead, behind, ZoneOk, zoneText, offset, Parts, ordinary, midnight}
 use Rattle.value.specs.Value.{Value, moment, IsValue, Form, Spelt}
 use Rattle.value.specs.Rules.{Timeless, FormBy, SpeltBy, InThousandths}
-use Rattle.value.proofs.Dates.{few, moment-parts}
-use Rattle.value.proofs.SpellDays.{read-day}
-use Rattle.value.proofs.Values.{value-laws}
+use Rattle.value.proofs.dates.Dates.{few, moment-parts}
+use Rattle.value.proofs.dates.Spell.{read-day}
+use Rattle.value.proofs.types.Values.{value-laws}
 
 -- ---- one value, two texts
 -- "24:00:00 .. its content is 00:00:00 of the next day": the value of each of the two texts, and of no other kind

@@ -19,21 +19,13 @@ pub mod Rules
 pub mod Judged
 -- the numbers of types in a table
 pub mod Kind
--- a mirror: references and texts in one pass
-pub mod Texts
--- a mirror: the characters of texts, looked up
-pub mod Pages
 -- a mirror: blanks at both ends
 pub mod Trim
--- a mirror: digits at the front of a text
-pub mod Digits
--- a mirror: the places of an account number
-pub mod Layout
--- a mirror: how amounts are read
-pub mod Reading
 -- the laws of values, as one record
 pub mod Laws
 -- a decision: the value that characters spell, computed
 pub mod Spell
 -- a decision: the characters that a raw text spells, computed
 pub mod Resolved
+-- mirrors, which say how the code goes
+pub mod mirror

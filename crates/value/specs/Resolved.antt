@@ -5,7 +5,7 @@ use mathlib.Core.Option.{Option, some, none}
 use Prim.Native.Nat.{ℕ, zero, suc}
 use lib.Dec.{eqb}
 use lib.ListN.{length, drop}
-use Rattle.text_characters.specs.Resolving.{charAt}
+use Rattle.text_characters.specs.mirror.Resolving.{charAt}
 
 -- c before what was read behind it
 abbrev pub ahead : ℕ → Option (List ℕ) → Option (List ℕ)

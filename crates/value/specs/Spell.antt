@@ -12,9 +12,9 @@ pub use Rattle.list.specs.Table.{placeFrom, placeIn}
 use Rattle.value.specs.Plain.{decimal}
 use Rattle.value.specs.Day.{isReal, dayText, nextDay}
 use Rattle.value.specs.Moment.{clockText, Fraction, absent, decimals, figures, fractionText, micros, Zone, zulu, ahead, behind, zoneText, offset}
-use Rattle.value.specs.Texts.{textOf}
-use Rattle.value.specs.Layout.{ibanAt}
-use Rattle.value.specs.Reading.{readOf, answer}
+use Rattle.value.specs.mirror.Texts.{textOf}
+use Rattle.value.specs.mirror.Layout.{ibanAt}
+use Rattle.value.specs.mirror.Reading.{readOf, answer}
 use Rattle.value.specs.Value.{Value, text, place, truth, natural, amount, day, moment}
 use Rattle.value.specs.declared.judged.Judged.{Judged}
 use Rattle.value.specs.declared.judged.Judged.the-variants.{Refused, Text, Truth, Natural, Amount, Day, Moment}

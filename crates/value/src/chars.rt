@@ -10,8 +10,8 @@ ghost use lib.Dec.{eqb};
 ghost use lib.ListN.{drop};
 ghost use Rattle.text.specs.Lists.{span};
 ghost use Rattle.value.specs.Text.{isTxt, isRef, notSpace};
-ghost use Rattle.value.specs.Pages.{bitOf, wordIn, words, wordOf, quietWords};
-ghost use Rattle.value.specs.Texts.{classOf, textOf, Spelled, widthOf, quietTxt, quietRef, quietOf};
+ghost use Rattle.value.specs.mirror.Pages.{bitOf, wordIn, words, wordOf, quietWords};
+ghost use Rattle.value.specs.mirror.Texts.{classOf, textOf, Spelled, widthOf, quietTxt, quietRef, quietOf};
 
 // The word of the page from U+0040 on: all but the backtick and the last, U+007F.
 const LETTERS: u64 = 0x7FFFFFFEFFFFFFFF;

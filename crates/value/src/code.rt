@@ -5,7 +5,7 @@ use text::class::is_digit;
 ghost use mathlib.Core.Path.{_≡_};
 ghost use Rattle.value.specs.Code.{Iban, Ccy, isLetterOrDigit};
 ghost use Rattle.value.specs.Judged.{Exactly};
-ghost use Rattle.value.specs.Layout.{ibanAt};
+ghost use Rattle.value.specs.mirror.Layout.{ibanAt};
 
 fn is_letter_or_digit(b: u8) -> bool
     ensures { λ r. ⌜ r ≡ isLetterOrDigit b ⌝ }

@@ -6,8 +6,8 @@ ghost use mathlib.Core.Path.{_≡_};
 ghost use Prim.Native.Nat.{_+_, _≤_, _<_, _^_};
 ghost use lib.ListN.{length, drop};
 ghost use Rattle.list.specs.Listing.{amt};
-ghost use Rattle.value.specs.Reading.{found, fracOf, wholeOf, signedOf, readOf};
-ghost use Rattle.value.specs.Reading.{answer};
+ghost use Rattle.value.specs.mirror.Reading.{found, fracOf, wholeOf, signedOf, readOf};
+ghost use Rattle.value.specs.mirror.Reading.{answer};
 ghost use Rattle.value.specs.Judged.{FormedAny};
 
 // 10^18, and the largest number of which ten times are below it

@@ -12,7 +12,7 @@ ghost use mathlib.Core.Path.{_≡_};
 ghost use lib.ListN.{drop};
 ghost use Rattle.list.specs.Listing.{dtm};
 ghost use Prim.Native.Nat.{_≤_};
-ghost use Rattle.value.specs.Digits.{One, FractionAt, ZoneAt, ClockAt, MidnightAt};
+ghost use Rattle.value.specs.mirror.Digits.{One, FractionAt, ZoneAt, ClockAt, MidnightAt};
 ghost use Rattle.value.specs.Day.{Real};
 ghost use Rattle.value.specs.Judged.{FormedAny};
 

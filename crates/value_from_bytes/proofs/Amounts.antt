@@ -19,12 +19,12 @@ use Rattle.list.specs.Listing.{amt}
 use Rattle.value.specs.Code.{Ccy}
 use Rattle.value.specs.Amount.{Bounded, Smallest}
 use Rattle.value.specs.Value.{Value, amount, IsValue}
-use Rattle.value.proofs.Classes.{capital-range}
-use Rattle.value.proofs.Decimals.{least}
-use Rattle.value_from_bytes.specs.Judges.{isCurrency, isAmount}
+use Rattle.value.proofs.classes.Classes.{capital-range}
+use Rattle.value.proofs.numbers.Decimals.{least}
+use Rattle.value_from_bytes.specs.mirror.Judges.{isCurrency, isAmount}
 use Rattle.value_from_bytes.proofs.Exactly.{Stored, Passes, Exact}
 use Rattle.value_from_bytes.proofs.Listed.{or-so}
-use Rattle.value_from_bytes.proofs.Codes.{currency-exactly}
+use Rattle.value_from_bytes.proofs.texts.Codes.{currency-exactly}
 
 -- ---- the smallest scale: 0, or the last digit is none
 

@@ -16,10 +16,10 @@ use Rattle.list.specs.Listing.{date, dtm}
 use Rattle.value.specs.Day.{Real}
 use Rattle.value.specs.Moment.{Parts}
 use Rattle.value.specs.Value.{Value, day, moment, IsValue, bytes}
-use Rattle.value.proofs.Classes.{each-append}
-use Rattle.value.proofs.Dates.{month-most}
-use Rattle.value.proofs.Months.{real-is, real-of}
-use Rattle.value_from_bytes.specs.Judges.{isDay, isMoment}
+use Rattle.value.proofs.classes.Classes.{each-append}
+use Rattle.value.proofs.dates.Dates.{month-most}
+use Rattle.value.proofs.dates.Months.{real-is, real-of}
+use Rattle.value_from_bytes.specs.mirror.Judges.{isDay, isMoment}
 use Rattle.value_from_bytes.proofs.Exactly.{Stored, Passes, Exact, number-at}
 
 -- ---- DATE

@@ -7,23 +7,13 @@ pub mod Exactly
 pub mod Plains
 -- DATE and DTM
 pub mod Days
--- CCY and IBAN, as tests of their characters
-pub mod Codes
 -- AMT
 pub mod Amounts
--- where slashes may stand
-pub mod Slashes
--- bytes as characters
-pub mod Decoded
--- the classes of REF and TXT
-pub mod Classes
--- TXTk, character by character
-pub mod Writings
 -- the numbers of kinds
 pub mod Numbered
--- REF, TXTk, IBAN and CCY
-pub mod Texts
 -- what the end of a value means, for a leaf of a list
 pub mod Meaning
 -- the answers of `value_end`
 pub mod Placing
+-- REF, TXTk, IBAN and CCY
+pub mod texts

@@ -11,7 +11,7 @@ use borrow.Author.Tests.{lt-ltb, ltb-true}
 use Rattle.text.specs.Lists.{Each, All, Any}
 use Rattle.text.proofs.Classes.{and-is, or-is}
 use Rattle.text.proofs.Numbers.{Byte}
-use Rattle.value_from_bytes.specs.Tests.{isByte, every, some}
+use Rattle.value_from_bytes.specs.mirror.Tests.{isByte, every, some}
 
 pub or-so : (a b : Bool) → b ≡ true → (a || b) ≡ true
 or-so true b e = refl

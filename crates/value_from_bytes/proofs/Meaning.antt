@@ -15,16 +15,16 @@ use Rattle.list.specs.Table.{kindOf}
 use Rattle.list.specs.Sound.{wordCount}
 use Rattle.list.specs.WellFormed.{LeafOk}
 use Rattle.value.specs.Value.{Value, IsValue, bytes}
-use Rattle.value_from_bytes.specs.Tests.{isByte, every}
+use Rattle.value_from_bytes.specs.mirror.Tests.{isByte, every}
 use Rattle.value_from_bytes.specs.Stands.{Taken, None, Ends, taken, nothing, EndsBy}
-use Rattle.value_from_bytes.specs.Ends.{head, width, isValue, begins, valueEnd}
+use Rattle.value_from_bytes.specs.mirror.Ends.{head, width, isValue, begins, valueEnd}
 use Rattle.value_from_bytes.proofs.Listed.{byte-each, each-byte}
 use Rattle.value_from_bytes.proofs.Exactly.{Exact}
 use Rattle.value_from_bytes.proofs.Numbered.{by-kind, width-take, none-value}
 use Rattle.value_from_bytes.proofs.Plains.{place-exact, truth-exact, natural-exact}
 use Rattle.value_from_bytes.proofs.Amounts.{amount-exact}
 use Rattle.value_from_bytes.proofs.Days.{day-exact, moment-exact}
-use Rattle.value_from_bytes.proofs.Texts.{reference-exact, writing-exact, account-exact, currency-exact}
+use Rattle.value_from_bytes.proofs.texts.Texts.{reference-exact, writing-exact, account-exact, currency-exact}
 
 -- ---- any numbers: an end that is not 0 is the place and the width of what begins there
 

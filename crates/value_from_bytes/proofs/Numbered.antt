@@ -8,7 +8,7 @@ use native.Mathlib.Decide.{ℕ-discrete}
 use lib.ListN.{take}
 use lib.Seq.{take-take}
 use Rattle.text.specs.Numbers.{number}
-use Rattle.value_from_bytes.specs.Ends.{head, width, isValue}
+use Rattle.value_from_bytes.specs.mirror.Ends.{head, width, isValue}
 
 -- each kind by its number, and the numbers that no kind has
 pub by-kind : (P : ℕ → Type 0) → P 0 → P 1 → P 2 → P 3 → P 4 → P 5 → P 6 → P 7 → P 8 → P 9 → P 10 → P 11

@@ -10,8 +10,8 @@ use lib.Seq.{slice, drop-drop}
 use borrow.Author.Tests.{le-leb, lt-leb}
 use Rattle.text.specs.Numbers.{numberFrom}
 use Rattle.text.proofs.Parts.{part-take}
-use Rattle.value_from_bytes.specs.Tests.{isByte, every}
-use Rattle.value_from_bytes.specs.Ends.{head, width, Spans, isValue, begins, valueEnd}
+use Rattle.value_from_bytes.specs.mirror.Tests.{isByte, every}
+use Rattle.value_from_bytes.specs.mirror.Ends.{head, width, Spans, isValue, begins, valueEnd}
 use Rattle.value_from_bytes.proofs.Listed.{each-byte, bytes-at, bytes-take, bytes-drop}
 use Rattle.value_from_bytes.proofs.Numbered.{by-kind, head-width, head-text, width-text}
 

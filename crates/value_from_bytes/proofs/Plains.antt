@@ -13,7 +13,7 @@ use Rattle.text.proofs.Classes.{in-range, in-range-is}
 use Rattle.text.proofs.Numbers.{Byte, number-big, big-length, big-bytes}
 use Rattle.list.specs.Listing.{enum, bool, num}
 use Rattle.value.specs.Value.{Value, place, truth, natural, IsValue, truthByte}
-use Rattle.value_from_bytes.specs.Judges.{isPlace, isTruth, isNatural}
+use Rattle.value_from_bytes.specs.mirror.Judges.{isPlace, isTruth, isNatural}
 use Rattle.value_from_bytes.proofs.Exactly.{Stored, Passes, Exact, number-at}
 
 -- ---- ENUM

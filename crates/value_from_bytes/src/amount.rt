@@ -4,7 +4,7 @@ use crate::plain::byte;
 use text::number::get64;
 use value::code::is_ccy;
 ghost use mathlib.Core.Path.{_≡_};
-ghost use Rattle.value_from_bytes.specs.Judges.{isAmount};
+ghost use Rattle.value_from_bytes.specs.mirror.Judges.{isAmount};
 
 pub(crate) fn is_amount(b: &[u8]) -> bool
     ensures { λ r. ⌜ r ≡ isAmount (now (b .entry)) ⌝ }

@@ -5,7 +5,7 @@ use text::number::get16;
 use value_dates::day::month_days;
 ghost use mathlib.Core.Path.{_≡_};
 ghost use Rattle.value.specs.Day.{isReal};
-ghost use Rattle.value_from_bytes.specs.Judges.{isDay};
+ghost use Rattle.value_from_bytes.specs.mirror.Judges.{isDay};
 
 fn is_real(y: u16, m: u8, d: u8) -> bool
     ensures { λ r. ⌜ r ≡ isReal y m d ⌝ }

@@ -14,7 +14,7 @@ use value::code::is_iban;
 ghost use mathlib.Core.Path.{_≡_};
 ghost use Prim.Native.Nat.{_+_, _≤_};
 ghost use lib.ListN.{length, drop};
-ghost use Rattle.value_from_bytes.specs.Ends.{Spans, valueEnd};
+ghost use Rattle.value_from_bytes.specs.mirror.Ends.{Spans, valueEnd};
 ghost use Rattle.value_from_bytes.specs.Stands.{EndsBy};
 
 fn wide(x: u16) -> usize

@@ -10,8 +10,8 @@ ghost use Prim.Native.Nat.{_+_};
 ghost use lib.ListN.{drop};
 ghost use Rattle.text.specs.Lists.{span};
 ghost use Rattle.value.specs.Text.{isRef, notSpace};
-ghost use Rattle.value_from_bytes.specs.Tests.{every, some, apart};
-ghost use Rattle.value_from_bytes.specs.Judges.{isWord, isReference, isAsciiTxt, txtLen, isWriting};
+ghost use Rattle.value_from_bytes.specs.mirror.Tests.{every, some, apart};
+ghost use Rattle.value_from_bytes.specs.mirror.Judges.{isWord, isReference, isAsciiTxt, txtLen, isWriting};
 
 // Of a reference, but no slash. The bytes that a range lacks stand in rows without neighbours: each row is one test of a mask.
 fn is_sign(x: u8) -> bool

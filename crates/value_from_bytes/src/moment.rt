@@ -5,7 +5,7 @@ use crate::plain::byte;
 use text::number::get16;
 use text::number::get32;
 ghost use mathlib.Core.Path.{_≡_};
-ghost use Rattle.value_from_bytes.specs.Judges.{isMoment};
+ghost use Rattle.value_from_bytes.specs.mirror.Judges.{isMoment};
 
 pub(crate) fn is_moment(b: &[u8]) -> bool
     ensures { λ r. ⌜ r ≡ isMoment (now (b .entry)) ⌝ }

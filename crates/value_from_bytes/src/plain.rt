@@ -3,7 +3,7 @@
 use text::number::get64;
 ghost use mathlib.Core.Path.{_≡_};
 ghost use lib.ListN.{getD};
-ghost use Rattle.value_from_bytes.specs.Judges.{isPlace, isTruth, isNatural};
+ghost use Rattle.value_from_bytes.specs.mirror.Judges.{isPlace, isTruth, isNatural};
 
 // A byte, 0 past the end.
 pub(crate) fn byte(b: &[u8], i: usize) -> u8

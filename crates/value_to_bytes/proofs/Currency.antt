@@ -12,7 +12,7 @@ use borrow.Author.Tests.{not-true, not-false}
 use Rattle.text.specs.Bytes.{isCapital}
 use Rattle.text.specs.Lists.{All}
 use Rattle.text.proofs.Parts.{part-at, part-room}
-use Rattle.value.proofs.Codes.{ccy-make}
+use Rattle.value.proofs.classes.Codes.{ccy-make}
 use Rattle.value.specs.Code.{Ccy}
 use Rattle.value.specs.Judged.{Exactly}
 

@@ -24,7 +24,7 @@ use Rattle.value.specs.declared.judged.Judged.{Judged}
 use Rattle.value.specs.declared.judged.Moment as M
 use Rattle.value.specs.declared.judged.Judged.the-variants as J
 use Rattle.value_to_bytes.specs.Giving.{Counted, Told, Gives, some, none, Long, Sized, Written}
-use Rattle.value_to_bytes.specs.Puts.{Wrote, AmountPut, rich, poor, Counts, textSize, textBytes, TextPut}
+use Rattle.value_to_bytes.specs.mirror.Puts.{Wrote, AmountPut, rich, poor, Counts, textSize, textBytes, TextPut}
 use Rattle.value_to_bytes.proofs.Putting.{amount-long, text-long, size-long, size-short, bytes-long, bytes-short}
 use Rattle.value_to_bytes.proofs.Unique.{isAmount, amount-code, other-code, spelt-any, spelt-money, euro, euro-is, told-one}
 

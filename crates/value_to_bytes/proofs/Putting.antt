@@ -20,8 +20,8 @@ use Rattle.value.specs.Code.{Ccy}
 use Rattle.value.specs.Judged.{Exactly, momentValue}
 use Rattle.value.specs.Value.{text, truth, natural, amount, day, moment, bytes}
 use Rattle.value.specs.declared.judged.Moment as M
-use Rattle.value_to_bytes.specs.Runs.{Roomy, CharsPut}
-use Rattle.value_to_bytes.specs.Puts.{Wrote, AmountPut, rich, poor, Counts, textSize, textBytes, TextPut}
+use Rattle.value_to_bytes.specs.mirror.Runs.{Roomy, CharsPut}
+use Rattle.value_to_bytes.specs.mirror.Puts.{Wrote, AmountPut, rich, poor, Counts, textSize, textBytes, TextPut}
 
 -- ---- one byte, and room
 

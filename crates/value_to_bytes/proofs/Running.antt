@@ -20,7 +20,7 @@ use Rattle.text.proofs.Parts.{part-take}
 use Rattle.text.proofs.Pasting.{pasted-none, pasted-then}
 use Rattle.text.proofs.Spans.{span-le, span-stop, span-go, span-append}
 use Rattle.text_characters.proofs.Spelling.{Begins, Leads, next-begins, leads, none-spells, one-text}
-use Rattle.value_to_bytes.specs.Runs.{isOwn, Roomy, CharsPut}
+use Rattle.value_to_bytes.specs.mirror.Runs.{isOwn, Roomy, CharsPut}
 use Rattle.value_to_bytes.proofs.Putting.{kept}
 
 -- ---- bytes that are no ampersand

@@ -18,8 +18,8 @@ use Rattle.list.specs.WellFormed.{LeafOk}
 use Rattle.value.specs.Code.{Ccy}
 use Rattle.value.specs.Kind.{code, Given}
 use Rattle.value.specs.Value.{Value, text, place, truth, natural, amount, day, moment, IsValue, Spelt, bytes}
-use Rattle.value.proofs.Encoding.{encoded-most}
-use Rattle.value.proofs.Values.{value-laws}
+use Rattle.value.proofs.raw.Encoding.{encoded-most}
+use Rattle.value.proofs.types.Values.{value-laws}
 use Rattle.value_to_bytes.specs.Giving.{Counted, Told, Gives, some, none, Long, Sized, Written}
 use Rattle.value_to_bytes.proofs.Putting.{day-long, natural-long, moment-long, text-long}
 use Rattle.value_to_bytes.proofs.Unique.{leaf-one, spelt-any, spelt-turned, euro, euro-is, told-one, gives-one}

@@ -15,8 +15,8 @@ use Rattle.list.specs.Listing.{Leaf, ref, iban, ccy, bool, num, amt, date, dtm,
 use Rattle.value.specs.Code.{Ccy}
 use Rattle.value.specs.Kind.{code, Given}
 use Rattle.value.specs.Value.{Value, text, place, truth, natural, amount, day, moment, Form, Spelt, bytes}
-use Rattle.value.proofs.Numbered.{leafOf}
-use Rattle.value.proofs.Values.{value-laws}
+use Rattle.value.proofs.types.Numbered.{leafOf}
+use Rattle.value.proofs.types.Values.{value-laws}
 use Rattle.value_to_bytes.specs.Giving.{Told, Gives, some, none, Sized, Written}
 
 -- ---- a kind but ENUM has one leaf

@@ -7,7 +7,7 @@ ghost use mathlib.Core.Path.{_≡_};
 ghost use Prim.Native.Nat.{_+_};
 ghost use lib.ListN.{drop};
 ghost use Rattle.text.specs.Lists.{span};
-ghost use Rattle.value_to_bytes.specs.Runs.{isOwn, Roomy, CharsPut};
+ghost use Rattle.value_to_bytes.specs.mirror.Runs.{isOwn, Roomy, CharsPut};
 
 // Where the next entity begins, or the end.
 fn run_end(t: &[u8], at: usize) -> usize

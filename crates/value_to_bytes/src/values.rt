@@ -20,7 +20,7 @@ ghost use Rattle.text.specs.Pasting.{pasted};
 ghost use Rattle.value.specs.Code.{Ccy};
 ghost use Rattle.value.specs.Judged.{Exactly, momentValue};
 ghost use Rattle.value.specs.Value.{bytes, truth, natural, day};
-ghost use Rattle.value_to_bytes.specs.Puts.{Wrote, Counts, textSize, TextPut, AmountPut};
+ghost use Rattle.value_to_bytes.specs.mirror.Puts.{Wrote, Counts, textSize, TextPut, AmountPut};
 
 fn truth_byte(yes: bool) -> u8
     ensures { λ r. ⌜ (r ∷ []) ≡ bytes (truth yes) ⌝ }

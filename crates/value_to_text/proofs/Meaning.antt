@@ -30,13 +30,13 @@ use Rattle.value.specs.Code.{Ccy}
 use Rattle.value.specs.Day.{Real, pair, dayText}
 use Rattle.value.specs.Moment.{Parts, Fraction, absent, decimals, figures, clockText, fractionText, zoneText}
 use Rattle.value.specs.Value.{Value, text, place, truth, natural, amount, day, moment, IsValue, bytes}
-use Rattle.value.proofs.Classes.{Solid}
-use Rattle.value.proofs.Dates.{month-most}
-use Rattle.value.proofs.Encoding.{encoded-most}
-use Rattle.value.proofs.Firm.{Firm, ccy-dense}
+use Rattle.value.proofs.classes.Classes.{Solid}
+use Rattle.value.proofs.dates.Dates.{month-most}
+use Rattle.value.proofs.raw.Encoding.{encoded-most}
+use Rattle.value.proofs.raw.Firm.{Firm, ccy-dense}
 use Rattle.value_to_text.specs.Script.{truthText, fractionOf, zoneOf, scriptOf}
 use Rattle.value_to_text.specs.Raw.{pieceOf, rawOf, isMarked, escape, escaped}
-use Rattle.value_to_text.specs.Stored.{textRaw, wordRaw, threeRaw, placesRaw, fractionRaw, offsetRaw, zoneRaw, dayIn, clockIn, momentIn, rawText, rawAt}
+use Rattle.value_to_text.specs.mirror.Stored.{textRaw, wordRaw, threeRaw, placesRaw, fractionRaw, offsetRaw, zoneRaw, dayIn, clockIn, momentIn, rawText, rawAt}
 use Rattle.value_to_text.proofs.Scripts.{script-dense}
 use Rattle.value_to_text.proofs.Escaping.{marked, escape-amp, escape-lt, escape-gt, escape-plain}
 

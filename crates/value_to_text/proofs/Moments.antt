@@ -18,7 +18,7 @@ use Rattle.text.proofs.Pasting.{length-pasted, slice-pasted, pasted-none}
 use Rattle.text.proofs.Puts.{puts-then}
 use Rattle.value.specs.Moment.{absent, decimals}
 use Rattle.value_to_text.specs.Script.{fractionOf}
-use Rattle.value_to_text.specs.Stored.{threeRaw, placesRaw, fractionRaw, offsetRaw, zoneRaw, dayIn, clockIn, momentIn}
+use Rattle.value_to_text.specs.mirror.Stored.{threeRaw, placesRaw, fractionRaw, offsetRaw, zoneRaw, dayIn, clockIn, momentIn}
 
 laid : (d : List ℕ) (at : ℕ) (bs : List ℕ) (r : ℕ) (d′ : List ℕ) → r ≡ at + length bs → d′ ≡ pasted d at bs → Puts d at bs r d′
 laid d at bs r d′ e f = record { behind = e; long = ap length f ∙ length-pasted d at bs; is = λ h. f }

@@ -21,11 +21,11 @@ use Rattle.value.specs.Amount as A
 use Rattle.value.specs.Moment.{former, present, Fraction, absent, decimals, FractionOk, micros, Zone, zulu, ahead, behind, ZoneOk, offset, Parts, MomentText, ordinary}
 use Rattle.value.specs.Value.{Value, text, day, moment, IsValue, Form, Left, Spelt}
 use Rattle.value.specs.Rules.{InThousandths}
-use Rattle.value.proofs.Classes.{digit-yes}
-use Rattle.value.proofs.Decimals.{canon}
-use Rattle.value.proofs.Trim.{Dense}
-use Rattle.value.proofs.Dates.{whole-dense}
-use Rattle.value.proofs.Firm.{Firm, form-dense}
+use Rattle.value.proofs.classes.Classes.{digit-yes}
+use Rattle.value.proofs.numbers.Decimals.{canon}
+use Rattle.value.proofs.raw.Trim.{Dense}
+use Rattle.value.proofs.dates.Dates.{whole-dense}
+use Rattle.value.proofs.raw.Firm.{Firm, form-dense}
 use Rattle.value.proofs.Rules.{by-present, by-is, spelt-fine, parts-former}
 use Rattle.value_to_text.specs.Script.{amountText, truthText, fractionOf, zoneOf, scriptOf, currencyOf}
 use Rattle.value_to_text.specs.Spelled.{Spelled, SpelledByEither}

@@ -18,7 +18,7 @@ use Rattle.text.proofs.Pasting.{pasted-none}
 use Rattle.list.specs.Table.{cell, words, longer, wordsIn}
 use Rattle.value_to_text.specs.Script.{truthText}
 use Rattle.value_to_text.specs.Raw.{escaped}
-use Rattle.value_to_text.specs.Stored.{textRaw, wordRaw, raws, rawText}
+use Rattle.value_to_text.specs.mirror.Stored.{textRaw, wordRaw, raws, rawText}
 
 -- what was written, under another name: r bytes, at most so many
 module _ (d d′ : List ℕ) (at r m n : ℕ) (u v : List ℕ) (e : v ≡ u) (l : m ≤ n) where

@@ -5,5 +5,5 @@ pub mod Script
 pub mod Spelled
 -- the bytes of characters in text
 pub mod Raw
--- a mirror: what is written for the bytes of a value
-pub mod Stored
+-- mirrors, which say how the code goes
+pub mod mirror

@@ -10,7 +10,7 @@ ghost use Prim.Native.Nat.{_+_, _≤_};
 ghost use lib.ListN.{length, getD};
 ghost use Rattle.text.specs.Digits.{padded};
 ghost use Rattle.text.specs.Pasting.{pasted};
-ghost use Rattle.value_to_text.specs.Stored.{threeRaw, fractionRaw, offsetRaw, zoneRaw, dayIn, clockIn, momentIn};
+ghost use Rattle.value_to_text.specs.mirror.Stored.{threeRaw, fractionRaw, offsetRaw, zoneRaw, dayIn, clockIn, momentIn};
 
 // A byte, 0 past the end.
 pub(crate) fn byte(b: &[u8], i: usize) -> u8

@@ -20,7 +20,7 @@ ghost use lib.ListN.{length, getD};
 ghost use Rattle.text.specs.Pasting.{pasted};
 ghost use Rattle.list.specs.Table.{wordsIn};
 ghost use Rattle.value_to_text.specs.Script.{truthText};
-ghost use Rattle.value_to_text.specs.Stored.{textRaw, wordRaw, rawAt};
+ghost use Rattle.value_to_text.specs.mirror.Stored.{textRaw, wordRaw, rawAt};
 
 // REF, TXT, IBAN, CCY: as long as the first two bytes say.
 fn write_text(b: &[u8], out: &mut [u8], at: usize) -> usize

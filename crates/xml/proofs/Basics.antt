@@ -12,7 +12,7 @@ use Rattle.text.specs.Bytes.{inRange, isBlank, isNameStart, isNamePart}
 use Rattle.text.specs.Lists.{All, Begins, same}
 use Rattle.text.proofs.Parts.{same-eq, same-not}
 use Rattle.xml.specs.House.{IsName, IsAttrName, Fresh}
-use Rattle.xml.specs.Auto.{member}
+use Rattle.xml.specs.mirror.Auto.{member}
 
 -- a blank is one of four bytes
 pub by-blank : (P : ℕ → Type 0) (x : ℕ) → isBlank x ≡ true → P 32 → P 9 → P 10 → P 13 → P x

@@ -8,7 +8,7 @@ use lib.Dec.{eqb, T, eqb→eq}
 use Rattle.text.specs.Bytes.{ascii, isBlank, isNameStart, isNamePart}
 use Rattle.text.specs.Lists.{same}
 use Rattle.xml.specs.House.{Longest}
-use Rattle.xml.specs.Auto.{at, start, step, next, lead, liveLen}
+use Rattle.xml.specs.mirror.Auto.{at, start, step, next, lead, liveLen}
 use Rattle.xml.proofs.Theorem.{longest}
 
 pub record Example : Type 0 where

@@ -12,7 +12,7 @@ use Rattle.text.specs.Lists.{All}
 use Rattle.text_characters.specs.Pieces.{Piece, char, spell}
 use Rattle.xml.specs.House.{Blanks, SomeBlanks, IsName, IsAttrName, Quote, single, double, mark, GoodValue, Attr, GoodAttr, Fresh, GoodAttrs, Tag, GoodTag, Content, end, piece, empty, full, OneElement, declaration}
 use Rattle.xml.proofs.Runs.{cuts, brackets, GoodAfter}
-use Rattle.xml.specs.Auto.{Part, Read, bad, all, more, lead, go-on, takes, At, done, start, first, before, root, name, tail, gap, attr, Mode, early, colon, late, grows, goesTo, mayStop, equals, quote, value, within, slash, content, part, less, close, St, at, member, after, endStep, valueNext, contentNext, next, step, run}
+use Rattle.xml.specs.mirror.Auto.{Part, Read, bad, all, more, lead, go-on, takes, At, done, start, first, before, root, name, tail, gap, attr, Mode, early, colon, late, grows, goesTo, mayStop, equals, quote, value, within, slash, content, part, less, close, St, at, member, after, endStep, valueNext, contentNext, next, step, run}
 use Rattle.xml.proofs.Basics.{by-blank, blank-no-rest, blank-no-start, no-colon, fresh-member}
 use Rattle.xml.proofs.Pieces.{Seen, s-short, s-long, seen, plain-brackets}
 use Rattle.xml.proofs.Lang.{Goes, spellsOn, attrOn, attrsOn, tagOn, endOn, on}

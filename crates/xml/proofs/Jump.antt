@@ -4,7 +4,7 @@ use mathlib.Core.Bool.{false}
 use mathlib.Core.List.{List}
 use Prim.Native.Nat.{ℕ}
 use lib.Dec.{eqb}
-use Rattle.xml.specs.Auto.{all, lead, content, at, next}
+use Rattle.xml.specs.mirror.Auto.{all, lead, content, at, next}
 
 -- a byte that is a character by itself, and neither `<`, nor `>`, nor `]`
 pub record Easy (x : ℕ) : Type 0 where

@@ -14,7 +14,7 @@ use Rattle.text.proofs.Classes.{in-range, in-range-is}
 use Rattle.text_characters.proofs.Decoding.{encode1, encode2, encode3, encode4}
 use Rattle.text_characters.specs.Pieces.{Entity, amp, lt, gt, quot, apos, word, Piece, char, entity, spell, GoodPiece}
 use Rattle.xml.proofs.Runs.{cuts, brackets}
-use Rattle.xml.specs.Auto.{Part, one, two, three, e0, ed, ef, efbf, f0, f4, ampersand, ampersandA, Read, bad, all, more, toWord, long, lead, takes}
+use Rattle.xml.specs.mirror.Auto.{Part, one, two, three, e0, ed, ef, efbf, f0, f4, ampersand, ampersandA, Read, bad, all, more, toWord, long, lead, takes}
 
 -- no ASCII character
 abbrev pub Plain : Piece → Type 0

@@ -7,7 +7,7 @@ use native.Mathlib.Nat.{le-of-suc-le-suc}
 use native.Mathlib.Omega.{arith}
 use lib.ListN.{length, take}
 use Rattle.xml.specs.House.{end, empty, full, render, declaration, HouseXml, Viable, Longest}
-use Rattle.xml.specs.Auto.{done, start, St, dead, at, step, run, isDead, liveLen}
+use Rattle.xml.specs.mirror.Auto.{done, start, St, dead, at, step, run, isDead, liveLen}
 use Rattle.xml.proofs.Runs.{to-after, from-after}
 use Rattle.xml.proofs.Lang.{on, Rest, StartL, BeforeL, RootL, ElementL, e-empty, e-full, element, LS, back, live}
 use Rattle.xml.proofs.Forward.{start-run}

@@ -15,7 +15,7 @@ use Rattle.text.specs.Lists.{All, Begins}
 use Rattle.text_characters.specs.Pieces.{Entity, amp, lt, gt, quot, apos, word, Piece, char, entity, spell, GoodPiece}
 use Rattle.xml.specs.House.{Blanks, SomeBlanks, Quote, single, double, mark, GoodValue, Attr, GoodAttr, GoodAttrs, Tag, GoodTag, Content, end, piece, empty, full, OneElement, declaration, Tree, GoodTree, whole}
 use Rattle.xml.proofs.Runs.{brackets, GoodAfter, to-after}
-use Rattle.xml.specs.Auto.{Part, Read, bad, all, more, lead, go-on, takes}
+use Rattle.xml.specs.mirror.Auto.{Part, Read, bad, all, more, lead, go-on, takes}
 use Rattle.xml.proofs.Basics.{blank-no-rest, blank-no-start, isFullPart, blank-no-full, full-name}
 use Rattle.xml.proofs.Pieces.{Seen, s-short, s-long, seen}
 use Rattle.xml.proofs.Lang.{spellsOn, attrOn, attrsOn, tagOn, endOn, on}

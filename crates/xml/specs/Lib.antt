@@ -3,5 +3,5 @@
 pub mod House
 -- what a tree holds, with places
 pub mod Message
--- a mirror: the automaton that reads house XML a byte at a time
-pub mod Auto
+-- mirrors, which say how the code goes
+pub mod mirror

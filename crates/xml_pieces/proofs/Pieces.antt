@@ -14,10 +14,10 @@ use lib.Seq.{drop-cons}
 use borrow.Author.Tests.{lt-ltb, le-ltb, le-leb, lt-leb, ne-eqb}
 use Rattle.text.specs.Bytes.{inRange, isBlank}
 use Rattle.xml.proofs.Basics.{by-blank}
-use Rattle.xml.specs.Auto.{Part, one, two, three, e0, ed, ef, f0, f4, ampersand, rest, Read, bad, all, more, toWord, lead, go-on}
+use Rattle.xml.specs.mirror.Auto.{Part, one, two, three, e0, ed, ef, f0, f4, ampersand, rest, Read, bad, all, more, toWord, lead, go-on}
 use Rattle.xml_pieces.specs.Over.{Over}
 use Rattle.xml_pieces.specs.Kinds.{IsPiece, IsWord}
-use Rattle.xml_pieces.specs.Reading.{told, reading, ReadsOne, Ranged, ReadsTwo, ReadsThree, leastBehind, greatestBehind}
+use Rattle.xml_pieces.specs.mirror.Reading.{told, reading, ReadsOne, Ranged, ReadsTwo, ReadsThree, leastBehind, greatestBehind}
 use Rattle.xml_pieces.specs.declared.Went.{Went}
 use Rattle.xml_pieces.specs.declared.Went.the-variants.{On, Stopped}
 use Rattle.xml_pieces.proofs.Words.{overWord, word-is}

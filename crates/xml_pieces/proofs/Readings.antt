@@ -8,12 +8,12 @@ use native.Mathlib.Omega.{arith}
 use lib.ListN.{length, take}
 use lib.Seq.{length-take-le}
 use Rattle.text_characters.specs.Pieces.{Piece, char, spell}
-use Rattle.xml.specs.Auto.{Part, Read, bad, all, more, lead, go-on, takes, part}
+use Rattle.xml.specs.mirror.Auto.{Part, Read, bad, all, more, lead, go-on, takes, part}
 use Rattle.xml.proofs.Pieces.{short, found, Seen, s-short, s-long, seen}
 use Rattle.xml.proofs.Lang.{live}
 use Rattle.xml_pieces.specs.Over.{Ends, Begun, Over}
 use Rattle.xml_pieces.specs.Kinds.{IsPiece}
-use Rattle.xml_pieces.specs.Reading.{told, reading}
+use Rattle.xml_pieces.specs.mirror.Reading.{told, reading}
 use Rattle.xml_pieces.specs.declared.Went.{Went}
 use Rattle.xml_pieces.proofs.Overs.{Lone, over-one, over-end, over-dead, over-last, over-byte, over-as}
 

@@ -3,5 +3,5 @@
 pub mod Over
 -- the constructs: pieces, given bytes, rows of `]`, runs by a table
 pub mod Kinds
--- a mirror: a piece read a byte at a time
-pub mod Reading
+-- mirrors, which say how the code goes
+pub mod mirror

@@ -5,10 +5,10 @@ use text::class::is_blank;
 ghost use mathlib.Core.Path.{_≡_};
 ghost use Prim.Native.Nat.{_<_};
 ghost use lib.ListN.{length, getD, drop};
-ghost use Rattle.xml.specs.Auto.{ampersand, ampersandA, ef, lead, go-on};
+ghost use Rattle.xml.specs.mirror.Auto.{ampersand, ampersandA, ef, lead, go-on};
 ghost use Rattle.xml_pieces.specs.Over.{Over};
 ghost use Rattle.xml_pieces.specs.Kinds.{IsPiece};
-ghost use Rattle.xml_pieces.specs.Reading.{leastBehind, greatestBehind, reading, ReadsOne, ReadsTwo, ReadsThree};
+ghost use Rattle.xml_pieces.specs.mirror.Reading.{leastBehind, greatestBehind, reading, ReadsOne, ReadsTwo, ReadsThree};
 
 // Over one byte from low to high.
 fn one(s: &[u8], at: usize, low: u8, high: u8) -> Went

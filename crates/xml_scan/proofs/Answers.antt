@@ -6,9 +6,9 @@ use Prim.Native.Nat.{ℕ, _+_, _≤_, _<_}
 use lib.ListN.{length, getD, drop}
 use Rattle.text.specs.Bytes.{isBlank}
 use Rattle.text.specs.Lists.{span}
-use Rattle.xml.specs.Auto.{done, start, root, dead, at, next}
+use Rattle.xml.specs.mirror.Auto.{done, start, root, dead, at, next}
 use Rattle.xml.proofs.Theorem.{longest-one}
-use Rattle.xml_scan.specs.Goes.{fate, Goes}
+use Rattle.xml_scan.specs.mirror.Goes.{fate, Goes}
 use Rattle.xml_scan.specs.Right.{Right}
 use Rattle.xml_pieces.specs.declared.Went.{Went}
 use Rattle.xml_pieces.specs.declared.Went.the-variants.{On, Stopped}

@@ -12,8 +12,8 @@ use borrow.Author.Tests.{eq-eqb, ne-eqb}
 use Rattle.text.specs.Bytes.{isBlank}
 use Rattle.text.specs.Lists.{span}
 use Rattle.xml.specs.House.{Quote, single, double, mark}
-use Rattle.xml.specs.Auto.{Read, bad, all, more, lead, go-on, tail, equals, quote, value, within, dead, at, valueNext, next}
-use Rattle.xml_scan.specs.Goes.{fate, Goes, Marked, GoesValue, GoesEquals}
+use Rattle.xml.specs.mirror.Auto.{Read, bad, all, more, lead, go-on, tail, equals, quote, value, within, dead, at, valueNext, next}
+use Rattle.xml_scan.specs.mirror.Goes.{fate, Goes, Marked, GoesValue, GoesEquals}
 use Rattle.xml_pieces.specs.Over.{Over}
 use Rattle.xml_pieces.specs.Kinds.{IsPiece}
 use Rattle.xml_pieces.specs.declared.Went.{Went}

@@ -13,8 +13,8 @@ use Rattle.text.specs.Bytes.{ascii, isBlank, isNameStart}
 use Rattle.text.specs.Lists.{span}
 use Rattle.text.specs.Words.{starts}
 use Rattle.text.proofs.Parts.{starts-is, starts-not}
-use Rattle.xml.specs.Auto.{start, first, before, root, declare, dead, at, declareNext, next}
-use Rattle.xml_scan.specs.Goes.{fate, Goes}
+use Rattle.xml.specs.mirror.Auto.{start, first, before, root, declare, dead, at, declareNext, next}
+use Rattle.xml_scan.specs.mirror.Goes.{fate, Goes}
 use Rattle.xml_pieces.specs.Over.{Over}
 use Rattle.xml_pieces.specs.Kinds.{IsWord}
 use Rattle.xml_pieces.specs.declared.Went.{Went}

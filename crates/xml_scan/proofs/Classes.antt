@@ -10,12 +10,12 @@ use native.Mathlib.Decide.{decLt}
 use lib.ListN.{length, getD, drop, List·getD-eq-default}
 use borrow.Author.Tests.{ltb-true, eqb-true}
 use Rattle.text.specs.Bytes.{isBlank, isNamePart}
-use Rattle.xml.specs.Auto.{Read, bad, all, more, lead}
+use Rattle.xml.specs.mirror.Auto.{Read, bad, all, more, lead}
 use Rattle.xml.proofs.Jump.{Easy}
 use Rattle.text.proofs.Classes.{Class, only, from, _or_, Within, Named, is-in, and-is, not-so, every, passes, blank, name-part}
 use Rattle.text.specs.Lists.{span}
 use Rattle.xml_pieces.specs.Kinds as looked
-use Rattle.xml_scan.specs.Classes.{isPlain, classOf, above, Classed}
+use Rattle.xml_scan.specs.mirror.Classes.{isPlain, classOf, above, Classed}
 
 -- ---- runs that were looked up
 

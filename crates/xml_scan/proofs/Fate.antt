@@ -12,9 +12,9 @@ use lib.Seq.{drop-cons, drop-drop, getD-drop}
 use Rattle.text.specs.Lists.{span}
 use Rattle.text.proofs.Spans.{span-le, span-next, span-end, span-stop}
 use Rattle.xml.specs.House.{HouseXml, Longest}
-use Rattle.xml.specs.Auto.{At, done, start, first, before, root, declare, name, tail, gap, attr, equals, quote, value, within, slash, content, part, less, close, St, dead, at, next, step, run, isDead, liveLen}
+use Rattle.xml.specs.mirror.Auto.{At, done, start, first, before, root, declare, name, tail, gap, attr, equals, quote, value, within, slash, content, part, less, close, St, dead, at, next, step, run, isDead, liveLen}
 use Rattle.xml.proofs.Theorem.{accepts, accepted, longest, dead-run}
-use Rattle.xml_scan.specs.Goes.{mayEnd, ends, comes, fate}
+use Rattle.xml_scan.specs.mirror.Goes.{mayEnd, ends, comes, fate}
 
 pair : {u v : Bool} {m n : ℕ} → u ≡ v → m ≡ n → _≡_ {A = Bool × ℕ} (u, m) (v, n)
 pair e f = ap₂ (λ (b : Bool) (k : ℕ). (b, k)) e f

@@ -11,11 +11,11 @@ use lib.Seq.{slice}
 use borrow.Author.Tests.{ne-eqb}
 use Rattle.text.specs.Bytes.{isNameStart, isNamePart}
 use Rattle.text.specs.Lists.{span}
-use Rattle.xml.specs.Auto.{early, colon, late, grows, gap, attr, dead, at, next}
+use Rattle.xml.specs.mirror.Auto.{early, colon, late, grows, gap, attr, dead, at, next}
 use Rattle.xml.proofs.Basics.{no-colon}
-use Rattle.xml_scan.specs.Classes.{above}
-use Rattle.xml_scan.specs.Goes.{fate}
-use Rattle.xml_scan.specs.Tags.{Named, GoesName}
+use Rattle.xml_scan.specs.mirror.Classes.{above}
+use Rattle.xml_scan.specs.mirror.Goes.{fate}
+use Rattle.xml_scan.specs.mirror.Tags.{Named, GoesName}
 use Rattle.xml_pieces.specs.declared.Went.{Went}
 use Rattle.xml_pieces.specs.declared.Went.the-variants.{On, Stopped}
 use Rattle.xml_scan.proofs.Classes.{above-name}

@@ -5,8 +5,8 @@ use mathlib.Core.List.{List}
 use Prim.Native.Nat.{ℕ, _+_, _≤_, _<_}
 use native.Mathlib.Omega.{arith}
 use lib.ListN.{length, getD}
-use Rattle.xml.specs.Auto.{At, at, next}
-use Rattle.xml_scan.specs.Goes.{fate, Goes}
+use Rattle.xml.specs.mirror.Auto.{At, at, next}
+use Rattle.xml_scan.specs.mirror.Goes.{fate, Goes}
 use Rattle.xml_pieces.specs.declared.Went.{Went}
 use Rattle.xml_pieces.specs.declared.Went.the-variants.{On, Stopped}
 use Rattle.xml_scan.proofs.Fate.{fate-byte}

@@ -7,8 +7,8 @@ use native.Mathlib.Omega.{arith}
 use lib.ListN.{length, getD, drop, take}
 use lib.Seq.{slice, slice-empty, take-add, drop-append-le, length-take-le, drop-cons}
 use Rattle.text.specs.Lists.{span}
-use Rattle.xml.specs.Auto.{At, at, next}
-use Rattle.xml_scan.specs.Goes.{fate}
+use Rattle.xml.specs.mirror.Auto.{At, at, next}
+use Rattle.xml_scan.specs.mirror.Goes.{fate}
 use Rattle.xml_scan.proofs.Fate.{fate-byte, fate-grow}
 
 module _ (s : List ℕ) (b c : ℕ) (h : b ≤ c) where

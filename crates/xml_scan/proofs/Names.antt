@@ -9,8 +9,8 @@ use native.Mathlib.Omega.{arith}
 use lib.ListN.{length, getD, set, length-set}
 use lib.Seq.{slice, getD-set-same, getD-set-other}
 use Rattle.text.specs.Lists.{same}
-use Rattle.xml.specs.Auto.{member}
-use Rattle.xml_scan.specs.Tags.{names, Held}
+use Rattle.xml.specs.mirror.Auto.{member}
+use Rattle.xml_scan.specs.mirror.Tags.{names, Held}
 
 -- ---- the last of n names, and one name more
 

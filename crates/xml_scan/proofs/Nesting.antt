@@ -12,10 +12,10 @@ use borrow.Author.Tests.{ne-eqb}
 use Rattle.text.specs.Bytes.{isBlank, isNameStart}
 use Rattle.text.specs.Lists.{span}
 use Rattle.text.proofs.Parts.{part-take}
-use Rattle.xml.specs.Auto.{At, done, root, name, tail, content, less, close, St, dead, at, after, push, next}
-use Rattle.xml_scan.specs.Classes.{above, Classed}
-use Rattle.xml_scan.specs.Goes.{fate, Goes, GoesText}
-use Rattle.xml_scan.specs.Tags.{names, Held, Turns, GoesTag, begun, Opens, inside, marked, Nested, Steps, GoesStart, GoesClose}
+use Rattle.xml.specs.mirror.Auto.{At, done, root, name, tail, content, less, close, St, dead, at, after, push, next}
+use Rattle.xml_scan.specs.mirror.Classes.{above, Classed}
+use Rattle.xml_scan.specs.mirror.Goes.{fate, Goes, GoesText}
+use Rattle.xml_scan.specs.mirror.Tags.{names, Held, Turns, GoesTag, begun, Opens, inside, marked, Nested, Steps, GoesStart, GoesClose}
 use Rattle.xml_pieces.specs.Over.{Over as Passes}
 use Rattle.xml_pieces.specs.Kinds.{IsWord}
 use Rattle.xml_pieces.specs.declared.Went.{Went}

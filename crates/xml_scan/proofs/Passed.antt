@@ -8,15 +8,15 @@ use native.Mathlib.Omega.{arith}
 use lib.Dec.{eqb}
 use lib.ListN.{length, getD, drop, length-drop}
 use lib.Seq.{drop-cons, drop-drop}
-use Rattle.xml.specs.Auto.{Part, Read, bad, all, more, lead, go-on, At, St, dead, at, next}
+use Rattle.xml.specs.mirror.Auto.{Part, Read, bad, all, more, lead, go-on, At, St, dead, at, next}
 use Rattle.xml_pieces.specs.Over.{Over}
 use Rattle.xml_pieces.specs.Kinds.{IsPiece, IsWord}
-use Rattle.xml_pieces.specs.Reading.{told, reading}
+use Rattle.xml_pieces.specs.mirror.Reading.{told, reading}
 use Rattle.xml_pieces.specs.declared.Went.{Went}
 use Rattle.xml_pieces.specs.declared.Went.the-variants.{On, Stopped}
 use Rattle.xml_pieces.proofs.Words.{overWord, word-is}
 use Rattle.xml_pieces.proofs.Readings.{piece-is}
-use Rattle.xml_scan.specs.Goes.{mayEnd, comes, fate, Goes}
+use Rattle.xml_scan.specs.mirror.Goes.{mayEnd, comes, fate, Goes}
 use Rattle.xml_scan.proofs.Fate.{comes-none, comes-dead, comes-byte}
 
 -- from a on to b over m bytes at least of t, which stand at place i; or the text stops

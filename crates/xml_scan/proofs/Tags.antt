@@ -13,10 +13,10 @@ use borrow.Author.Tests.{ne-eqb}
 use Rattle.text.specs.Bytes.{isBlank, isNameStart}
 use Rattle.text.specs.Lists.{span}
 use Rattle.text.proofs.Spans.{span-go}
-use Rattle.xml.specs.Auto.{Mode, grows, mayStop, name, tail, gap, attr, equals, slash, content, dead, at, member, after, next}
+use Rattle.xml.specs.mirror.Auto.{Mode, grows, mayStop, name, tail, gap, attr, equals, slash, content, dead, at, member, after, next}
 use Rattle.xml.proofs.Basics.{blank-no-start}
-use Rattle.xml_scan.specs.Goes.{fate, GoesEquals}
-use Rattle.xml_scan.specs.Tags.{names, Held, Named, GoesName, GoesAttribute, GoesEnd, GoesTag}
+use Rattle.xml_scan.specs.mirror.Goes.{fate, GoesEquals}
+use Rattle.xml_scan.specs.mirror.Tags.{names, Held, Named, GoesName, GoesAttribute, GoesEnd, GoesTag}
 use Rattle.xml_pieces.specs.declared.Went.{Went}
 use Rattle.xml_pieces.specs.declared.Went.the-variants.{On, Stopped}
 use Rattle.xml_scan.specs.declared.tag.Tag.{Tag}

@@ -13,10 +13,10 @@ use borrow.Author.Tests.{eq-eqb, ne-eqb, le-leb, leb-true, eqb-true}
 use Rattle.text.specs.Lists.{span}
 use Rattle.text.proofs.Classes.{and-is}
 use Rattle.text.proofs.Spans.{span-le, span-go}
-use Rattle.xml.specs.Auto.{Read, bad, all, more, lead, go-on, content, part, less, dead, at, contentNext, next}
+use Rattle.xml.specs.mirror.Auto.{Read, bad, all, more, lead, go-on, content, part, less, dead, at, contentNext, next}
 use Rattle.xml.proofs.Jump.{easy-next}
-use Rattle.xml_scan.specs.Classes.{above}
-use Rattle.xml_scan.specs.Goes.{fate, GoesOther, GoesText}
+use Rattle.xml_scan.specs.mirror.Classes.{above}
+use Rattle.xml_scan.specs.mirror.Goes.{fate, GoesOther, GoesText}
 use Rattle.xml_pieces.specs.Over.{Over}
 use Rattle.xml_pieces.specs.Kinds.{IsPiece, isBracket, goesOn, overRow}
 use Rattle.xml_pieces.specs.declared.Went.{Went}

@@ -1,9 +1,5 @@
 -- The definitions of `xml_scan`.
 -- what the answer says
 pub mod Right
--- a mirror: the table of classes
-pub mod Classes
--- a mirror: what the scanner's functions say of the automaton
-pub mod Goes
--- a mirror: names as places, and what the functions over tags say
-pub mod Tags
+-- mirrors, which say how the code goes
+pub mod mirror

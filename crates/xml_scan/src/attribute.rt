@@ -11,10 +11,10 @@ ghost use lib.ListN.{length, getD};
 ghost use lib.Seq.{slice};
 ghost use mathlib.Core.Bool.{true};
 ghost use Rattle.text.specs.Bytes.{isNameStart};
-ghost use Rattle.xml.specs.Auto.{member};
-ghost use Rattle.xml_scan.specs.Classes.{Classed};
-ghost use Rattle.xml_scan.specs.Goes.{Marked, GoesValue, GoesEquals};
-ghost use Rattle.xml_scan.specs.Tags.{names, Held, GoesName, GoesAttribute};
+ghost use Rattle.xml.specs.mirror.Auto.{member};
+ghost use Rattle.xml_scan.specs.mirror.Classes.{Classed};
+ghost use Rattle.xml_scan.specs.mirror.Goes.{Marked, GoesValue, GoesEquals};
+ghost use Rattle.xml_scan.specs.mirror.Tags.{names, Held, GoesName, GoesAttribute};
 
 // Over a value and the quote that ends it.
 fn value(s: &[u8], at: usize, quote: u8) -> Went

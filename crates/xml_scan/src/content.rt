@@ -6,8 +6,8 @@ use xml_pieces::run::run_end;
 ghost use Prim.Native.Nat.{_≤_, _<_};
 ghost use lib.ListN.{length, getD};
 ghost use mathlib.Core.Logic.{_≢_};
-ghost use Rattle.xml_scan.specs.Classes.{Classed};
-ghost use Rattle.xml_scan.specs.Goes.{GoesText, GoesOther};
+ghost use Rattle.xml_scan.specs.mirror.Classes.{Classed};
+ghost use Rattle.xml_scan.specs.mirror.Goes.{GoesText, GoesOther};
 
 // Over text and the `<` that ends it.
 pub(crate) fn text_end(s: &[u8], at: usize, classes: &[u8; 256]) -> Went

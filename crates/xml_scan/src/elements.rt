@@ -9,10 +9,10 @@ use xml_pieces::run::run_end;
 use xml_pieces::word::word;
 ghost use Prim.Native.Nat.{_≤_, _<_};
 ghost use lib.ListN.{length};
-ghost use Rattle.xml.specs.Auto.{root, done};
-ghost use Rattle.xml_scan.specs.Classes.{Classed};
-ghost use Rattle.xml_scan.specs.Goes.{Goes};
-ghost use Rattle.xml_scan.specs.Tags.{inside, marked, Nested, Steps, GoesStart, GoesClose};
+ghost use Rattle.xml.specs.mirror.Auto.{root, done};
+ghost use Rattle.xml_scan.specs.mirror.Classes.{Classed};
+ghost use Rattle.xml_scan.specs.mirror.Goes.{Goes};
+ghost use Rattle.xml_scan.specs.mirror.Tags.{inside, marked, Nested, Steps, GoesStart, GoesClose};
 
 // A place, and how many elements are open there.
 enum Step {

@@ -5,7 +5,7 @@ use prolog::prolog;
 use table::CLASSES;
 use text::span::blanks_end;
 use xml_pieces::Went;
-ghost use Rattle.xml_scan.specs.Classes.{Classed};
+ghost use Rattle.xml_scan.specs.mirror.Classes.{Classed};
 ghost use Rattle.xml_scan.specs.Right.{Right};
 
 mod attribute; // attribute.rt: an attribute, whose name is none of those before it

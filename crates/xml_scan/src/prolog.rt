@@ -5,8 +5,8 @@ use xml_pieces::Went;
 use xml_pieces::word::word;
 ghost use Prim.Native.Nat.{_≤_};
 ghost use lib.ListN.{length};
-ghost use Rattle.xml.specs.Auto as auto;
-ghost use Rattle.xml_scan.specs.Goes.{Goes};
+ghost use Rattle.xml.specs.mirror.Auto as auto;
+ghost use Rattle.xml_scan.specs.mirror.Goes.{Goes};
 
 // Over blanks and the `<` of the one element.
 fn root(s: &[u8], at: usize) -> Went

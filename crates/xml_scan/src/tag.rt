@@ -8,8 +8,8 @@ ghost use Prim.Native.Nat.{_≤_, _<_};
 ghost use lib.ListN.{length, getD};
 ghost use mathlib.Core.Bool.{false};
 ghost use Rattle.text.specs.Bytes.{isBlank};
-ghost use Rattle.xml_scan.specs.Classes.{Classed};
-ghost use Rattle.xml_scan.specs.Tags.{GoesTag, GoesEnd};
+ghost use Rattle.xml_scan.specs.mirror.Classes.{Classed};
+ghost use Rattle.xml_scan.specs.mirror.Tags.{GoesTag, GoesEnd};
 
 // `>` or `/>`, and the place behind it.
 pub enum Tag {

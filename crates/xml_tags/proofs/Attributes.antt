@@ -18,8 +18,8 @@ use Rattle.xml.proofs.Basics.{by-blank, blank-no-start, all-append, all-weaken,
 use Rattle.xml_tags.specs.declared.attribute.Attribute.{Attribute}
 use Rattle.xml_tags.specs.declared.attribute.Passed.{Passed}
 use Rattle.xml_tags.specs.Marks.{but, pass}
-use Rattle.xml_tags.specs.Passing.{noQuote, inName}
-use Rattle.xml_tags.specs.Attributes.{nowhere, valueAt, quoteAt, namedAt, attributeAt, isNone, counted, passedFrom, passedAt}
+use Rattle.xml_tags.specs.mirror.Passing.{noQuote, inName}
+use Rattle.xml_tags.specs.mirror.Attributes.{nowhere, valueAt, quoteAt, namedAt, attributeAt, isNone, counted, passedFrom, passedAt}
 use Rattle.xml_tags.specs.Places.{nameOf, attributeOf, firstOf}
 use Rattle.xml_tags.proofs.Passing.{stops, pass-over, pass-any, one-le, blank-stops, part-in-name}
 use Rattle.xml_tags.proofs.Avoid.{value-avoids}

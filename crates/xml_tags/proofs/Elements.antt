@@ -14,9 +14,9 @@ use Rattle.xml.proofs.Lang.{endOn}
 use Rattle.xml_tags.specs.declared.attribute.Attribute.{Attribute}
 use Rattle.xml_tags.specs.declared.token.Kind.{Kind}
 use Rattle.xml_tags.specs.declared.token.Kind.the-variants.{Open, Empty, Close}
-use Rattle.xml_tags.specs.Passing.{inName}
-use Rattle.xml_tags.specs.Attributes.{attributeAt}
-use Rattle.xml_tags.specs.Tokens.{bare, tokenAt}
+use Rattle.xml_tags.specs.mirror.Passing.{inName}
+use Rattle.xml_tags.specs.mirror.Attributes.{attributeAt}
+use Rattle.xml_tags.specs.mirror.Tokens.{bare, tokenAt}
 use Rattle.xml_tags.specs.Places.{nameOf, valueOf, attributeOf, tagOf}
 use Rattle.xml_tags.specs.Story.{tokenIn, Finds, Tagged}
 use Rattle.xml_tags.proofs.Passing.{stops}

@@ -11,7 +11,7 @@ use borrow.Author.Tests.{eqb-false}
 use Rattle.text.specs.Lists.{Each}
 use Rattle.text_characters.specs.Pieces.{Piece, spell, spells, resolved, GoodPiece}
 use Rattle.text_characters.specs.Chars.{charOf}
-use Rattle.text_characters.specs.Resolving.{charAt}
+use Rattle.text_characters.specs.mirror.Resolving.{charAt}
 use Rattle.text_characters.specs.declared.utf8.Char.{Char}
 use Rattle.text_characters.proofs.Resolving.{complete, piece-some}
 use Rattle.text_characters.proofs.Spelling.{one-text}

@@ -10,7 +10,7 @@ use Rattle.text_characters.specs.Pieces.{greater}
 use Rattle.text.proofs.Spans.{span-of}
 use Rattle.xml.specs.House.{Blanks, IsName, declaration}
 use Rattle.xml_tags.specs.Marks.{but, one, headIs}
-use Rattle.xml_tags.specs.Tokens.{rootFrom, startOf}
+use Rattle.xml_tags.specs.mirror.Tokens.{rootFrom, startOf}
 use Rattle.xml_tags.proofs.Passing.{stops, pass-over}
 use Rattle.xml_tags.proofs.Avoid.{all-passed}
 

@@ -17,9 +17,9 @@ use Rattle.xml_tags.specs.declared.attribute.Attribute.{Attribute}
 use Rattle.xml_tags.specs.declared.attribute.Passed.{Passed}
 use Rattle.xml_tags.specs.declared.token.Kind.the-variants.{Open, Empty, Close, End}
 use Rattle.xml_tags.specs.Marks.{but, one, headIs, behind}
-use Rattle.xml_tags.specs.Passing.{noQuote, inName}
-use Rattle.xml_tags.specs.Attributes.{nowhere, valueAt, quoteAt, namedAt, attributeAt, isNone, counted, passedAt}
-use Rattle.xml_tags.specs.Tokens.{bare, shutAt, tailAt, tagAt, openAt, tokenAt, rootFrom, isDeclared, startOf}
+use Rattle.xml_tags.specs.mirror.Passing.{noQuote, inName}
+use Rattle.xml_tags.specs.mirror.Attributes.{nowhere, valueAt, quoteAt, namedAt, attributeAt, isNone, counted, passedAt}
+use Rattle.xml_tags.specs.mirror.Tokens.{bare, shutAt, tailAt, tagAt, openAt, tokenAt, rootFrom, isDeclared, startOf}
 use Rattle.xml_tags.proofs.Passing.{but-by, wider-at, pass-at, past-go, head-at, head-in}
 use Rattle.xml_tags.proofs.Attributes.{attribute-lies, some-end, passed-none, passed-some, passed-between}
 

@@ -16,7 +16,7 @@ use Rattle.xml_tags.specs.declared.token.Kind.the-variants.{Open, Empty,
 use Rattle.xml_tags.specs.declared.token.Token.{Token}
 use Rattle.xml_tags.specs.Marks.{but}
 use Rattle.xml_tags.specs.Places.{RootAt}
-use Rattle.xml_tags.specs.Tokens.{tagAt, openAt, tokenAt, startOf}
+use Rattle.xml_tags.specs.mirror.Tokens.{tagAt, openAt, tokenAt, startOf}
 use Rattle.xml_tags.specs.Story.{Event, char, enter, leave, events, chars, Text, tokenIn, Tagged, Tells, enters, passes, leaves, ends}
 use Rattle.xml_tags.proofs.Passing.{but-by, stops, pass-none}
 use Rattle.xml_tags.proofs.Slices.{drop-is}

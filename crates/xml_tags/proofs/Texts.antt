@@ -13,12 +13,12 @@ use Rattle.text.specs.Lists.{Each, span}
 use Rattle.text_characters.specs.Utf8.{encode}
 use Rattle.text_characters.specs.Pieces.{Entity, amp, lt, gt, quot, apos, word, Piece, char, entity, spell, spells, resolved, resolvedAll, GoodPiece, Spells}
 use Rattle.text_characters.specs.Chars.{charOf, NextChar}
-use Rattle.text_characters.specs.Resolving.{charAt}
+use Rattle.text_characters.specs.mirror.Resolving.{charAt}
 use Rattle.text_characters.specs.declared.utf8.Char.{Char}
 use Rattle.text.proofs.Classes as classes
 use Rattle.text_characters.proofs.Resolving.{Head, head-of, complete, next-of, next-one, piece-some}
 use Rattle.xml.proofs.Basics.{by-blank}
-use Rattle.xml_tags.specs.Tokens.{inkIn}
+use Rattle.xml_tags.specs.mirror.Tokens.{inkIn}
 use Rattle.xml_tags.specs.Story.{chars, inkOf, Text, Reads, over, next}
 use Rattle.text.proofs.Spans.{span-append}
 use Rattle.xml_tags.proofs.Passing.{stops}

@@ -18,9 +18,9 @@ use Rattle.xml_tags.specs.declared.attribute.Attribute.{Attribute}
 use Rattle.xml_tags.specs.declared.token.Kind.the-variants.{Open, Empty, Close, End}
 use Rattle.xml_tags.specs.declared.token.Token.{Token}
 use Rattle.xml_tags.specs.Marks.{but, pass, one, headIs, behind}
-use Rattle.xml_tags.specs.Passing.{inName}
-use Rattle.xml_tags.specs.Attributes.{attributeAt, passedAt}
-use Rattle.xml_tags.specs.Tokens.{bare, shutAt, tailAt, tagAt, tokenAt}
+use Rattle.xml_tags.specs.mirror.Passing.{inName}
+use Rattle.xml_tags.specs.mirror.Attributes.{attributeAt, passedAt}
+use Rattle.xml_tags.specs.mirror.Tokens.{bare, shutAt, tailAt, tagAt, tokenAt}
 use Rattle.xml_tags.specs.Places.{firstOf, tagOf}
 use Rattle.xml_tags.proofs.Passing.{but-by, stops, pass-over, pass-skip, pass-none, pass-any, one-le}
 use Rattle.xml_tags.proofs.Avoid.{text-avoids}

@@ -5,11 +5,5 @@ pub mod Story
 pub mod Places
 -- whether a byte stands next, up to the next one, past it
 pub mod Marks
--- a mirror: which bytes the cursor passes in a tag
-pub mod Passing
--- a mirror: how it passes attributes
-pub mod Attributes
--- a mirror: how it passes a text and the tag behind it
-pub mod Tokens
--- a mirror: an opening tag whose attributes are not tested
-pub mod Skimmed
+-- mirrors, which say how the code goes
+pub mod mirror

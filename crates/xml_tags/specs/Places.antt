@@ -9,7 +9,7 @@ use Rattle.xml.specs.Message.{rootAt}
 use Rattle.xml_tags.specs.declared.attribute.Attribute.{Attribute}
 use Rattle.xml_tags.specs.declared.token.Kind.{Kind}
 use Rattle.xml_tags.specs.declared.token.Token.{Token}
-use Rattle.xml_tags.specs.Attributes.{nowhere}
+use Rattle.xml_tags.specs.mirror.Attributes.{nowhere}
 
 -- r is the place of the `<` of the root, whichever good tree the text is
 abbrev pub RootAt : List ℕ → ℕ → Type 0

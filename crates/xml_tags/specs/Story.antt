@@ -15,8 +15,8 @@ use Rattle.xml.specs.Message as message
 use Rattle.xml_tags.specs.declared.attribute.Attribute.{Attribute}
 use Rattle.xml_tags.specs.declared.token.Kind.the-variants.{Open, Empty, Close, End}
 use Rattle.xml_tags.specs.declared.token.Token.{Token}
-use Rattle.xml_tags.specs.Attributes.{attributeAt}
-use Rattle.xml_tags.specs.Tokens.{tokenAt}
+use Rattle.xml_tags.specs.mirror.Attributes.{attributeAt}
+use Rattle.xml_tags.specs.mirror.Tokens.{tokenAt}
 
 -- what comes next in a message: a character, its first byte at a place; an opening tag, its `<` at a place, with its name and attributes;
 -- the end of an element

@@ -7,7 +7,7 @@ use crate::pass::until_quote;
 use text::span::blanks_end;
 ghost use mathlib.Core.Path.{_≡_};
 ghost use lib.ListN.{drop};
-ghost use Rattle.xml_tags.specs.Attributes.{nowhere, attributeAt, passedAt};
+ghost use Rattle.xml_tags.specs.mirror.Attributes.{nowhere, attributeAt, passedAt};
 
 // Its name stands at name .. stop, its value, without the quotes, at value .. quote; it ends behind the second quote. Where there is no
 // attribute all five are the place behind the blanks, so that the name is empty.

@@ -5,7 +5,7 @@ ghost use Prim.Native.Nat.{_+_};
 ghost use lib.ListN.{drop};
 ghost use Rattle.text.specs.Lists.{span};
 ghost use Rattle.xml_tags.specs.Marks.{but, one, headIs};
-ghost use Rattle.xml_tags.specs.Passing.{noQuote, inName};
+ghost use Rattle.xml_tags.specs.mirror.Passing.{noQuote, inName};
 
 // The first byte b from a place on, or the end: four bytes a turn, and the last ones one by one.
 pub(crate) fn until(s: &[u8], at: usize, b: u8) -> usize

@@ -11,8 +11,8 @@ ghost use lib.ListN.{drop};
 ghost use Rattle.text.specs.Lists.{span};
 ghost use Rattle.text_characters.specs.Pieces.{less, greater, solidus};
 ghost use Rattle.xml_tags.specs.Marks.{but, headIs, behind};
-ghost use Rattle.xml_tags.specs.Skimmed.{tagOf};
-ghost use Rattle.xml_tags.specs.Tokens.{openAt};
+ghost use Rattle.xml_tags.specs.mirror.Skimmed.{tagOf};
+ghost use Rattle.xml_tags.specs.mirror.Tokens.{openAt};
 
 // An opening tag: its name goes up to stop, its first attribute's value, without the quotes, stands at value .. quote.
 pub struct Tag {

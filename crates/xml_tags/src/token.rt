@@ -11,7 +11,7 @@ use text::span::blanks_end;
 ghost use mathlib.Core.Path.{_≡_};
 ghost use lib.ListN.{drop};
 ghost use Rattle.xml_tags.specs.Places.{RootAt};
-ghost use Rattle.xml_tags.specs.Tokens.{bare, shutAt, tailAt, openAt, tokenAt, isDeclared, startOf};
+ghost use Rattle.xml_tags.specs.mirror.Tokens.{bare, shutAt, tailAt, openAt, tokenAt, isDeclared, startOf};
 
 // What stands behind a text.
 pub enum Kind {

@@ -3,8 +3,8 @@ use borrow.Author.Needs.{needs}
 use Rattle.file_measure.proofs.measure.Statement.{statement}
 use Rattle.file_measure.proofs.measure.Tie as tie
 use native.Mathlib.Omega.{arith}
-use Rattle.file.proofs.Saying.{all-utf8}
-use Rattle.file_measure.proofs.Saying.{finds-long, finds-bytes, finds-markup, is-whole}
+use Rattle.file.proofs.Early.{all-utf8}
+use Rattle.file_measure.proofs.Finds.{finds-long, finds-bytes, finds-markup, is-whole}
 
 too-long-requires : tie.Need-too-long-requires
 too-long-requires c κs = search needs
@@ -41,7 +41,13 @@ message-requires c κs =
 
 returns-3 : tie.Need-returns-3
 returns-3 c =
-    finds-markup _ _ (omega (arith, c .before .before .before .before .before .before .before .if1 .left)) (all-utf8 _ _ (c .before .before .before .before .before .before .utf8-end .ensures) (omega (arith, c .before .before .before .before .before .if2 .left))) (c .before .before .before .before .scan .result) (c .before .before .before .before .scan .ensures) _ (c .before .before .n .given .1) (c .not-house-xml .ensures)
+    let at-n = c .before .before in
+    let at-scan = at-n .before .before in
+    let at-if2 = at-scan .before in
+    let at-utf8-end = at-if2 .before in
+    let at-if1 = at-utf8-end .before in
+    finds-markup _ _ (omega (arith, at-if1 .if1 .left)) (all-utf8 _ _ (at-utf8-end .utf8-end .ensures) (omega (arith, at-if2 .if2 .left)))
+    (at-scan .scan .result) (at-scan .scan .ensures) _ (at-n .n .given .1) (c .not-house-xml .ensures)
 
 returns-4 : tie.Need-returns-4
 returns-4 c = search needs

@@ -2,7 +2,7 @@
 use borrow.Author.Needs.{needs}
 use Rattle.file_measure.proofs.message.Statement.{statement}
 use Rattle.file_measure.proofs.message.Tie as tie
-use Rattle.file_measure.proofs.Saying.{house-ready, house-finds}
+use Rattle.file_measure.proofs.Finds.{house-ready, house-finds}
 
 rows-requires : tie.Need-rows-requires
 rows-requires c κs = search needs

@@ -28,7 +28,12 @@ blanks-end-requires c κs = search needs
 
 returns : tie.Need-returns
 returns c =
-    more-stops _ (c .before .before .before .before .before .before .before .before .before .prolog .result) (c .before .before .before .before .before .before .before .before .before .prolog .ensures) _ (c .before .before .before .before .before .before .before .root .given .1) (c .before .before .before .before .before .elements .result) (c .before .before .before .before .before .elements .ensures) _ (c .before .before .before .behind .given .1) _ (c .before .blanks-end .ensures) (c .if1 .taken)
+    let at-behind = c .before .before .before in
+    let at-elements = at-behind .before .before in
+    let at-root = at-elements .before .before in
+    let at-prolog = at-root .before .before in
+    more-stops _ (at-prolog .prolog .result) (at-prolog .prolog .ensures) _ (at-root .root .given .1) (at-elements .elements .result)
+    (at-elements .elements .ensures) _ (at-behind .behind .given .1) _ (c .before .blanks-end .ensures) (c .if1 .taken)
 
 returns-2 : tie.Need-returns-2
 returns-2 c =
@@ -40,7 +45,12 @@ returns-3 c =
 
 returns-4 : tie.Need-returns-4
 returns-4 c =
-    all-whole _ (c .before .before .before .before .before .before .before .before .before .prolog .result) (c .before .before .before .before .before .before .before .before .before .prolog .ensures) _ (c .before .before .before .before .before .before .before .root .given .1) (c .before .before .before .before .before .elements .result) (c .before .before .before .before .before .elements .ensures) _ (c .before .before .before .behind .given .1) _ (c .before .blanks-end .ensures) (c .if1 .left)
+    let at-behind = c .before .before .before in
+    let at-elements = at-behind .before .before in
+    let at-root = at-elements .before .before in
+    let at-prolog = at-root .before .before in
+    all-whole _ (at-prolog .prolog .result) (at-prolog .prolog .ensures) _ (at-root .root .given .1) (at-elements .elements .result)
+    (at-elements .elements .ensures) _ (at-behind .behind .given .1) _ (c .before .blanks-end .ensures) (c .if1 .left)
 
 pub document-spec : {M : Type 1} → statement M
 document-spec =

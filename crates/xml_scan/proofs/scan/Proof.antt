@@ -4,7 +4,7 @@ use Rattle.xml_scan.proofs.scan.Statement.{statement}
 use Rattle.xml_scan.proofs.scan.Tie as tie
 use mathlib.Core.Path.{refl}
 use Rattle.text.specs.Bytes.{isBlank, isNamePart}
-use Rattle.xml_scan.specs.Classes.{isPlain, classOf}
+use Rattle.xml_scan.specs.mirror.Classes.{isPlain, classOf}
 use Rattle.xml_scan.proofs.Classes.{classed}
 
 document-requires : tie.Need-document-requires

@@ -3,7 +3,7 @@ use borrow.Author.Needs.{needs}
 use Rattle.file_walk.proofs.attributes.own.Statement.{statement}
 use Rattle.file_walk.proofs.attributes.own.Tie as tie
 use borrow.Author.Tests.{not-true, not-false}
-use Rattle.file_walk.proofs.Strides.{own-none, own-many, own-name, own-value}
+use Rattle.file_walk.proofs.calls.Step.{own-none, own-many, own-name, own-value}
 
 cell-requires : tie.Need-cell-requires
 cell-requires c κs = search needs

@@ -2,7 +2,7 @@
 use borrow.Author.Needs.{needs}
 use Rattle.file_walk.proofs.begin.begin.Statement.{statement}
 use Rattle.file_walk.proofs.begin.begin.Tie as tie
-use Rattle.file_walk.proofs.Rooting.{begin-open, begin-empty, begin-close, begin-end}
+use Rattle.file_walk.proofs.calls.Root.{begin-open, begin-empty, begin-close, begin-end}
 
 start-requires : tie.Need-start-requires
 start-requires c κs = search needs

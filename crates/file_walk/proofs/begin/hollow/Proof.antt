@@ -3,7 +3,7 @@ use borrow.Author.Needs.{needs}
 use Rattle.file_walk.proofs.begin.hollow.Statement.{statement}
 use Rattle.file_walk.proofs.begin.hollow.Tie as tie
 use borrow.Author.Tests.{not-true, not-false}
-use Rattle.file_walk.proofs.Rooting.{hollow-no, hollow-yes}
+use Rattle.file_walk.proofs.calls.Root.{hollow-no, hollow-yes}
 
 wrong-root-requires : tie.Need-wrong-root-requires
 wrong-root-requires c κs = search needs

@@ -2,7 +2,7 @@
 use borrow.Author.Needs.{needs}
 use Rattle.file_walk.proofs.begin.is_first.Statement.{statement}
 use Rattle.file_walk.proofs.begin.is_first.Tie as tie
-use Rattle.file_walk.specs.Begin.{isFirstIn}
+use Rattle.file_walk.specs.mirror.Begin.{isFirstIn}
 
 cell-requires : tie.Need-cell-requires
 cell-requires c κs = search needs

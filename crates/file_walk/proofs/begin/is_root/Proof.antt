@@ -4,7 +4,7 @@ use Rattle.file_walk.proofs.begin.is_root.Statement.{statement}
 use Rattle.file_walk.proofs.begin.is_root.Tie as tie
 use borrow.Author.Tests.{not-true, not-false}
 use native.Mathlib.Omega.{arith}
-use Rattle.file_walk.proofs.Rooting.{root-past, root-name, root-carries}
+use Rattle.file_walk.proofs.calls.Root.{root-past, root-name, root-carries}
 
 returns : tie.Need-returns
 returns c = root-past _ _ _ _ _ _ (c .if1 .taken)

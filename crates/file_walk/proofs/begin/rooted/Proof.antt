@@ -3,7 +3,7 @@ use borrow.Author.Needs.{needs}
 use Rattle.file_walk.proofs.begin.rooted.Statement.{statement}
 use Rattle.file_walk.proofs.begin.rooted.Tie as tie
 use borrow.Author.Tests.{not-true, not-false}
-use Rattle.file_walk.proofs.Rooting.{rooted-no, rooted-yes}
+use Rattle.file_walk.proofs.calls.Root.{rooted-no, rooted-yes}
 
 wrong-root-requires : tie.Need-wrong-root-requires
 wrong-root-requires c κs = search needs

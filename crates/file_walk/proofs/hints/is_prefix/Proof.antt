@@ -2,7 +2,7 @@
 use borrow.Author.Needs.{needs}
 use Rattle.file_walk.proofs.hints.is_prefix.Statement.{statement}
 use Rattle.file_walk.proofs.hints.is_prefix.Tie as tie
-use Rattle.file_walk.specs.Stride.{named}
+use Rattle.file_walk.specs.mirror.Stride.{named}
 
 slice-aggregate-same-part : tie.Need-slice-aggregate-same-part
 slice-aggregate-same-part c = search needs

@@ -3,7 +3,7 @@ use Rattle.file_walk.proofs.hints.root_attributes.Statement.{statement}
 use Rattle.file_walk.proofs.hints.root_attributes.Tie as tie
 use mathlib.Core.Path.{_≡_, refl, sym, _∙_, ap}
 use borrow.Author.Needs.{needs}
-use Rattle.file_walk.specs.Begin.{nothing, carriedIn, allowed}
+use Rattle.file_walk.specs.mirror.Begin.{nothing, carriedIn, allowed}
 use Rattle.file_walk.proofs.Carrying.{carry-on, carry-end}
 
 abbrev Inv-loop : tie.InvT-loop

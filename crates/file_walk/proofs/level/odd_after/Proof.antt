@@ -8,7 +8,7 @@ use mathlib.Core.Bool.{Bool, true, false, _&&_, _||_, not}
 use Prim.Native.Nat.{ℕ}
 use lib.Dec.{eqb}
 use Rattle.list.specs.Table.{cell}
-use Rattle.file_walk.specs.Machine.{misses}
+use Rattle.file_walk.specs.mirror.Machine.{misses}
 
 -- the flag by its tests
 again : (odd : Bool) (last r : ℕ) (m : Bool) → odd ≡ false → r ≡ last → false ≡ (odd || (not (eqb r last) && m))

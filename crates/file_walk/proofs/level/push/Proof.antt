@@ -2,7 +2,7 @@
 use borrow.Author.Needs.{needs}
 use Rattle.file_walk.proofs.level.push.Statement.{statement}
 use Rattle.file_walk.proofs.level.push.Tie as tie
-use Rattle.file_walk.specs.Tables.{pushed}
+use Rattle.file_walk.specs.mirror.Tables.{pushed}
 
 mul-at : tie.Need-mul-at
 mul-at c = search needs

@@ -3,7 +3,7 @@ use borrow.Author.Needs.{needs}
 use Rattle.file_walk.proofs.step.closed.Statement.{statement}
 use Rattle.file_walk.proofs.step.closed.Tie as tie
 use native.Mathlib.Omega.{arith}
-use Rattle.file_walk.proofs.Strides.{closed-refused, closed-root, closed-deep, closed-outer}
+use Rattle.file_walk.proofs.calls.Step.{closed-refused, closed-root, closed-deep, closed-outer}
 
 end-of-requires : tie.Need-end-of-requires
 end-of-requires c κs = search needs

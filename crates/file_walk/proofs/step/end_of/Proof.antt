@@ -2,7 +2,7 @@
 use borrow.Author.Needs.{needs}
 use Rattle.file_walk.proofs.step.end_of.Statement.{statement}
 use Rattle.file_walk.proofs.step.end_of.Tie as tie
-use Rattle.file_walk.proofs.Strides.{end-group, end-empty, end-some}
+use Rattle.file_walk.proofs.calls.Step.{end-group, end-empty, end-some}
 
 group-end-requires : tie.Need-group-end-requires
 group-end-requires c κs = search needs

@@ -3,7 +3,7 @@ use borrow.Author.Needs.{needs}
 use Rattle.file_walk.proofs.step.entered.Statement.{statement}
 use Rattle.file_walk.proofs.step.entered.Tie as tie
 use native.Mathlib.Omega.{arith}
-use Rattle.file_walk.proofs.Strides.{entered-refused, entered-deep, entered-on}
+use Rattle.file_walk.proofs.calls.Step.{entered-refused, entered-deep, entered-on}
 
 opening-requires : tie.Need-opening-requires
 opening-requires c κs = search needs

@@ -1,7 +1,7 @@
 -- `step::ink` meets its contract. Assumes nothing.
 use Rattle.file_walk.proofs.step.ink.Statement.{statement}
 use Rattle.file_walk.proofs.step.ink.Tie as tie
-use Rattle.file_walk.proofs.Strides.{ink-group, ink-leaf}
+use Rattle.file_walk.proofs.calls.Step.{ink-group, ink-leaf}
 
 returns : tie.Need-returns
 returns c =

@@ -1,7 +1,7 @@
 -- `step::number` meets its contract. Assumes nothing.
 use mathlib.Core.Path.{sym, ap}
 use borrow.Author.Needs.{needs}
-use Rattle.file_walk.specs.Stride.{numberOf}
+use Rattle.file_walk.specs.mirror.Stride.{numberOf}
 use Rattle.file_walk.proofs.step.number.Statement.{statement}
 use Rattle.file_walk.proofs.step.number.Tie as tie
 

@@ -3,7 +3,7 @@ use borrow.Author.Needs.{needs}
 use Rattle.file_walk.proofs.step.row_of.Statement.{statement}
 use Rattle.file_walk.proofs.step.row_of.Tie as tie
 use native.Mathlib.Omega.{arith}
-use Rattle.file_walk.proofs.Strides.{row-inside, row-outside}
+use Rattle.file_walk.proofs.calls.Step.{row-inside, row-outside}
 
 add-child : tie.Need-add-child
 add-child c = search needs

@@ -4,8 +4,8 @@ use Rattle.file_walk.proofs.step.step.Statement.{statement}
 use Rattle.file_walk.proofs.step.step.Tie as tie
 use native.Mathlib.Omega.{arith}
 use Rattle.xml_tags.specs.declared.token.Kind.the-variants.{Empty, Close, End}
-use Rattle.file_walk.specs.Stride.{numberOf}
-use Rattle.file_walk.proofs.Strides.{group-is, token-from, ink-from, kind-by, open-by, step-ink, step-close, step-end, step-open, step-empty}
+use Rattle.file_walk.specs.mirror.Stride.{numberOf}
+use Rattle.file_walk.proofs.calls.Step.{group-is, token-from, ink-from, kind-by, open-by, step-ink, step-close, step-end, step-open, step-empty}
 
 cell-requires : tie.Need-cell-requires
 cell-requires c κs = search needs

@@ -2,7 +2,7 @@
 use borrow.Author.Needs.{needs}
 use Rattle.file_walk.proofs.step.text_from.Statement.{statement}
 use Rattle.file_walk.proofs.step.text_from.Tie as tie
-use Rattle.file_walk.proofs.Strides.{from-group, from-leaf}
+use Rattle.file_walk.proofs.calls.Step.{from-group, from-leaf}
 
 blanks-end-requires : tie.Need-blanks-end-requires
 blanks-end-requires c κs = search needs

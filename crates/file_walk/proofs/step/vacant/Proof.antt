@@ -2,7 +2,7 @@
 use borrow.Author.Needs.{needs}
 use Rattle.file_walk.proofs.step.vacant.Statement.{statement}
 use Rattle.file_walk.proofs.step.vacant.Tie as tie
-use Rattle.file_walk.proofs.Strides.{vacant-refused, vacant-on}
+use Rattle.file_walk.proofs.calls.Step.{vacant-refused, vacant-on}
 
 opening-requires : tie.Need-opening-requires
 opening-requires c κs = search needs

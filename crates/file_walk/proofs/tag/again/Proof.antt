@@ -2,7 +2,7 @@
 use borrow.Author.Needs.{needs}
 use Rattle.file_walk.proofs.tag.again.Statement.{statement}
 use Rattle.file_walk.proofs.tag.again.Tie as tie
-use Rattle.file_walk.proofs.Says.{again-choice, again-many, again-one}
+use Rattle.file_walk.proofs.calls.TagTests.{again-choice, again-many, again-one}
 use native.Mathlib.Omega.{arith}
 
 cell-requires : tie.Need-cell-requires

@@ -2,7 +2,7 @@
 use borrow.Author.Needs.{needs}
 use Rattle.file_walk.proofs.tag.broken.Statement.{statement}
 use Rattle.file_walk.proofs.tag.broken.Tie as tie
-use Rattle.file_walk.proofs.Says.{broken-odd, broken-pair}
+use Rattle.file_walk.proofs.calls.TagTests.{broken-odd, broken-pair}
 
 returns : tie.Need-returns
 returns c =

@@ -2,7 +2,7 @@
 use borrow.Author.Needs.{needs}
 use Rattle.file_walk.proofs.tag.group_end.Statement.{statement}
 use Rattle.file_walk.proofs.tag.group_end.Tie as tie
-use Rattle.file_walk.proofs.Says.{says-empty, says-absent, says-rule-broken, ends-well}
+use Rattle.file_walk.proofs.calls.TagTests.{says-empty, says-absent, says-rule-broken, ends-well}
 use native.Mathlib.Omega.{arith}
 
 empty-requires : tie.Need-empty-requires

@@ -1,7 +1,7 @@
 -- `tag::is_group` meets its contract. Assumes nothing.
 use Rattle.file_walk.proofs.tag.is_group.Statement.{statement}
 use Rattle.file_walk.proofs.tag.is_group.Tie as tie
-use Rattle.file_walk.proofs.Says.{leaf-kind, low-kind, high-kind}
+use Rattle.file_walk.proofs.calls.TagTests.{leaf-kind, low-kind, high-kind}
 use native.Mathlib.Omega.{arith}
 
 returns : tie.Need-returns

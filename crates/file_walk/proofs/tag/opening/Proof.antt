@@ -2,7 +2,7 @@
 use borrow.Author.Needs.{needs}
 use Rattle.file_walk.proofs.tag.opening.Statement.{statement}
 use Rattle.file_walk.proofs.tag.opening.Tie as tie
-use Rattle.file_walk.proofs.Says.{says-not-a-child, says-out-of-order, says-too-many, opens-well, says-wrong-attributes}
+use Rattle.file_walk.proofs.calls.TagTests.{says-not-a-child, says-out-of-order, says-too-many, opens-well, says-wrong-attributes}
 
 not-a-child-requires : tie.Need-not-a-child-requires
 not-a-child-requires c κs = search needs

@@ -2,7 +2,7 @@
 use borrow.Author.Needs.{needs}
 use Rattle.file_walk.proofs.tag.passed.Statement.{statement}
 use Rattle.file_walk.proofs.tag.passed.Tie as tie
-use Rattle.file_walk.proofs.Says.{passed-choice, passed-other}
+use Rattle.file_walk.proofs.calls.TagTests.{passed-choice, passed-other}
 
 cell-requires : tie.Need-cell-requires
 cell-requires c κs = search needs

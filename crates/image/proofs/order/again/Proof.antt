@@ -4,7 +4,7 @@ use Rattle.image.proofs.order.again.Statement.{statement}
 use Rattle.image.proofs.order.again.Tie as tie
 use mathlib.Core.Path.{sym}
 use borrow.Author.Tests.{lt-ltb, le-ltb}
-use Rattle.image.specs.Step.{again}
+use Rattle.image.specs.mirror.Step.{again}
 
 cell-requires : tie.Need-cell-requires
 cell-requires c κs = search needs

@@ -2,7 +2,7 @@
 use Rattle.image.proofs.order.before.Statement.{statement}
 use Rattle.image.proofs.order.before.Tie as tie
 use borrow.Author.Tests.{eq-eqb, ne-eqb}
-use Rattle.image.specs.Step.{before}
+use Rattle.image.specs.mirror.Step.{before}
 
 returns : tie.Need-returns
 unfolding before

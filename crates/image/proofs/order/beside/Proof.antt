@@ -4,7 +4,7 @@ use Rattle.image.proofs.order.beside.Statement.{statement}
 use Rattle.image.proofs.order.beside.Tie as tie
 use mathlib.Core.Path.{sym}
 use borrow.Author.Tests.{eq-eqb, ne-eqb}
-use Rattle.image.specs.Step.{beside}
+use Rattle.image.specs.mirror.Step.{beside}
 
 cell-requires : tie.Need-cell-requires
 cell-requires c κs = search needs

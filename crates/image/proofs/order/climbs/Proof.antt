@@ -5,8 +5,8 @@ use mathlib.Core.Path.{_≡_, refl, sym, _∙_, ap}
 use Prim.Native.Nat.{_≤_}
 use native.Mathlib.Omega.{arith}
 use borrow.Author.Needs.{needs}
-use Rattle.image.specs.Step.{owed, beside, climbs}
-use Rattle.image.proofs.Turns.{climbs-none, climbs-top, climbs-side, climbs-owed, climbs-up}
+use Rattle.image.specs.mirror.Step.{owed, beside, climbs}
+use Rattle.image.proofs.next.Upward.{climbs-none, climbs-top, climbs-side, climbs-owed, climbs-up}
 
 abbrev Inv-loop : tie.InvT-loop
 Inv-loop rows from x parent q₀ levels₀ q levels = (levels ≤ 16) × (climbs rows levels q x ≡ climbs rows 16 from x)

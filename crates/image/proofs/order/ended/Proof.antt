@@ -3,7 +3,7 @@ use borrow.Author.Needs.{needs}
 use Rattle.image.proofs.order.ended.Statement.{statement}
 use Rattle.image.proofs.order.ended.Tie as tie
 use mathlib.Core.Path.{sym}
-use Rattle.image.specs.Step.{ended}
+use Rattle.image.specs.mirror.Step.{ended}
 
 is-leaf-requires : tie.Need-is-leaf-requires
 is-leaf-requires c κs = search needs

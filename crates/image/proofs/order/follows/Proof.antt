@@ -4,7 +4,7 @@ use Rattle.image.proofs.order.follows.Statement.{statement}
 use Rattle.image.proofs.order.follows.Tie as tie
 use mathlib.Core.Path.{sym}
 use borrow.Author.Tests.{eq-eqb, ne-eqb, lt-ltb, le-ltb}
-use Rattle.image.specs.Step.{follows}
+use Rattle.image.specs.mirror.Step.{follows}
 
 returns : tie.Need-returns
 unfolding follows

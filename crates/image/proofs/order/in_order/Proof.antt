@@ -3,7 +3,7 @@ use borrow.Author.Needs.{needs}
 use Rattle.image.proofs.order.in_order.Statement.{statement}
 use Rattle.image.proofs.order.in_order.Tie as tie
 use borrow.Author.Tests.{eq-eqb, ne-eqb}
-use Rattle.image.specs.Step.{inOrder}
+use Rattle.image.specs.mirror.Step.{inOrder}
 
 again-requires : tie.Need-again-requires
 again-requires c κs = search needs

@@ -5,7 +5,7 @@ use Rattle.image.proofs.order.inside.Tie as tie
 use mathlib.Core.Path.{sym}
 use native.Mathlib.Omega.{arith}
 use borrow.Author.Tests.{eq-eqb, ne-eqb}
-use Rattle.image.specs.Step.{inside}
+use Rattle.image.specs.mirror.Step.{inside}
 
 cell-requires : tie.Need-cell-requires
 cell-requires c κs = search needs

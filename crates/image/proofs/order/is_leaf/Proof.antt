@@ -4,7 +4,7 @@ use Rattle.image.proofs.order.is_leaf.Statement.{statement}
 use Rattle.image.proofs.order.is_leaf.Tie as tie
 use mathlib.Core.Path.{sym}
 use borrow.Author.Tests.{lt-ltb, le-ltb}
-use Rattle.image.specs.Step.{isLeaf}
+use Rattle.image.specs.mirror.Step.{isLeaf}
 
 cell-requires : tie.Need-cell-requires
 cell-requires c κs = search needs

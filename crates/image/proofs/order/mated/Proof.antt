@@ -4,7 +4,7 @@ use Rattle.image.proofs.order.mated.Statement.{statement}
 use Rattle.image.proofs.order.mated.Tie as tie
 use mathlib.Core.Path.{sym}
 use borrow.Author.Tests.{eq-eqb, ne-eqb}
-use Rattle.image.specs.Step.{mated}
+use Rattle.image.specs.mirror.Step.{mated}
 
 cell-requires : tie.Need-cell-requires
 cell-requires c κs = search needs

@@ -5,8 +5,8 @@ use mathlib.Core.Path.{_≡_, refl, sym, _∙_}
 use Prim.Native.Nat.{_≤_}
 use native.Mathlib.Omega.{arith}
 use borrow.Author.Needs.{needs}
-use Rattle.image.specs.Step.{owed, rests}
-use Rattle.image.proofs.Turns.{rests-none, rests-top, rests-owed, rests-up}
+use Rattle.image.specs.mirror.Step.{owed, rests}
+use Rattle.image.proofs.next.Upward.{rests-none, rests-top, rests-owed, rests-up}
 
 abbrev Inv-loop : tie.InvT-loop
 Inv-loop rows from q₀ levels₀ q levels = (levels ≤ 16) × (rests rows levels q ≡ rests rows 16 from)

@@ -4,7 +4,7 @@ use Rattle.image.proofs.picker.find.Statement.{statement}
 use Rattle.image.proofs.picker.find.Tie as tie
 use mathlib.Core.Path.{refl, sym, _∙_}
 use borrow.Author.Needs.{needs}
-use Rattle.image.specs.Run.{groups, leaves}
+use Rattle.image.specs.mirror.Run.{groups, leaves}
 
 is-leaf-requires : tie.Need-is-leaf-requires
 is-leaf-requires c κs = search needs

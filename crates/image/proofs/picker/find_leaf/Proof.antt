@@ -6,9 +6,9 @@ use Prim.Native.Nat.{_+_, _-_, _<_}
 use native.Mathlib.Omega.{arith}
 use lib.ListN.{length}
 use borrow.Author.Needs.{needs}
-use Rattle.image.specs.Ends.{itemEnd}
-use Rattle.image.proofs.Ends.{item-on}
-use Rattle.image.proofs.Hunting.{Sought, seeks, seek-over, seek-end, seek-bad, seek-here, seek-past, seek-on}
+use Rattle.image.specs.mirror.Ends.{itemEnd}
+use Rattle.image.proofs.loops.Ends.{item-on}
+use Rattle.image.proofs.loops.PickerTurn.{Sought, seeks, seek-over, seek-end, seek-bad, seek-here, seek-past, seek-on}
 
 abbrev Inv-loop : tie.InvT-loop
 Inv-loop rows run from row n left₀ i₀ left i = Sought rows (itemEnd rows run) run from row n left i

@@ -5,7 +5,7 @@ use Rattle.image.proofs.picker.head.Tie as tie
 use mathlib.Core.Path.{sym}
 use borrow.Author.Needs.{needs}
 use borrow.Author.Tests.{le-leb, lt-leb}
-use Rattle.image.specs.Run.{headOf}
+use Rattle.image.specs.mirror.Run.{headOf}
 
 cell-requires : tie.Need-cell-requires
 cell-requires c κs = search needs

@@ -7,9 +7,9 @@ use mathlib.Core.List.{[]}
 use Prim.Native.Nat.{_+_}
 use native.Mathlib.Omega.{arith}
 use lib.Seq.{slice}
-use Rattle.image.specs.Ends.{itemEnd}
-use Rattle.image.specs.Run.{Finds, headOf, missing, found}
-use Rattle.image.proofs.Hunting.{find-within, head-small}
+use Rattle.image.specs.mirror.Ends.{itemEnd}
+use Rattle.image.specs.mirror.Run.{Finds, headOf, missing, found}
+use Rattle.image.proofs.loops.PickerTurn.{find-within, head-small}
 use Rattle.image.proofs.Meaning.{answer-means}
 
 find-requires : tie.Need-find-requires

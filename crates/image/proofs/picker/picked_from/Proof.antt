@@ -9,10 +9,10 @@ use native.Mathlib.Omega.{arith}
 use lib.ListN.{take, drop}
 use lib.Seq.{slice}
 use Rattle.answer.specs.Table.{picked, noSuchLeaf}
-use Rattle.value.proofs.Parts.{part-within}
-use Rattle.image.specs.Ends.{itemEnd}
-use Rattle.image.specs.Run.{Finds, headOf, missing, found}
-use Rattle.image.proofs.Hunting.{find-within, head-small, found-end, answer-none, answer-place}
+use Rattle.value.proofs.raw.Parts.{part-within}
+use Rattle.image.specs.mirror.Ends.{itemEnd}
+use Rattle.image.specs.mirror.Run.{Finds, headOf, missing, found}
+use Rattle.image.proofs.loops.PickerTurn.{find-within, head-small, found-end, answer-none, answer-place}
 use Rattle.image.proofs.Meaning.{part-means}
 
 find-requires : tie.Need-find-requires

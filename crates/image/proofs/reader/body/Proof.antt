@@ -4,7 +4,7 @@ use Rattle.image.proofs.reader.body.Statement.{statement}
 use Rattle.image.proofs.reader.body.Tie as tie
 use mathlib.Core.Logic.{inl, inr}
 use native.Mathlib.Omega.{arith}
-use Rattle.image.specs.Run.{rootless, rooted}
+use Rattle.image.specs.mirror.Run.{rootless, rooted}
 use Rattle.image.proofs.Meaning.{read-means}
 
 broken-image-requires : tie.Need-broken-image-requires

@@ -2,7 +2,7 @@
 use borrow.Author.Needs.{needs}
 use Rattle.image.proofs.reader.item_end.Statement.{statement}
 use Rattle.image.proofs.reader.item_end.Tie as tie
-use Rattle.image.proofs.Ends.{item-leaf, item-group}
+use Rattle.image.proofs.loops.Ends.{item-leaf, item-group}
 use Rattle.image.proofs.Meaning.{item-means}
 
 is-leaf-requires : tie.Need-is-leaf-requires

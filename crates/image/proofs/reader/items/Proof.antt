@@ -6,9 +6,9 @@ use native.Mathlib.Omega.{arith}
 use lib.ListN.{length}
 use mathlib.Core.Path.{_≡_, subst}
 use borrow.Author.Needs.{needs}
-use Rattle.image.specs.Ends.{itemEnd}
-use Rattle.image.proofs.Ends.{item-on, item-leaf, item-group}
-use Rattle.image.proofs.Turning.{Here, AtByte, AtRow, begins, runs-out, closes, too-soon, strays, breaks, goes-on}
+use Rattle.image.specs.mirror.Ends.{itemEnd}
+use Rattle.image.proofs.loops.Ends.{item-on, item-leaf, item-group}
+use Rattle.image.proofs.loops.ReaderTurn.{Here, AtByte, AtRow, begins, runs-out, closes, too-soon, strays, breaks, goes-on}
 
 abbrev Inv-loop : tie.InvT-loop
 Inv-loop rows run from q₀ i₀ q i = Here rows (itemEnd rows run) run from q i

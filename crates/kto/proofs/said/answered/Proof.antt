@@ -5,7 +5,7 @@ use lib.Seq.{length-take-le}
 use borrow.Author.Needs.{needs}
 use Rattle.unit.proofs.Programs.{place-fits}
 use Rattle.kto.specs.Answered.{over, within}
-use Rattle.kto.proofs.Saying.{read-again}
+use Rattle.kto.proofs.Written.{read-again}
 use Rattle.kto.proofs.said.answered.Statement.{statement}
 use Rattle.kto.proofs.said.answered.Tie as tie
 

@@ -2,7 +2,7 @@
 use native.Mathlib.Omega.{arith}
 use borrow.Author.Needs.{needs}
 use Rattle.program_line.proofs.Lines.{line-counts}
-use Rattle.kto.proofs.Saying.{says-refused, says-written, image-counts}
+use Rattle.kto.proofs.Written.{says-refused, says-written, image-counts}
 use Rattle.kto.proofs.said.said.Statement.{statement}
 use Rattle.kto.proofs.said.said.Tie as tie
 

@@ -2,7 +2,7 @@
 use mathlib.Core.Path.{sym, _∙_}
 use native.Mathlib.Omega.{arith}
 use borrow.Author.Needs.{needs}
-use Rattle.list.proofs.Cells.{no-column, no-row, no-cell, cell-at}
+use Rattle.list.proofs.rows.Cells.{no-column, no-row, no-cell, cell-at}
 use Rattle.list.proofs.lookup.cell.Statement.{statement}
 use Rattle.list.proofs.lookup.cell.Tie as tie
 

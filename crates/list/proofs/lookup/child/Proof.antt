@@ -1,7 +1,7 @@
 -- `lookup::child` meets its contract. Assumes nothing.
 use mathlib.Core.Path.{_∙_}
 use borrow.Author.Needs.{needs}
-use Rattle.list.proofs.Along.{from-last, from-first, child-means}
+use Rattle.list.proofs.rows.Along.{from-last, from-first, child-means}
 use Rattle.list.proofs.lookup.child.Statement.{statement}
 use Rattle.list.proofs.lookup.child.Tie as tie
 

@@ -1,6 +1,6 @@
 -- `lookup::due_after` meets its contract. Assumes nothing.
 use borrow.Author.Needs.{needs}
-use Rattle.list.proofs.Along.{due-first, due-other, due-means}
+use Rattle.list.proofs.rows.Along.{due-first, due-other, due-means}
 use Rattle.list.proofs.lookup.due_after.Statement.{statement}
 use Rattle.list.proofs.lookup.due_after.Tie as tie
 

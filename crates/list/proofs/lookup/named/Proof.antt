@@ -3,8 +3,8 @@ use mathlib.Core.Path.{_≡_, refl, sym, _∙_}
 use native.Mathlib.Omega.{arith}
 use lib.Seq.{slice}
 use borrow.Author.Needs.{needs}
-use Rattle.list.specs.Lookup.{along}
-use Rattle.list.proofs.Along.{stop-none, stop-here, stop-end, go-on}
+use Rattle.list.specs.mirror.Lookup.{along}
+use Rattle.list.proofs.rows.Along.{stop-none, stop-here, stop-end, go-on}
 use Rattle.list.proofs.lookup.named.Statement.{statement}
 use Rattle.list.proofs.lookup.named.Tie as tie
 

@@ -1,7 +1,7 @@
 -- `word::word_byte` meets its contract. Assumes nothing.
 use native.Mathlib.Omega.{arith}
 use borrow.Author.Needs.{needs}
-use Rattle.list.proofs.Places.{byte-near, byte-far}
+use Rattle.list.proofs.words.Places.{byte-near, byte-far}
 use Rattle.list.proofs.word.word_byte.Statement.{statement}
 use Rattle.list.proofs.word.word_byte.Tie as tie
 

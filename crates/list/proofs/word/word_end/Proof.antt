@@ -4,8 +4,8 @@ use Prim.Native.Nat.{_+_, _-_}
 use native.Mathlib.Omega.{arith}
 use lib.Seq.{slice}
 use Rattle.text.specs.Lists.{span}
-use Rattle.list.specs.Lookup.{notSpace}
-use Rattle.list.proofs.Split.{span-over, span-at, span-on}
+use Rattle.list.specs.mirror.Lookup.{notSpace}
+use Rattle.list.proofs.words.Split.{span-over, span-at, span-on}
 use Rattle.list.proofs.word.word_end.Statement.{statement}
 use Rattle.list.proofs.word.word_end.Tie as tie
 

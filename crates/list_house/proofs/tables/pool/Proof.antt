@@ -1,7 +1,7 @@
 -- `tables::pool` meets its contract. Assumes nothing.
 -- Written by tools/lists/make.
 use mathlib.Core.Path.{refl}
-use Rattle.list_house.specs.HouseTable.{housePool}
+use Rattle.list_house.specs.mirror.HouseTable.{housePool}
 use Rattle.list_house.proofs.tables.pool.Statement.{statement}
 use Rattle.list_house.proofs.tables.pool.Tie as tie
 

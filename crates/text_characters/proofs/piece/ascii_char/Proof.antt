@@ -1,7 +1,7 @@
 -- `piece::ascii_char` meets its contract. Assumes nothing.
 use mathlib.Core.Path.{sym, _∙_}
 use borrow.Author.Needs.{needs}
-use Rattle.text_characters.specs.Resolving.{plainAt}
+use Rattle.text_characters.specs.mirror.Resolving.{plainAt}
 use Rattle.text_characters.proofs.piece.ascii_char.Statement.{statement}
 use Rattle.text_characters.proofs.piece.ascii_char.Tie as tie
 

@@ -1,7 +1,7 @@
 -- `piece::entity` meets its contract. Assumes nothing.
 use mathlib.Core.Path.{sym, _∙_}
 use borrow.Author.Needs.{needs}
-use Rattle.text_characters.specs.Resolving.{entityAt}
+use Rattle.text_characters.specs.mirror.Resolving.{entityAt}
 use Rattle.text_characters.proofs.piece.entity.Statement.{statement}
 use Rattle.text_characters.proofs.piece.entity.Tie as tie
 
@@ -58,7 +58,20 @@ char-of-requires-4 c κs = search needs
 returns-4 : tie.Need-returns-4
 unfolding entityAt
 returns-4 c =
-    c .char-of4 .ensures ∙ sym (rw (sym (c .before .before .before .before .before .before .before .before .before .before .before .begins .ensures) ∙ c .before .before .before .before .before .before .before .before .before .before .if1 .left, sym (c .before .before .before .before .before .before .before .before .begins2 .ensures) ∙ c .before .before .before .before .before .before .before .if2 .left, sym (c .before .before .before .before .before .begins3 .ensures) ∙ c .before .before .before .before .if3 .left, sym (c .before .before .begins4 .ensures) ∙ c .before .if4 .taken))
+    let at-begins4 = c .before .before in
+    let at-if3 = at-begins4 .before .before in
+    let at-begins3 = at-if3 .before in
+    let at-if2 = at-begins3 .before .before in
+    let at-begins2 = at-if2 .before in
+    let at-if1 = at-begins2 .before .before in
+    let at-begins = at-if1 .before in
+    c .char-of4 .ensures ∙ sym
+    (rw (
+      sym (at-begins .begins .ensures) ∙ at-if1 .if1 .left,
+      sym (at-begins2 .begins2 .ensures) ∙ at-if2 .if2 .left,
+      sym (at-begins3 .begins3 .ensures) ∙ at-if3 .if3 .left,
+      sym (at-begins4 .begins4 .ensures) ∙ c .before .if4 .taken,
+    ))
 
 slice-aggregate-begins-5 : tie.Need-slice-aggregate-begins-5
 slice-aggregate-begins-5 c = search needs
@@ -72,7 +85,23 @@ char-of-requires-5 c κs = search needs
 returns-5 : tie.Need-returns-5
 unfolding entityAt
 returns-5 c =
-    c .char-of5 .ensures ∙ sym (rw (sym (c .before .before .before .before .before .before .before .before .before .before .before .before .before .before .begins .ensures) ∙ c .before .before .before .before .before .before .before .before .before .before .before .before .before .if1 .left, sym (c .before .before .before .before .before .before .before .before .before .before .before .begins2 .ensures) ∙ c .before .before .before .before .before .before .before .before .before .before .if2 .left, sym (c .before .before .before .before .before .before .before .before .begins3 .ensures) ∙ c .before .before .before .before .before .before .before .if3 .left, sym (c .before .before .before .before .before .begins4 .ensures) ∙ c .before .before .before .before .if4 .left, sym (c .before .before .begins5 .ensures) ∙ c .before .if5 .taken))
+    let at-begins5 = c .before .before in
+    let at-if4 = at-begins5 .before .before in
+    let at-begins4 = at-if4 .before in
+    let at-if3 = at-begins4 .before .before in
+    let at-begins3 = at-if3 .before in
+    let at-if2 = at-begins3 .before .before in
+    let at-begins2 = at-if2 .before in
+    let at-if1 = at-begins2 .before .before in
+    let at-begins = at-if1 .before in
+    c .char-of5 .ensures ∙ sym
+    (rw (
+      sym (at-begins .begins .ensures) ∙ at-if1 .if1 .left,
+      sym (at-begins2 .begins2 .ensures) ∙ at-if2 .if2 .left,
+      sym (at-begins3 .begins3 .ensures) ∙ at-if3 .if3 .left,
+      sym (at-begins4 .begins4 .ensures) ∙ at-if4 .if4 .left,
+      sym (at-begins5 .begins5 .ensures) ∙ c .before .if5 .taken,
+    ))
 
 char-of-requires-6 : tie.Need-char-of-requires-6
 char-of-requires-6 c κs = search needs
@@ -80,7 +109,23 @@ char-of-requires-6 c κs = search needs
 returns-6 : tie.Need-returns-6
 unfolding entityAt
 returns-6 c =
-    c .char-of6 .ensures ∙ sym (rw (sym (c .before .before .before .before .before .before .before .before .before .before .before .before .before .before .begins .ensures) ∙ c .before .before .before .before .before .before .before .before .before .before .before .before .before .if1 .left, sym (c .before .before .before .before .before .before .before .before .before .before .before .begins2 .ensures) ∙ c .before .before .before .before .before .before .before .before .before .before .if2 .left, sym (c .before .before .before .before .before .before .before .before .begins3 .ensures) ∙ c .before .before .before .before .before .before .before .if3 .left, sym (c .before .before .before .before .before .begins4 .ensures) ∙ c .before .before .before .before .if4 .left, sym (c .before .before .begins5 .ensures) ∙ c .before .if5 .left))
+    let at-begins5 = c .before .before in
+    let at-if4 = at-begins5 .before .before in
+    let at-begins4 = at-if4 .before in
+    let at-if3 = at-begins4 .before .before in
+    let at-begins3 = at-if3 .before in
+    let at-if2 = at-begins3 .before .before in
+    let at-begins2 = at-if2 .before in
+    let at-if1 = at-begins2 .before .before in
+    let at-begins = at-if1 .before in
+    c .char-of6 .ensures ∙ sym
+    (rw (
+      sym (at-begins .begins .ensures) ∙ at-if1 .if1 .left,
+      sym (at-begins2 .begins2 .ensures) ∙ at-if2 .if2 .left,
+      sym (at-begins3 .begins3 .ensures) ∙ at-if3 .if3 .left,
+      sym (at-begins4 .begins4 .ensures) ∙ at-if4 .if4 .left,
+      sym (at-begins5 .begins5 .ensures) ∙ c .before .if5 .left,
+    ))
 
 pub entity-spec : {M : Type 1} → statement M
 entity-spec =

@@ -5,7 +5,7 @@ use native.Mathlib.Omega.{arith}
 use lib.ListN.{length, drop}
 use borrow.Author.Needs.{needs}
 use Rattle.text.specs.Lists.{span}
-use Rattle.text_characters.specs.Decoding.{isAscii}
+use Rattle.text_characters.specs.mirror.Decoding.{isAscii}
 use Rattle.text_characters.proofs.Decoding.{ascii-eight}
 use Rattle.text_characters.proofs.utf8.ascii_eights.Statement.{statement}
 use Rattle.text_characters.proofs.utf8.ascii_eights.Tie as tie

@@ -4,7 +4,7 @@ use Prim.Native.Nat.{_+_, _-_}
 use lib.ListN.{length, drop}
 use borrow.Author.Needs.{needs}
 use Rattle.text.specs.Lists.{span}
-use Rattle.text_characters.specs.Decoding.{isAscii}
+use Rattle.text_characters.specs.mirror.Decoding.{isAscii}
 use Rattle.text_characters.proofs.Decoding.{is-ascii, no-ascii}
 use Rattle.text.proofs.Spans.{span-over, span-found, span-again}
 use Rattle.text_characters.proofs.utf8.ascii_end.Statement.{statement}

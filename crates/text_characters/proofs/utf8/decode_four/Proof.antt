@@ -2,7 +2,7 @@
 use mathlib.Core.Path.{sym, _∙_}
 use borrow.Author.Needs.{needs}
 use borrow.Author.Tests.{not-true, not-false}
-use Rattle.text_characters.specs.Decoding.{four}
+use Rattle.text_characters.specs.mirror.Decoding.{four}
 use Rattle.text_characters.proofs.utf8.decode_four.Statement.{statement}
 use Rattle.text_characters.proofs.utf8.decode_four.Tie as tie
 
@@ -75,7 +75,25 @@ keep-requires c κs = search needs
 returns-4 : tie.Need-returns-4
 unfolding four
 returns-4 c =
-    rw (c .keep .ensures, c .before .wide4 .ensures, c .before .before .wide3 .ensures, c .before .before .before .wide2 .ensures, c .before .before .before .before .wide .ensures, sym (c .before .before .before .before .before .before .before .before .before .before .is-tail .ensures) ∙ not-false _ (c .before .before .before .before .before .before .before .before .before .if1 .left), sym (c .before .before .before .before .before .before .before .before .is-tail2 .ensures) ∙ not-false _ (c .before .before .before .before .before .before .before .if2 .left), sym (c .before .before .before .before .before .before .is-tail3 .ensures) ∙ not-false _ (c .before .before .before .before .before .if3 .left))
+    let at-wide3 = c .before .before in
+    let at-wide2 = at-wide3 .before in
+    let at-wide = at-wide2 .before in
+    let at-if3 = at-wide .before in
+    let at-is-tail3 = at-if3 .before in
+    let at-if2 = at-is-tail3 .before in
+    let at-is-tail2 = at-if2 .before in
+    let at-if1 = at-is-tail2 .before in
+    let at-is-tail = at-if1 .before in
+    rw (
+      c .keep .ensures,
+      c .before .wide4 .ensures,
+      at-wide3 .wide3 .ensures,
+      at-wide2 .wide2 .ensures,
+      at-wide .wide .ensures,
+      sym (at-is-tail .is-tail .ensures) ∙ not-false _ (at-if1 .if1 .left),
+      sym (at-is-tail2 .is-tail2 .ensures) ∙ not-false _ (at-if2 .if2 .left),
+      sym (at-is-tail3 .is-tail3 .ensures) ∙ not-false _ (at-if3 .if3 .left),
+    )
 
 pub decode-four-spec : {M : Type 1} → statement M
 decode-four-spec =

@@ -2,7 +2,7 @@
 use mathlib.Core.Path.{sym, _∙_}
 use borrow.Author.Needs.{needs}
 use borrow.Author.Tests.{not-true, not-false}
-use Rattle.text_characters.specs.Decoding.{three}
+use Rattle.text_characters.specs.mirror.Decoding.{three}
 use Rattle.text_characters.proofs.utf8.decode_three.Statement.{statement}
 use Rattle.text_characters.proofs.utf8.decode_three.Tie as tie
 
@@ -55,7 +55,20 @@ keep-requires c κs = search needs
 returns-3 : tie.Need-returns-3
 unfolding three
 returns-3 c =
-    rw (c .keep .ensures, c .before .wide3 .ensures, c .before .before .wide2 .ensures, c .before .before .before .wide .ensures, sym (c .before .before .before .before .before .before .before .is-tail .ensures) ∙ not-false _ (c .before .before .before .before .before .before .if1 .left), sym (c .before .before .before .before .before .is-tail2 .ensures) ∙ not-false _ (c .before .before .before .before .if2 .left))
+    let at-wide2 = c .before .before in
+    let at-wide = at-wide2 .before in
+    let at-if2 = at-wide .before in
+    let at-is-tail2 = at-if2 .before in
+    let at-if1 = at-is-tail2 .before in
+    let at-is-tail = at-if1 .before in
+    rw (
+      c .keep .ensures,
+      c .before .wide3 .ensures,
+      at-wide2 .wide2 .ensures,
+      at-wide .wide .ensures,
+      sym (at-is-tail .is-tail .ensures) ∙ not-false _ (at-if1 .if1 .left),
+      sym (at-is-tail2 .is-tail2 .ensures) ∙ not-false _ (at-if2 .if2 .left),
+    )
 
 pub decode-three-spec : {M : Type 1} → statement M
 decode-three-spec =

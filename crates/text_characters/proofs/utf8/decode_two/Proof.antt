@@ -2,7 +2,7 @@
 use mathlib.Core.Path.{sym, _∙_}
 use borrow.Author.Needs.{needs}
 use borrow.Author.Tests.{not-true, not-false}
-use Rattle.text_characters.specs.Decoding.{two}
+use Rattle.text_characters.specs.mirror.Decoding.{two}
 use Rattle.text_characters.proofs.utf8.decode_two.Statement.{statement}
 use Rattle.text_characters.proofs.utf8.decode_two.Tie as tie
 

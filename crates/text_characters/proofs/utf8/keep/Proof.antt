@@ -2,7 +2,7 @@
 use mathlib.Core.Path.{sym, _∙_}
 use borrow.Author.Needs.{needs}
 use borrow.Author.Tests.{lt-leb, le-leb, not-true, not-false}
-use Rattle.text_characters.specs.Decoding.{kept}
+use Rattle.text_characters.specs.mirror.Decoding.{kept}
 use Rattle.text_characters.proofs.utf8.keep.Statement.{statement}
 use Rattle.text_characters.proofs.utf8.keep.Tie as tie
 

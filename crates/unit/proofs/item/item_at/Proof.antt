@@ -4,9 +4,9 @@ use Rattle.unit.proofs.item.item_at.Statement.{statement}
 use Rattle.unit.proofs.item.item_at.Tie as tie
 use mathlib.Core.Path.{refl}
 use native.Mathlib.Omega.{arith}
-use Rattle.list_house.specs.HouseTable.{houseRows}
+use Rattle.list_house.specs.mirror.HouseTable.{houseRows}
 use Rattle.list_house.specs.Lists.{kept}
-use Rattle.image.proofs.Hunting.{head-small}
+use Rattle.image.proofs.loops.PickerTurn.{head-small}
 use Rattle.unit.proofs.Standing.{past, house-closing, house-strange, house-unfit, house-simple, house-fits, house-valued}
 
 broken-requires : tie.Need-broken-requires

@@ -6,7 +6,7 @@ use lib.ListN.{length, drop}
 use borrow.Author.Tests.{not-true, not-false}
 use Rattle.text.specs.Bytes.{isBlank}
 use Rattle.text.specs.Lists.{All}
-use Rattle.value.proofs.Parts.{ink-none, ink-more}
+use Rattle.value.proofs.raw.Parts.{ink-none, ink-more}
 use borrow.Author.Needs.{needs}
 use Rattle.value.proofs.blanks.ink_end.Statement.{statement}
 use Rattle.value.proofs.blanks.ink_end.Tie as tie

@@ -1,6 +1,6 @@
 -- `blanks::part_of` meets its contract. Assumes nothing.
 use native.Mathlib.Omega.{arith}
-use Rattle.value.proofs.Parts.{part-none, part-turned, part-rest, part-within}
+use Rattle.value.proofs.raw.Parts.{part-none, part-turned, part-rest, part-within}
 use borrow.Author.Needs.{needs}
 use Rattle.value.proofs.blanks.part_of.Statement.{statement}
 use Rattle.value.proofs.blanks.part_of.Tie as tie

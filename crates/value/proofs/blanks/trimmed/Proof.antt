@@ -2,7 +2,7 @@
 use native.Mathlib.Omega.{arith}
 use Rattle.text.specs.Bytes.{isBlank}
 use Rattle.text.proofs.Spans.{span-le}
-use Rattle.value.proofs.Parts.{trim-of}
+use Rattle.value.proofs.raw.Parts.{trim-of}
 use borrow.Author.Needs.{needs}
 use Rattle.value.proofs.blanks.trimmed.Statement.{statement}
 use Rattle.value.proofs.blanks.trimmed.Tie as tie

@@ -1,7 +1,7 @@
 -- `chars::has_bit` meets its contract. Assumes nothing.
 use mathlib.Core.Path.{refl}
 use borrow.Author.Needs.{needs}
-use Rattle.value.specs.Pages.{bitOf}
+use Rattle.value.specs.mirror.Pages.{bitOf}
 use Rattle.value.proofs.chars.has_bit.Statement.{statement}
 use Rattle.value.proofs.chars.has_bit.Tie as tie
 

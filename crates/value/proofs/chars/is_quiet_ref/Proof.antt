@@ -3,7 +3,7 @@ use mathlib.Core.Path.{refl}
 use mathlib.Core.List.{[], _∷_}
 use native.Mathlib.Omega.{arith}
 use Rattle.text.proofs.Classes.{yes, yes-but, no-key, no}
-use Rattle.value.proofs.Named.{quiet-reference}
+use Rattle.value.proofs.classes.Named.{quiet-reference}
 use Rattle.value.proofs.chars.is_quiet_ref.Statement.{statement}
 use Rattle.value.proofs.chars.is_quiet_ref.Tie as tie
 

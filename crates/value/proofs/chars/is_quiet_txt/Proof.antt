@@ -1,7 +1,7 @@
 -- `chars::is_quiet_txt` meets its contract. Assumes nothing.
 use mathlib.Core.Path.{_∙_}
 use borrow.Author.Needs.{needs}
-use Rattle.value.specs.Pages.{quietLooked}
+use Rattle.value.specs.mirror.Pages.{quietLooked}
 use Rattle.value.proofs.Pages.{lookup-quiet}
 use Rattle.value.proofs.chars.is_quiet_txt.Statement.{statement}
 use Rattle.value.proofs.chars.is_quiet_txt.Tie as tie

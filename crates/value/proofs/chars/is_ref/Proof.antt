@@ -2,7 +2,7 @@
 use mathlib.Core.Path.{refl}
 use native.Mathlib.Omega.{arith}
 use Rattle.text.proofs.Classes.{yes, no}
-use Rattle.value.proofs.Named.{reference}
+use Rattle.value.proofs.classes.Named.{reference}
 use Rattle.value.proofs.chars.is_ref.Statement.{statement}
 use Rattle.value.proofs.chars.is_ref.Tie as tie
 

@@ -1,7 +1,7 @@
 -- `chars::is_txt` meets its contract. Assumes nothing.
 use mathlib.Core.Path.{_∙_}
 use borrow.Author.Needs.{needs}
-use Rattle.value.specs.Pages.{looked}
+use Rattle.value.specs.mirror.Pages.{looked}
 use Rattle.value.proofs.Pages.{lookup-txt}
 use Rattle.value.proofs.chars.is_txt.Statement.{statement}
 use Rattle.value.proofs.chars.is_txt.Tie as tie

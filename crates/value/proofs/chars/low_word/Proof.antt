@@ -1,7 +1,7 @@
 -- `chars::low_word` meets its contract. Assumes nothing.
 use mathlib.Core.Path.{refl}
 use native.Mathlib.Omega.{arith}
-use Rattle.value.specs.Pages.{wordIn, words}
+use Rattle.value.specs.mirror.Pages.{wordIn, words}
 use Rattle.value.proofs.Pages.{past}
 use Rattle.value.proofs.chars.low_word.Statement.{statement}
 use Rattle.value.proofs.chars.low_word.Tie as tie

@@ -5,7 +5,7 @@ use lib.ListN.{length, drop}
 use borrow.Author.Needs.{needs}
 use Rattle.text.specs.Lists.{span}
 use Rattle.text.proofs.Spans.{span-over, span-found, span-again}
-use Rattle.value.specs.Texts.{quietOf}
+use Rattle.value.specs.mirror.Texts.{quietOf}
 use Rattle.value.proofs.chars.quiet_end.Statement.{statement}
 use Rattle.value.proofs.chars.quiet_end.Tie as tie
 

@@ -1,7 +1,7 @@
 -- `chars::quiet_word` meets its contract. Assumes nothing.
 use mathlib.Core.Path.{refl}
 use native.Mathlib.Omega.{arith}
-use Rattle.value.specs.Pages.{wordIn, quietWords}
+use Rattle.value.specs.mirror.Pages.{wordIn, quietWords}
 use Rattle.value.proofs.Pages.{past}
 use Rattle.value.proofs.chars.quiet_word.Statement.{statement}
 use Rattle.value.proofs.chars.quiet_word.Tie as tie

@@ -4,10 +4,10 @@ use Prim.Native.Nat.{_-_, _≤_}
 use native.Mathlib.Omega.{arith}
 use lib.ListN.{length}
 use borrow.Author.Tests.{not-true, not-false}
-use Rattle.value.specs.Texts.{unspelled}
-use Rattle.value.proofs.Texting.{Here, here-start, here-full, here-bad, here-slash, here-room, end-slash, end-blank, end-good}
-use Rattle.value.proofs.Sizes.{Sized, sized-start, sized-end, width-least, text-of}
-use Rattle.value.proofs.Quiet.{turn-some, turn-room, turn-over, turn-here-on, turn-sized}
+use Rattle.value.specs.mirror.Texts.{unspelled}
+use Rattle.value.proofs.classes.References.{Here, here-start, here-full, here-bad, here-slash, here-room, end-slash, end-blank, end-good}
+use Rattle.value.proofs.raw.Sizes.{Sized, sized-start, sized-end, width-least, text-of}
+use Rattle.value.proofs.raw.Quiet.{turn-some, turn-room, turn-over, turn-here-on, turn-sized}
 use borrow.Author.Needs.{needs}
 use Rattle.value.proofs.chars.spelled.Statement.{statement}
 use Rattle.value.proofs.chars.spelled.Tie as tie
@@ -41,7 +41,16 @@ slash-and-requires c κs = search needs
 
 returns-3 : tie.Need-returns-3 Inv-loop μ-loop
 returns-3 c =
-    unspelled refl (here-slash _ _ _ _ _ _ _ (c .before .before .before .before .before .before .before .loop .inv .0) (c .before .before .before .before .before .before .loop-test .taken) _ (c .before .before .before .before .next-char .ensures) (omega (arith, c .before .before .before .before .before .if1 .left)) (sym (c .before .before .before .fits2 .ensures) ∙ not-false _ (c .before .before .if2 .left)) (sym (c .before .slash-and .ensures) ∙ c .if3 .taken))
+    let at-if2 = c .before .before in
+    let at-fits2 = at-if2 .before in
+    let at-next-char = at-fits2 .before in
+    let at-if1 = at-next-char .before in
+    let at-loop-test = at-if1 .before in
+    let at-loop = at-loop-test .before in
+    unspelled refl
+    (here-slash _ _ _ _ _ _ _ (at-loop .loop .inv .0) (at-loop-test .loop-test .taken) _ (at-next-char .next-char .ensures)
+    (omega (arith, at-if1 .if1 .left)) (sym (at-fits2 .fits2 .ensures) ∙ not-false _ (at-if2 .if2 .left))
+    (sym (c .before .slash-and .ensures) ∙ c .if3 .taken))
 
 add-n : tie.Need-add-n Inv-loop μ-loop
 add-n c =
@@ -63,7 +72,19 @@ sub-if4 c =
 
 returns-4 : tie.Need-returns-4 Inv-loop μ-loop
 returns-4 c =
-    unspelled refl (turn-over _ _ _ _ _ _ _ (c .before .before .before .before .before .before .before .before .before .before .loop .inv .0) (c .before .before .before .before .before .before .before .before .before .loop-test .taken) _ (c .before .before .before .before .before .before .before .next-char .ensures) (c .before .before .inked .result) _ (c .before .run-of .ensures) (omega (arith, c .before .before .before .before .before .before .before .before .if1 .left)) (sym (c .before .before .before .before .before .before .fits2 .ensures) ∙ not-false _ (c .before .before .before .before .before .if2 .left)) (sym (c .before .before .before .before .slash-and .ensures) ∙ c .before .before .before .if3 .left) (c .before .before .inked .ensures) (c .if4 .taken))
+    let at-inked = c .before .before in
+    let at-if3 = at-inked .before in
+    let at-slash-and = at-if3 .before in
+    let at-if2 = at-slash-and .before in
+    let at-fits2 = at-if2 .before in
+    let at-next-char = at-fits2 .before in
+    let at-if1 = at-next-char .before in
+    let at-loop-test = at-if1 .before in
+    let at-loop = at-loop-test .before in
+    unspelled refl
+    (turn-over _ _ _ _ _ _ _ (at-loop .loop .inv .0) (at-loop-test .loop-test .taken) _ (at-next-char .next-char .ensures) (at-inked .inked .result) _
+    (c .before .run-of .ensures) (omega (arith, at-if1 .if1 .left)) (sym (at-fits2 .fits2 .ensures) ∙ not-false _ (at-if2 .if2 .left))
+    (sym (at-slash-and .slash-and .ensures) ∙ at-if3 .if3 .left) (at-inked .inked .ensures) (c .if4 .taken))
 
 add-i : tie.Need-add-i Inv-loop μ-loop
 add-i c =
@@ -75,31 +96,121 @@ add-i-2 c =
 
 add-n-2 : tie.Need-add-n-2 Inv-loop μ-loop
 add-n-2 c =
-    omega (arith, turn-room _ _ _ _ _ _ _ (c .before .before .before .before .before .before .before .before .before .before .loop .inv .0) (c .before .before .before .before .before .before .before .before .before .loop-test .taken) _ (c .before .before .before .before .before .before .before .next-char .ensures) (c .before .before .inked .result) _ (c .before .run-of .ensures), c .before .before .before .before .before .before .before .before .before .before .loop .inv .2, turn-some _ _ _ _ _ _ _ (c .before .before .before .before .before .before .before .before .before .before .loop .inv .0) _ (c .before .before .before .before .before .before .before .next-char .ensures) (sym (c .before .before .before .before .before .before .fits2 .ensures) ∙ not-false _ (c .before .before .before .before .before .if2 .left)))
+    omega (
+      arith,
+      turn-room _ _ _ _ _ _ _ (c .before .before .before .before .before .before .before .before .before .before .loop .inv .0) (c .before .before .before .before .before .before .before .before .before .loop-test .taken) _ (c .before .before .before .before .before .before .before .next-char .ensures) (c .before .before .inked .result) _ (c .before .run-of .ensures),
+      c .before .before .before .before .before .before .before .before .before .before .loop .inv .2,
+      turn-some _ _ _ _ _ _ _ (c .before .before .before .before .before .before .before .before .before .before .loop .inv .0) _ (c .before .before .before .before .before .before .before .next-char .ensures) (sym (c .before .before .before .before .before .before .fits2 .ensures) ∙ not-false _ (c .before .before .before .before .before .if2 .left)),
+    )
 
 width-requires : tie.Need-width-requires Inv-loop μ-loop
 width-requires c κs = search needs
 
 add-size : tie.Need-add-size Inv-loop μ-loop
 add-size c =
-    omega (arith, turn-room _ _ _ _ _ _ _ (c .before .before .before .before .before .before .before .before .before .before .before .loop .inv .0) (c .before .before .before .before .before .before .before .before .before .before .loop-test .taken) _ (c .before .before .before .before .before .before .before .before .next-char .ensures) (c .before .before .before .inked .result) _ (c .before .before .run-of .ensures), c .width .ensures, width-least (c .before .before .before .before .before .before .before .before .next-char .result .len) (c .before .before .before .before .before .before .before .before .next-char .result .code) (turn-some _ _ _ _ _ _ _ (c .before .before .before .before .before .before .before .before .before .before .before .loop .inv .0) _ (c .before .before .before .before .before .before .before .before .next-char .ensures) (sym (c .before .before .before .before .before .before .before .fits2 .ensures) ∙ not-false _ (c .before .before .before .before .before .before .if2 .left))))
+    omega (
+      arith,
+      (let at-run-of = c .before .before in
+          let at-inked = at-run-of .before in
+          let at-next-char = at-inked .before .before .before .before .before in
+          let at-loop-test = at-next-char .before .before in
+          let at-loop = at-loop-test .before in
+          turn-room _ _ _ _ _ _ _ (at-loop .loop .inv .0) (at-loop-test .loop-test .taken) _ (at-next-char .next-char .ensures) (at-inked .inked .result) _
+          (at-run-of .run-of .ensures)),
+      c .width .ensures,
+      (let at-if2 = c .before .before .before .before .before .before in
+          let at-fits2 = at-if2 .before in
+          let at-next-char = at-fits2 .before in
+          let at-loop = at-next-char .before .before .before in
+          width-least (at-next-char .next-char .result .len) (at-next-char .next-char .result .code)
+          (turn-some _ _ _ _ _ _ _ (at-loop .loop .inv .0) _ (at-next-char .next-char .ensures)
+          (sym (at-fits2 .fits2 .ensures) ∙ not-false _ (at-if2 .if2 .left)))),
+    )
 
 add-size-2 : tie.Need-add-size-2 Inv-loop μ-loop
 add-size-2 c =
-    omega (arith, turn-room _ _ _ _ _ _ _ (c .before .before .before .before .before .before .before .before .before .before .before .loop .inv .0) (c .before .before .before .before .before .before .before .before .before .before .loop-test .taken) _ (c .before .before .before .before .before .before .before .before .next-char .ensures) (c .before .before .before .inked .result) _ (c .before .before .run-of .ensures), c .before .before .before .before .before .before .before .before .before .before .before .loop .inv .1 .most, c .width .ensures, width-least (c .before .before .before .before .before .before .before .before .next-char .result .len) (c .before .before .before .before .before .before .before .before .next-char .result .code) (turn-some _ _ _ _ _ _ _ (c .before .before .before .before .before .before .before .before .before .before .before .loop .inv .0) _ (c .before .before .before .before .before .before .before .before .next-char .ensures) (sym (c .before .before .before .before .before .before .before .fits2 .ensures) ∙ not-false _ (c .before .before .before .before .before .before .if2 .left))))
+    omega (
+      arith,
+      (let at-run-of = c .before .before in
+          let at-inked = at-run-of .before in
+          let at-next-char = at-inked .before .before .before .before .before in
+          let at-loop-test = at-next-char .before .before in
+          let at-loop = at-loop-test .before in
+          turn-room _ _ _ _ _ _ _ (at-loop .loop .inv .0) (at-loop-test .loop-test .taken) _ (at-next-char .next-char .ensures) (at-inked .inked .result) _
+          (at-run-of .run-of .ensures)),
+      c .before .before .before .before .before .before .before .before .before .before .before .loop .inv .1 .most,
+      c .width .ensures,
+      (let at-if2 = c .before .before .before .before .before .before in
+          let at-fits2 = at-if2 .before in
+          let at-next-char = at-fits2 .before in
+          let at-loop = at-next-char .before .before .before in
+          width-least (at-next-char .next-char .result .len) (at-next-char .next-char .result .code)
+          (turn-some _ _ _ _ _ _ _ (at-loop .loop .inv .0) _ (at-next-char .next-char .ensures)
+          (sym (at-fits2 .fits2 .ensures) ∙ not-false _ (at-if2 .if2 .left)))),
+    )
 
 slash-behind-requires : tie.Need-slash-behind-requires Inv-loop μ-loop
 slash-behind-requires c κs = search needs
 
 loop-less : tie.Need-loop-less Inv-loop μ-loop
 loop-less c =
-    omega (arith, turn-room _ _ _ _ _ _ _ (c .before .before .before .before .before .before .before .before .before .before .before .before .loop .inv .0) (c .before .before .before .before .before .before .before .before .before .before .before .loop-test .taken) _ (c .before .before .before .before .before .before .before .before .before .next-char .ensures) (c .before .before .before .before .inked .result) _ (c .before .before .before .run-of .ensures), turn-some _ _ _ _ _ _ _ (c .before .before .before .before .before .before .before .before .before .before .before .before .loop .inv .0) _ (c .before .before .before .before .before .before .before .before .before .next-char .ensures) (sym (c .before .before .before .before .before .before .before .before .fits2 .ensures) ∙ not-false _ (c .before .before .before .before .before .before .before .if2 .left)))
+    omega (
+      arith,
+      (let at-run-of = c .before .before .before in
+          let at-inked = at-run-of .before in
+          let at-next-char = at-inked .before .before .before .before .before in
+          let at-loop-test = at-next-char .before .before in
+          let at-loop = at-loop-test .before in
+          turn-room _ _ _ _ _ _ _ (at-loop .loop .inv .0) (at-loop-test .loop-test .taken) _ (at-next-char .next-char .ensures) (at-inked .inked .result) _
+          (at-run-of .run-of .ensures)),
+      (let at-if2 = c .before .before .before .before .before .before .before in
+          let at-fits2 = at-if2 .before in
+          let at-next-char = at-fits2 .before in
+          let at-loop = at-next-char .before .before .before in
+          turn-some _ _ _ _ _ _ _ (at-loop .loop .inv .0) _ (at-next-char .next-char .ensures)
+          (sym (at-fits2 .fits2 .ensures) ∙ not-false _ (at-if2 .if2 .left))),
+    )
 
 loop-again : tie.Need-loop-again Inv-loop μ-loop
 loop-again c = (
-  turn-here-on _ _ _ _ _ _ _ (c .before .before .before .before .before .before .before .before .before .before .before .before .loop .inv .0) (c .before .before .before .before .before .before .before .before .before .before .before .loop-test .taken) _ (c .before .before .before .before .before .before .before .before .before .next-char .ensures) (c .before .before .before .before .inked .result) _ (c .before .before .before .run-of .ensures) (omega (arith, c .before .before .before .before .before .before .before .before .before .before .if1 .left)) (sym (c .before .before .before .before .before .before .before .before .fits2 .ensures) ∙ not-false _ (c .before .before .before .before .before .before .before .if2 .left)) (sym (c .before .before .before .before .before .before .slash-and .ensures) ∙ c .before .before .before .before .before .if3 .left) (c .before .before .before .before .inked .ensures) (omega (arith, c .before .before .if4 .left)) _ (c .slash-behind .ensures),
-  turn-sized _ _ _ _ _ _ _ (c .before .before .before .before .before .before .before .before .before .before .before .before .loop .inv .0) (c .before .before .before .before .before .before .before .before .before .before .before .loop-test .taken) _ (c .before .before .before .before .before .before .before .before .before .next-char .ensures) (c .before .before .before .before .inked .result) _ (c .before .before .before .run-of .ensures) (omega (arith, c .before .before .before .before .before .before .before .before .before .before .if1 .left)) (sym (c .before .before .before .before .before .before .before .before .fits2 .ensures) ∙ not-false _ (c .before .before .before .before .before .before .before .if2 .left)) (sym (c .before .before .before .before .before .before .slash-and .ensures) ∙ c .before .before .before .before .before .if3 .left) (c .before .before .before .before .inked .ensures) _ _ (c .before .before .before .before .before .before .before .before .before .before .before .before .loop .inv .1) (c .before .width .ensures),
-  omega (arith, c .before .before .before .before .before .before .before .before .before .before .before .before .loop .inv .2, turn-some _ _ _ _ _ _ _ (c .before .before .before .before .before .before .before .before .before .before .before .before .loop .inv .0) _ (c .before .before .before .before .before .before .before .before .before .next-char .ensures) (sym (c .before .before .before .before .before .before .before .before .fits2 .ensures) ∙ not-false _ (c .before .before .before .before .before .before .before .if2 .left))),
+  let at-if4 = c .before .before in
+      let at-run-of = at-if4 .before in
+      let at-inked = at-run-of .before in
+      let at-if3 = at-inked .before in
+      let at-slash-and = at-if3 .before in
+      let at-if2 = at-slash-and .before in
+      let at-fits2 = at-if2 .before in
+      let at-next-char = at-fits2 .before in
+      let at-if1 = at-next-char .before in
+      let at-loop-test = at-if1 .before in
+      let at-loop = at-loop-test .before in
+      turn-here-on _ _ _ _ _ _ _ (at-loop .loop .inv .0) (at-loop-test .loop-test .taken) _ (at-next-char .next-char .ensures) (at-inked .inked .result) _
+      (at-run-of .run-of .ensures) (omega (arith, at-if1 .if1 .left)) (sym (at-fits2 .fits2 .ensures) ∙ not-false _ (at-if2 .if2 .left))
+      (sym (at-slash-and .slash-and .ensures) ∙ at-if3 .if3 .left) (at-inked .inked .ensures) (omega (arith, at-if4 .if4 .left)) _
+      (c .slash-behind .ensures),
+  let at-run-of = c .before .before .before in
+      let at-inked = at-run-of .before in
+      let at-if3 = at-inked .before in
+      let at-slash-and = at-if3 .before in
+      let at-if2 = at-slash-and .before in
+      let at-fits2 = at-if2 .before in
+      let at-next-char = at-fits2 .before in
+      let at-if1 = at-next-char .before in
+      let at-loop-test = at-if1 .before in
+      let at-loop = at-loop-test .before in
+      turn-sized _ _ _ _ _ _ _ (at-loop .loop .inv .0) (at-loop-test .loop-test .taken) _ (at-next-char .next-char .ensures) (at-inked .inked .result) _
+      (at-run-of .run-of .ensures) (omega (arith, at-if1 .if1 .left)) (sym (at-fits2 .fits2 .ensures) ∙ not-false _ (at-if2 .if2 .left))
+      (sym (at-slash-and .slash-and .ensures) ∙ at-if3 .if3 .left) (at-inked .inked .ensures) _ _ (at-loop .loop .inv .1) (c .before .width .ensures),
+  omega (
+    arith,
+    c .before .before .before .before .before .before .before .before .before .before .before .before .loop .inv .2,
+    (let at-if2 = c .before .before .before .before .before .before .before in
+        let at-fits2 = at-if2 .before in
+        let at-next-char = at-fits2 .before in
+        let at-loop = at-next-char .before .before .before in
+        turn-some _ _ _ _ _ _ _ (at-loop .loop .inv .0) _ (at-next-char .next-char .ensures)
+        (sym (at-fits2 .fits2 .ensures) ∙ not-false _ (at-if2 .if2 .left))),
+  ),
 )
 
 returns-5 : tie.Need-returns-5 Inv-loop μ-loop

@@ -1,7 +1,7 @@
 -- `chars::width` meets its contract. Assumes nothing.
 use mathlib.Core.Path.{sym}
 use native.Mathlib.Omega.{arith}
-use Rattle.value.proofs.Sizes.{width-one, width-len}
+use Rattle.value.proofs.raw.Sizes.{width-one, width-len}
 use Rattle.value.proofs.chars.width.Statement.{statement}
 use Rattle.value.proofs.chars.width.Tie as tie
 

@@ -1,7 +1,7 @@
 -- `code::iban_byte` meets its contract. Assumes nothing.
 use mathlib.Core.Path.{sym, _∙_}
 use native.Mathlib.Omega.{arith}
-use Rattle.value.proofs.Codes.{iban-country, iban-check, iban-rest}
+use Rattle.value.proofs.classes.Codes.{iban-country, iban-check, iban-rest}
 use borrow.Author.Needs.{needs}
 use Rattle.value.proofs.code.iban_byte.Statement.{statement}
 use Rattle.value.proofs.code.iban_byte.Tie as tie

@@ -3,8 +3,8 @@ use mathlib.Core.Path.{sym, _∙_}
 use mathlib.Core.Bool.{true≢false}
 use native.Mathlib.Omega.{arith}
 use borrow.Author.Tests.{not-true, not-false}
-use Rattle.value.proofs.Loops.{exactly-no}
-use Rattle.value.proofs.Codes.{ccy-first, ccy-second, ccy-last}
+use Rattle.value.proofs.classes.Loops.{exactly-no}
+use Rattle.value.proofs.classes.Codes.{ccy-first, ccy-second, ccy-last}
 use borrow.Author.Needs.{needs}
 use Rattle.value.proofs.code.is_ccy.Statement.{statement}
 use Rattle.value.proofs.code.is_ccy.Tie as tie

@@ -4,9 +4,9 @@ use Prim.Native.Nat.{_-_}
 use native.Mathlib.Omega.{arith}
 use lib.ListN.{length}
 use borrow.Author.Tests.{not-true, not-false}
-use Rattle.value.specs.Layout.{ibanAt}
-use Rattle.value.proofs.Loops.{Run, run-none, run-more, run-stop, run-end, exactly-no, exactly-yes}
-use Rattle.value.proofs.Codes.{iban-short, iban-long, iban-from, iban-to}
+use Rattle.value.specs.mirror.Layout.{ibanAt}
+use Rattle.value.proofs.classes.Loops.{Run, run-none, run-more, run-stop, run-end, exactly-no, exactly-yes}
+use Rattle.value.proofs.classes.Codes.{iban-short, iban-long, iban-from, iban-to}
 use borrow.Author.Needs.{needs}
 use Rattle.value.proofs.code.is_iban.Statement.{statement}
 use Rattle.value.proofs.code.is_iban.Tie as tie

@@ -2,7 +2,7 @@
 use mathlib.Core.Path.{refl}
 use native.Mathlib.Omega.{arith}
 use Rattle.text.proofs.Classes.{yes, no}
-use Rattle.value.proofs.Named.{letter-or-digit}
+use Rattle.value.proofs.classes.Named.{letter-or-digit}
 use Rattle.value.proofs.code.is_letter_or_digit.Statement.{statement}
 use Rattle.value.proofs.code.is_letter_or_digit.Tie as tie
 

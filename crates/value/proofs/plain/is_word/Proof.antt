@@ -2,8 +2,8 @@
 use mathlib.Core.Path.{ap}
 use native.Mathlib.Omega.{arith}
 use lib.ListN.{length}
-use Rattle.value.proofs.Loops.{exactly-no}
-use Rattle.value.proofs.Rights.{word-is}
+use Rattle.value.proofs.classes.Loops.{exactly-no}
+use Rattle.value.proofs.types.Rights.{word-is}
 use borrow.Author.Needs.{needs}
 use Rattle.value.proofs.plain.is_word.Statement.{statement}
 use Rattle.value.proofs.plain.is_word.Tie as tie

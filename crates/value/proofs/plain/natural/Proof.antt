@@ -4,8 +4,8 @@ use Prim.Native.Nat.{_-_}
 use native.Mathlib.Omega.{arith}
 use lib.ListN.{length}
 use borrow.Author.Tests.{not-true, not-false}
-use Rattle.value.proofs.Classes.{digit-range}
-use Rattle.value.proofs.Naturals.{Count, count-none, count-room, count-stop, count-more, count-end, count-empty, count-long}
+use Rattle.value.proofs.classes.Classes.{digit-range}
+use Rattle.value.proofs.numbers.Naturals.{Count, count-none, count-room, count-stop, count-more, count-end, count-empty, count-long}
 use borrow.Author.Needs.{needs}
 use Rattle.value.proofs.plain.natural.Statement.{statement}
 use Rattle.value.proofs.plain.natural.Tie as tie

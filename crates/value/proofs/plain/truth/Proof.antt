@@ -2,7 +2,7 @@
 use mathlib.Core.Path.{sym, _∙_}
 use mathlib.Core.Bool.{true, false, true≢false}
 use mathlib.Core.Logic.{inl, inr}
-use Rattle.value.proofs.Rights.{truth-is, truth-not}
+use Rattle.value.proofs.types.Rights.{truth-is, truth-not}
 use borrow.Author.Needs.{needs}
 use Rattle.value.proofs.plain.truth.Statement.{statement}
 use Rattle.value.proofs.plain.truth.Tie as tie
@@ -49,7 +49,16 @@ returns-4 c =
 
 returns-5 : tie.Need-returns-5
 returns-5 c =
-    truth-not _ (λ e. true≢false (sym (c .before .before .before .before .before .before .before .before .before .before .is-word .ensures .1 e) ∙ c .before .before .before .before .before .before .before .before .before .if1 .left)) (λ e. true≢false (sym (c .before .before .before .before .before .before .before .is-word2 .ensures .1 e) ∙ c .before .before .before .before .before .before .if2 .left)) (λ e. true≢false (sym (c .before .before .before .before .is-word3 .ensures .1 e) ∙ c .before .before .before .if3 .left)) (λ e. true≢false (sym (c .before .is-word4 .ensures .1 e) ∙ c .if4 .left))
+    let at-if3 = c .before .before .before in
+    let at-is-word3 = at-if3 .before in
+    let at-if2 = at-is-word3 .before .before in
+    let at-is-word2 = at-if2 .before in
+    let at-if1 = at-is-word2 .before .before in
+    let at-is-word = at-if1 .before in
+    truth-not _ (λ e. true≢false (sym (at-is-word .is-word .ensures .1 e) ∙ at-if1 .if1 .left))
+    (λ e. true≢false (sym (at-is-word2 .is-word2 .ensures .1 e) ∙ at-if2 .if2 .left))
+    (λ e. true≢false (sym (at-is-word3 .is-word3 .ensures .1 e) ∙ at-if3 .if3 .left))
+    (λ e. true≢false (sym (c .before .is-word4 .ensures .1 e) ∙ c .if4 .left))
 
 pub truth-spec : {M : Type 1} → statement M
 truth-spec =

@@ -1,7 +1,7 @@
 -- `amount::amount` meets its contract. Assumes nothing.
 use mathlib.Core.Path.{sym}
 use native.Mathlib.Omega.{arith}
-use Rattle.value.proofs.Amounts.{answer-bad, answered, read-end, read-plus, read-minus, read-bare}
+use Rattle.value.proofs.numbers.Amounts.{answer-bad, answered, read-end, read-plus, read-minus, read-bare}
 use borrow.Author.Needs.{needs}
 use Rattle.value_amounts.proofs.amount.amount.Statement.{statement}
 use Rattle.value_amounts.proofs.amount.amount.Tie as tie

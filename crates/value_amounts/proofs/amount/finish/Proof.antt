@@ -1,7 +1,7 @@
 -- `amount::finish` meets its contract. Assumes nothing.
 use mathlib.Core.Path.{sym, _∙_}
 use borrow.Author.Tests.{eq-eqb, ne-eqb}
-use Rattle.value.proofs.Amounts.{answer-good}
+use Rattle.value.proofs.numbers.Amounts.{answer-good}
 use Rattle.value_amounts.proofs.amount.finish.Statement.{statement}
 use Rattle.value_amounts.proofs.amount.finish.Tie as tie
 

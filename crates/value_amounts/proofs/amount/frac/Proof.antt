@@ -5,8 +5,8 @@ use Prim.Native.Nat.{_+_, _-_, _^_}
 use native.Mathlib.Omega.{arith}
 use lib.ListN.{length}
 use borrow.Author.Tests.{not-true, not-false}
-use Rattle.value.proofs.Classes.{digit-range}
-use Rattle.value.proofs.Amounts.{Places, places-none, places-end, places-stop, places-zero, places-one, places-over, room, enough}
+use Rattle.value.proofs.classes.Classes.{digit-range}
+use Rattle.value.proofs.numbers.Amounts.{Places, places-none, places-end, places-stop, places-zero, places-one, places-over, room, enough}
 use borrow.Author.Needs.{needs}
 use Rattle.value_amounts.proofs.amount.frac.Statement.{statement}
 use Rattle.value_amounts.proofs.amount.frac.Tie as tie

@@ -2,8 +2,8 @@
 use mathlib.Core.Path.{sym, _∙_, ap}
 use Prim.Native.Nat.{_+_}
 use native.Mathlib.Omega.{arith}
-use Rattle.value.specs.Reading.{answer}
-use Rattle.value.proofs.Amounts.{answer-bad, signed-end, signed-whole, signed-stop, signed-point, point-end, point-frac}
+use Rattle.value.specs.mirror.Reading.{answer}
+use Rattle.value.proofs.numbers.Amounts.{answer-bad, signed-end, signed-whole, signed-stop, signed-point, point-end, point-frac}
 use borrow.Author.Needs.{needs}
 use Rattle.value_amounts.proofs.amount.signed.Statement.{statement}
 use Rattle.value_amounts.proofs.amount.signed.Tie as tie
@@ -41,7 +41,13 @@ frac-requires c κs = search needs
 
 returns-5 : tie.Need-returns-5
 returns-5 c =
-    c .frac .ensures ∙ sym (ap answer (signed-point (c .before .before .before .before .before .before .before .before .args .t .now) (c .before .before .before .before .before .before .before .before .args .at) _ (omega arith) (sym (c .before .before .before .before .is-digit .ensures) ∙ c .before .before .before .if2 .left) (omega arith) ∙ point-frac (c .before .before .before .before .before .before .before .before .args .t .now) (c .before .before .before .before .before .before .before .before .args .at + 1) _ (omega arith)))
+    let at-if2 = c .before .before .before in
+    let at-is-digit = at-if2 .before in
+    let start = at-is-digit .before .before .before .before in
+    c .frac .ensures ∙ sym
+    (ap answer
+    (signed-point (start .args .t .now) (start .args .at) _ (omega arith) (sym (at-is-digit .is-digit .ensures) ∙ at-if2 .if2 .left) (omega arith) ∙
+    point-frac (start .args .t .now) (start .args .at + 1) _ (omega arith)))
 
 pub signed-spec : {M : Type 1} → statement M
 signed-spec =

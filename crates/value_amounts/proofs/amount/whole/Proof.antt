@@ -4,8 +4,8 @@ use Prim.Native.Nat.{_-_}
 use native.Mathlib.Omega.{arith}
 use lib.ListN.{length}
 use borrow.Author.Tests.{not-true, not-false}
-use Rattle.value.proofs.Classes.{digit-range}
-use Rattle.value.proofs.Amounts.{Digits, digits-end, digits-stop, digits-point, digits-more, digits-over}
+use Rattle.value.proofs.classes.Classes.{digit-range}
+use Rattle.value.proofs.numbers.Amounts.{Digits, digits-end, digits-stop, digits-point, digits-more, digits-over}
 use borrow.Author.Needs.{needs}
 use Rattle.value_amounts.proofs.amount.whole.Statement.{statement}
 use Rattle.value_amounts.proofs.amount.whole.Tie as tie

@@ -1,6 +1,6 @@
 -- `day::day` meets its contract. Assumes nothing.
 use native.Mathlib.Omega.{arith}
-use Rattle.value.proofs.Fronts.{day-whole, day-length}
+use Rattle.value.proofs.dates.Fronts.{day-whole, day-length}
 use borrow.Author.Needs.{needs}
 use Rattle.value_dates.proofs.day.day.Statement.{statement}
 use Rattle.value_dates.proofs.day.day.Tie as tie

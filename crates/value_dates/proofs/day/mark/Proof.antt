@@ -5,8 +5,8 @@ use lib.ListN.{length-drop}
 use lib.Dec.{eqb}
 use mathlib.Core.List.{List}
 use Prim.Native.Nat.{ℕ}
-use Rattle.value.specs.Digits.{Mark}
-use Rattle.value.proofs.Fronts.{front-one, mark-none, mark-at}
+use Rattle.value.specs.mirror.Digits.{Mark}
+use Rattle.value.proofs.dates.Fronts.{front-one, mark-none, mark-at}
 use borrow.Author.Needs.{needs}
 use Rattle.value_dates.proofs.day.mark.Statement.{statement}
 use Rattle.value_dates.proofs.day.mark.Tie as tie

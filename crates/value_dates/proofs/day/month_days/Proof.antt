@@ -1,7 +1,7 @@
 -- `day::month_days` meets its contract. Assumes nothing.
 use native.Mathlib.Omega.{arith}
 use borrow.Author.Tests.{eq-eqb, ne-eqb}
-use Rattle.value.proofs.Months.{month-none, month-thirty, month-else}
+use Rattle.value.proofs.dates.Months.{month-none, month-thirty, month-else}
 use Rattle.value_dates.proofs.day.month_days.Statement.{statement}
 use Rattle.value_dates.proofs.day.month_days.Tie as tie
 

@@ -1,6 +1,6 @@
 -- `day::next_day` meets its contract. Assumes nothing.
 use native.Mathlib.Omega.{arith}
-use Rattle.value.proofs.Fronts.{next-day, next-month, next-year, next-none}
+use Rattle.value.proofs.dates.Fronts.{next-day, next-month, next-year, next-none}
 use borrow.Author.Needs.{needs}
 use Rattle.value_dates.proofs.day.next_day.Statement.{statement}
 use Rattle.value_dates.proofs.day.next_day.Tie as tie

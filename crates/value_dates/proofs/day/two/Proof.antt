@@ -6,9 +6,9 @@ use Prim.Native.Nat.{ℕ, _+_, _*_, _-_}
 use native.Mathlib.Omega.{arith}
 use lib.ListN.{length-drop, getD}
 use borrow.Author.Tests.{not-true, not-false}
-use Rattle.value.specs.Digits.{Two}
-use Rattle.value.proofs.Classes.{digit-range}
-use Rattle.value.proofs.Fronts.{front-two, two-none, two-bad, two-good}
+use Rattle.value.specs.mirror.Digits.{Two}
+use Rattle.value.proofs.classes.Classes.{digit-range}
+use Rattle.value.proofs.dates.Fronts.{front-two, two-none, two-bad, two-good}
 use borrow.Author.Needs.{needs}
 use Rattle.value_dates.proofs.day.two.Statement.{statement}
 use Rattle.value_dates.proofs.day.two.Tie as tie
@@ -62,8 +62,13 @@ add-result c =
 
 returns-5 : tie.Need-returns-5
 returns-5 c =
-    subst (λ (l : List ℕ). Two l ((getD (c .before .before .before .before .before .before .before .before .before .args .s .now) (c .before .before .before .before .before .before .before .before .before .args .at) 0 - 48) * 10 + (getD (c .before .before .before .before .before .before .before .before .before .args .s .now) (c .before .before .before .before .before .before .before .before .before .args .at + 1) 0 - 48))) (sym (front-two (c .before .before .before .before .before .before .before .before .before .args .s .now) (c .before .before .before .before .before .before .before .before .before .args .at) (omega arith)))
-    (two-good _ _ _ (sym (c .before .before .before .is-digit .ensures) ∙ not-false _ (c .before .before .if3 .left)) (sym (c .before .is-digit2 .ensures) ∙ not-false _ (c .if4 .left)))
+    let at-if3 = c .before .before in
+    let at-is-digit = at-if3 .before in
+    let start = at-is-digit .before .before .before .before .before .before in
+    subst (λ (l : List ℕ). Two l ((getD (start .args .s .now) (start .args .at) 0 - 48) * 10 + (getD (start .args .s .now) (start .args .at + 1) 0 - 48)))
+    (sym (front-two (start .args .s .now) (start .args .at) (omega arith)))
+    (two-good _ _ _ (sym (at-is-digit .is-digit .ensures) ∙ not-false _ (at-if3 .if3 .left))
+    (sym (c .before .is-digit2 .ensures) ∙ not-false _ (c .if4 .left)))
 
 pub two-spec : {M : Type 1} → statement M
 two-spec =

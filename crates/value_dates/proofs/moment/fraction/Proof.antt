@@ -1,7 +1,7 @@
 -- `moment::fraction` meets its contract. Assumes nothing.
 use native.Mathlib.Omega.{arith}
 use borrow.Author.Tests.{not-true, not-false}
-use Rattle.value.proofs.Fronts.{bare-made, bad-made, one-digit, two-digits, three-digits}
+use Rattle.value.proofs.dates.Fronts.{bare-made, bad-made, one-digit, two-digits, three-digits}
 use borrow.Author.Needs.{needs}
 use Rattle.value_dates.proofs.moment.fraction.Statement.{statement}
 use Rattle.value_dates.proofs.moment.fraction.Tie as tie

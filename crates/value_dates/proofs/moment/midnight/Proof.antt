@@ -1,8 +1,8 @@
 -- `moment::midnight` meets its contract. Assumes nothing.
 use mathlib.Core.List.{[], _∷_}
 use native.Mathlib.Omega.{arith}
-use Rattle.value.proofs.Fronts.{midnight-zone, midnight-day, midnight-on}
-use Rattle.value.proofs.Variants.{not-day}
+use Rattle.value.proofs.dates.Fronts.{midnight-zone, midnight-day, midnight-on}
+use Rattle.value.proofs.types.Variants.{not-day}
 use borrow.Author.Needs.{needs}
 use Rattle.value_dates.proofs.moment.midnight.Statement.{statement}
 use Rattle.value_dates.proofs.moment.midnight.Tie as tie

@@ -1,8 +1,8 @@
 -- `moment::moment` meets its contract. Assumes nothing.
 use mathlib.Core.Path.{sym, _∙_}
 use mathlib.Core.List.{[], _∷_}
-use Rattle.value.proofs.Fronts.{moment-no-day, day-real, moment-whole, moment-late}
-use Rattle.value.proofs.Variants.{not-day}
+use Rattle.value.proofs.dates.Fronts.{moment-no-day, day-real, moment-whole, moment-late}
+use Rattle.value.proofs.types.Variants.{not-day}
 use borrow.Author.Needs.{needs}
 use Rattle.value_dates.proofs.moment.moment.Statement.{statement}
 use Rattle.value_dates.proofs.moment.moment.Tie as tie

@@ -5,9 +5,9 @@ use Prim.Native.Nat.{ℕ}
 use native.Mathlib.Omega.{arith}
 use lib.ListN.{length-drop}
 use borrow.Author.Tests.{not-true, not-false}
-use Rattle.value.specs.Digits.{One}
-use Rattle.value.proofs.Classes.{digit-range}
-use Rattle.value.proofs.Fronts.{front-one, one-none, one-bad, one-made}
+use Rattle.value.specs.mirror.Digits.{One}
+use Rattle.value.proofs.classes.Classes.{digit-range}
+use Rattle.value.proofs.dates.Fronts.{front-one, one-none, one-bad, one-made}
 use borrow.Author.Needs.{needs}
 use Rattle.value_dates.proofs.moment.one.Statement.{statement}
 use Rattle.value_dates.proofs.moment.one.Tie as tie

@@ -8,8 +8,8 @@ use native.Mathlib.Omega.{arith}
 use lib.ListN.{drop, length, length-drop}
 use lib.Seq.{drop-drop}
 use borrow.Author.Tests.{not-true, not-false}
-use Rattle.value.specs.Digits.{Mark, Two}
-use Rattle.value.proofs.Fronts.{no-mark, zone-z, zone-one, zone-length, zone-off, zone-ahead, zone-behind, zone-on-ahead, zone-on-behind}
+use Rattle.value.specs.mirror.Digits.{Mark, Two}
+use Rattle.value.proofs.dates.Fronts.{no-mark, zone-z, zone-one, zone-length, zone-off, zone-ahead, zone-behind, zone-on-ahead, zone-on-behind}
 use borrow.Author.Needs.{needs}
 use Rattle.value_dates.proofs.moment.zone.Statement.{statement}
 use Rattle.value_dates.proofs.moment.zone.Tie as tie
@@ -109,7 +109,18 @@ returns-8 : tie.Need-returns-8
 returns-8 c =
     let t = c .before .before .before .before .before .before .before .before .before .before .before .before .before .before .args .t .now in
     let at = c .before .before .before .before .before .before .before .before .before .before .before .before .before .before .args .at in
-    zone-on-ahead _ _ _ _ _ (c .before .before .before .before .wide16 .ensures) (c .before .before .before .wide162 .ensures) (zone-ahead _ _ _ (omega (arith, length-drop at t)) (two-at t at 1 _ (c .before .before .before .before .before .before .before .before .before .before .two .ensures)) (two-at t at 4 _ (c .before .before .before .before .before .before .before .before .before .two2 .ensures)) (omega arith) (omega arith) (omega (arith, c .before .before .if7 .left, c .before .before .before .before .wide16 .ensures, c .before .before .before .wide162 .ensures)) (mark-at t at 3 _ _ _ (not-false _ (c .before .before .before .before .before .if6 .left)) (c .before .before .before .before .before .before .mark2 .ensures)) (subst (λ (x : Bool). Mark (drop at t) 43 x) (c .if8 .taken) (c .before .mark3 .ensures)))
+    let at-if7 = c .before .before in
+    let at-wide162 = at-if7 .before in
+    let at-wide16 = at-wide162 .before in
+    let at-if6 = at-wide16 .before in
+    let at-mark2 = at-if6 .before in
+    let at-two2 = at-mark2 .before .before .before in
+    let at-two = at-two2 .before in
+    zone-on-ahead _ _ _ _ _ (at-wide16 .wide16 .ensures) (at-wide162 .wide162 .ensures)
+    (zone-ahead _ _ _ (omega (arith, length-drop at t)) (two-at t at 1 _ (at-two .two .ensures)) (two-at t at 4 _ (at-two2 .two2 .ensures)) (omega arith)
+    (omega arith) (omega (arith, at-if7 .if7 .left, at-wide16 .wide16 .ensures, at-wide162 .wide162 .ensures))
+    (mark-at t at 3 _ _ _ (not-false _ (at-if6 .if6 .left)) (at-mark2 .mark2 .ensures))
+    (subst (λ (x : Bool). Mark (drop at t) 43 x) (c .if8 .taken) (c .before .mark3 .ensures)))
 
 mark-requires-4 : tie.Need-mark-requires-4
 mark-requires-4 c κs = search needs
@@ -118,13 +129,30 @@ returns-9 : tie.Need-returns-9
 returns-9 c =
     let t = c .before .before .before .before .before .before .before .before .before .before .before .before .before .before .before .before .args .t .now in
     let at = c .before .before .before .before .before .before .before .before .before .before .before .before .before .before .before .before .args .at in
-    zone-on-behind _ _ _ _ _ (c .before .before .before .before .before .before .wide16 .ensures) (c .before .before .before .before .before .wide162 .ensures) (zone-behind _ _ _ (omega (arith, length-drop at t)) (two-at t at 1 _ (c .before .before .before .before .before .before .before .before .before .before .before .before .two .ensures)) (two-at t at 4 _ (c .before .before .before .before .before .before .before .before .before .before .before .two2 .ensures)) (omega arith) (omega arith) (omega (arith, c .before .before .before .before .if7 .left, c .before .before .before .before .before .before .wide16 .ensures, c .before .before .before .before .before .wide162 .ensures)) (mark-at t at 3 _ _ _ (not-false _ (c .before .before .before .before .before .before .before .if6 .left)) (c .before .before .before .before .before .before .before .before .mark2 .ensures)) (subst (λ (x : Bool). Mark (drop at t) 45 x) (c .if9 .taken) (c .before .mark4 .ensures)))
+    let at-if7 = c .before .before .before .before in
+    let at-wide162 = at-if7 .before in
+    let at-wide16 = at-wide162 .before in
+    let at-if6 = at-wide16 .before in
+    let at-mark2 = at-if6 .before in
+    let at-two2 = at-mark2 .before .before .before in
+    let at-two = at-two2 .before in
+    zone-on-behind _ _ _ _ _ (at-wide16 .wide16 .ensures) (at-wide162 .wide162 .ensures)
+    (zone-behind _ _ _ (omega (arith, length-drop at t)) (two-at t at 1 _ (at-two .two .ensures)) (two-at t at 4 _ (at-two2 .two2 .ensures)) (omega arith)
+    (omega arith) (omega (arith, at-if7 .if7 .left, at-wide16 .wide16 .ensures, at-wide162 .wide162 .ensures))
+    (mark-at t at 3 _ _ _ (not-false _ (at-if6 .if6 .left)) (at-mark2 .mark2 .ensures))
+    (subst (λ (x : Bool). Mark (drop at t) 45 x) (c .if9 .taken) (c .before .mark4 .ensures)))
 
 returns-10 : tie.Need-returns-10
 returns-10 c =
     let t = c .before .before .before .before .before .before .before .before .before .before .before .before .before .before .before .before .args .t .now in
     let at = c .before .before .before .before .before .before .before .before .before .before .before .before .before .before .before .before .args .at in
-    zone-off _ _ _ (omega (arith, length-drop at t)) (two-at t at 1 _ (c .before .before .before .before .before .before .before .before .before .before .before .before .two .ensures)) (two-at t at 4 _ (c .before .before .before .before .before .before .before .before .before .before .before .two2 .ensures)) (λ x y o p q m s. ⊎-elim (no-mark _ _ _ _ (c .before .before .before .mark3 .ensures) (c .before .before .if8 .left)) (no-mark _ _ _ _ (c .before .mark4 .ensures) (c .if9 .left)) s)
+    let at-if8 = c .before .before in
+    let at-mark3 = at-if8 .before in
+    let at-two2 = at-mark3 .before .before .before .before .before .before .before .before in
+    let at-two = at-two2 .before in
+    zone-off _ _ _ (omega (arith, length-drop at t)) (two-at t at 1 _ (at-two .two .ensures)) (two-at t at 4 _ (at-two2 .two2 .ensures))
+    (λ x y o p q m s. ⊎-elim (no-mark _ _ _ _ (at-mark3 .mark3 .ensures) (at-if8 .if8 .left)) (no-mark _ _ _ _ (c .before .mark4 .ensures) (c .if9 .left))
+    s)
 
 pub zone-spec : {M : Type 1} → statement M
 zone-spec =

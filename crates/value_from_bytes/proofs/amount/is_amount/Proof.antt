@@ -10,9 +10,9 @@ use lib.Dec.{eqb}
 use lib.ListN.{length, getD, take, drop, length-take}
 use borrow.Author.Tests.{le-leb, lt-leb, le-ltb, lt-ltb, ne-eqb, eq-eqb, not-true, not-false}
 use Rattle.text.specs.Numbers.{number}
-use Rattle.value_from_bytes.specs.Judges.{isCurrency, isAmount}
-use Rattle.value.proofs.Ones.{exactly-one}
-use Rattle.value_from_bytes.proofs.Codes.{currency-exactly}
+use Rattle.value_from_bytes.specs.mirror.Judges.{isCurrency, isAmount}
+use Rattle.value.proofs.types.Ones.{exactly-one}
+use Rattle.value_from_bytes.proofs.texts.Codes.{currency-exactly}
 
 returns : tie.Need-returns
 unfolding isAmount isCurrency

@@ -3,7 +3,7 @@ use borrow.Author.Needs.{needs}
 use Rattle.value_from_bytes.proofs.day.is_day.Statement.{statement}
 use Rattle.value_from_bytes.proofs.day.is_day.Tie as tie
 use mathlib.Core.Path.{_∙_}
-use Rattle.value_from_bytes.specs.Judges.{isDay}
+use Rattle.value_from_bytes.specs.mirror.Judges.{isDay}
 
 get16-requires : tie.Need-get16-requires
 get16-requires c κs = search needs

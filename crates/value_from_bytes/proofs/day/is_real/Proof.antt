@@ -8,7 +8,7 @@ use lib.Dec.{leb}
 use borrow.Author.Tests.{le-leb, lt-leb}
 use Rattle.text.proofs.Classes.{in-range}
 use Rattle.value.specs.Day.{isReal}
-use Rattle.value.proofs.Classes.{in-no}
+use Rattle.value.proofs.classes.Classes.{in-no}
 
 returns : tie.Need-returns
 unfolding isReal

@@ -2,10 +2,10 @@
 use borrow.Author.Needs.{needs}
 use Rattle.value_from_bytes.proofs.kinds.account_end.Statement.{statement}
 use Rattle.value_from_bytes.proofs.kinds.account_end.Tie as tie
-use Rattle.value.proofs.Ones.{exactly-one}
-use Rattle.value_from_bytes.proofs.Codes.{account-exactly}
+use Rattle.value.proofs.types.Ones.{exactly-one}
+use Rattle.value_from_bytes.proofs.texts.Codes.{account-exactly}
 use native.Mathlib.Omega.{arith}
-use Rattle.value_from_bytes.specs.Ends.{isValue}
+use Rattle.value_from_bytes.specs.mirror.Ends.{isValue}
 use Rattle.value_from_bytes.proofs.Placing.{text-cut, text-no, text-yes}
 
 span-requires : tie.Need-span-requires

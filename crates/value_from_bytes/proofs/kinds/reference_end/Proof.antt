@@ -3,7 +3,7 @@ use borrow.Author.Needs.{needs}
 use Rattle.value_from_bytes.proofs.kinds.reference_end.Statement.{statement}
 use Rattle.value_from_bytes.proofs.kinds.reference_end.Tie as tie
 use native.Mathlib.Omega.{arith}
-use Rattle.value_from_bytes.specs.Ends.{isValue}
+use Rattle.value_from_bytes.specs.mirror.Ends.{isValue}
 use Rattle.value_from_bytes.proofs.Placing.{text-cut, text-no, text-yes}
 
 span-requires : tie.Need-span-requires

@@ -4,7 +4,7 @@ use Rattle.value_from_bytes.proofs.kinds.truth_end.Statement.{statement
 use Rattle.value_from_bytes.proofs.kinds.truth_end.Tie as tie
 use mathlib.Core.Path.{refl}
 use native.Mathlib.Omega.{arith}
-use Rattle.value_from_bytes.specs.Ends.{head, width, isValue}
+use Rattle.value_from_bytes.specs.mirror.Ends.{head, width, isValue}
 use Rattle.value_from_bytes.proofs.Placing.{end-short, fixed-no, fixed-yes}
 
 sub-if1 : tie.Need-sub-if1

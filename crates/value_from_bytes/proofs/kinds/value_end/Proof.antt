@@ -2,7 +2,7 @@
 use borrow.Author.Needs.{needs}
 use Rattle.value_from_bytes.proofs.kinds.value_end.Statement.{statement}
 use Rattle.value_from_bytes.proofs.kinds.value_end.Tie as tie
-use Rattle.value_from_bytes.specs.Ends.{isValue, begins, valueEnd}
+use Rattle.value_from_bytes.specs.mirror.Ends.{isValue, begins, valueEnd}
 use mathlib.Core.Path.{sym}
 use Rattle.value_from_bytes.proofs.Numbered.{other-value}
 use Rattle.value_from_bytes.proofs.Placing.{end-past, end-at, end-none}

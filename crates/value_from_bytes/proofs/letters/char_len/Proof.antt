@@ -2,7 +2,7 @@
 use borrow.Author.Needs.{needs}
 use Rattle.value_from_bytes.proofs.letters.char_len.Statement.{statement}
 use Rattle.value_from_bytes.proofs.letters.char_len.Tie as tie
-use Rattle.value_from_bytes.proofs.Writings.{len-some, len-none}
+use Rattle.value_from_bytes.proofs.texts.Writings.{len-some, len-none}
 
 decode-requires : tie.Need-decode-requires
 decode-requires c κs = search needs

@@ -7,7 +7,7 @@ use lib.ListN.{length, drop}
 use borrow.Author.Needs.{needs}
 use borrow.Author.Tests.{eq-eqb, ne-eqb}
 use Rattle.value.specs.Text.{notSpace}
-use Rattle.value_from_bytes.specs.Tests.{some}
+use Rattle.value_from_bytes.specs.mirror.Tests.{some}
 use Rattle.value_from_bytes.proofs.Listed.{some-end, some-stop, some-go}
 
 abbrev Inv-loop : tie.InvT-loop

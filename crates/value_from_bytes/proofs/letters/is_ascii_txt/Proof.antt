@@ -5,7 +5,7 @@ use mathlib.Core.Path.{refl}
 use mathlib.Core.List.{[], _∷_}
 use native.Mathlib.Omega.{arith}
 use Rattle.text.proofs.Classes.{no-key, no, yes-but}
-use Rattle.value_from_bytes.proofs.Classes.{ascii-writing}
+use Rattle.value_from_bytes.proofs.texts.Classes.{ascii-writing}
 
 returns : tie.Need-returns
 returns c =

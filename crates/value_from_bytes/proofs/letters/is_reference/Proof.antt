@@ -8,8 +8,8 @@ use lib.Dec.{leb}
 use lib.ListN.{length}
 use borrow.Author.Tests.{le-leb, lt-leb, not-true, not-false}
 use Rattle.value.specs.Text.{isRef}
-use Rattle.value_from_bytes.specs.Tests.{every}
-use Rattle.value_from_bytes.specs.Judges.{isReference}
+use Rattle.value_from_bytes.specs.mirror.Tests.{every}
+use Rattle.value_from_bytes.specs.mirror.Judges.{isReference}
 
 returns : tie.Need-returns
 unfolding isReference

@@ -5,7 +5,7 @@ use mathlib.Core.Path.{refl}
 use mathlib.Core.List.{[], _∷_}
 use native.Mathlib.Omega.{arith}
 use Rattle.text.proofs.Classes.{no-key, no, yes-key, yes-but}
-use Rattle.value_from_bytes.proofs.Classes.{word}
+use Rattle.value_from_bytes.proofs.texts.Classes.{word}
 
 returns : tie.Need-returns
 returns c =

@@ -7,8 +7,8 @@ use Prim.Native.Nat.{_-_}
 use lib.ListN.{length, drop}
 use borrow.Author.Needs.{needs}
 use Rattle.value.specs.Text.{isRef}
-use Rattle.value_from_bytes.specs.Tests.{every, apart}
-use Rattle.value_from_bytes.proofs.Slashes.{spaced-end, spaced-word, spaced-bad, spaced-slash, spaced-twice}
+use Rattle.value_from_bytes.specs.mirror.Tests.{every, apart}
+use Rattle.value_from_bytes.proofs.texts.Slashes.{spaced-end, spaced-word, spaced-bad, spaced-slash, spaced-twice}
 
 abbrev Inv-loop : tie.InvT-loop
 Inv-loop b i₀ slash₀ i slash = (every isRef (drop i b) && apart slash (drop i b)) ≡ (every isRef b && apart true b)

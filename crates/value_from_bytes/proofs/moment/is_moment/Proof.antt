@@ -9,7 +9,7 @@ use lib.Dec.{leb}
 use lib.ListN.{getD, take, drop}
 use borrow.Author.Tests.{le-leb, lt-leb, le-ltb, lt-ltb, not-true, not-false}
 use Rattle.text.specs.Numbers.{number}
-use Rattle.value_from_bytes.specs.Judges.{isMoment}
+use Rattle.value_from_bytes.specs.mirror.Judges.{isMoment}
 
 is-day-requires : tie.Need-is-day-requires
 is-day-requires c κs = search needs

@@ -5,7 +5,7 @@ use Rattle.value_from_bytes.proofs.plain.is_natural.Tie as tie
 use mathlib.Core.Path.{ap}
 use Prim.Native.Nat.{ℕ, _^_}
 use lib.Dec.{ltb}
-use Rattle.value_from_bytes.specs.Judges.{isNatural}
+use Rattle.value_from_bytes.specs.mirror.Judges.{isNatural}
 
 get64-requires : tie.Need-get64-requires
 get64-requires c κs = search needs

@@ -8,7 +8,7 @@ use native.Mathlib.Omega.{arith}
 use lib.Dec.{leb}
 use lib.ListN.{getD}
 use borrow.Author.Tests.{le-leb, lt-leb}
-use Rattle.value_from_bytes.specs.Judges.{isPlace}
+use Rattle.value_from_bytes.specs.mirror.Judges.{isPlace}
 
 byte-requires : tie.Need-byte-requires
 byte-requires c κs = search needs

@@ -5,7 +5,7 @@ use Rattle.value_from_bytes.proofs.plain.is_truth.Tie as tie
 use mathlib.Core.Path.{ap}
 use Prim.Native.Nat.{ℕ}
 use lib.Dec.{leb}
-use Rattle.value_from_bytes.specs.Judges.{isTruth}
+use Rattle.value_from_bytes.specs.mirror.Judges.{isTruth}
 
 byte-requires : tie.Need-byte-requires
 byte-requires c κs = search needs

@@ -1,7 +1,7 @@
 -- `check::check` meets its contract. Assumes nothing.
 use mathlib.Core.Path.{refl}
 use native.Mathlib.Omega.{arith}
-use Rattle.value.proofs.Rights.{checked-by, checked-none, right-ref, right-txt-of, right-iban, right-ccy, right-bool, right-num, right-amt, right-date, right-dtm}
+use Rattle.value.proofs.types.Rights.{checked-by, checked-none, right-ref, right-txt-of, right-iban, right-ccy, right-bool, right-num, right-amt, right-date, right-dtm}
 use borrow.Author.Needs.{needs}
 use Rattle.value_from_text.proofs.check.check.Statement.{statement}
 use Rattle.value_from_text.proofs.check.check.Tie as tie

@@ -5,7 +5,7 @@ use lib.ListN.{length, drop}
 use borrow.Author.Needs.{needs}
 use Rattle.text.proofs.Spans.{span-over}
 use Rattle.text.specs.Lists.{span}
-use Rattle.value_to_bytes.specs.Runs.{isOwn}
+use Rattle.value_to_bytes.specs.mirror.Runs.{isOwn}
 use Rattle.value_to_bytes.proofs.Running.{run-found, run-again}
 use Rattle.value_to_bytes.proofs.chars.run_end.Statement.{statement}
 use Rattle.value_to_bytes.proofs.chars.run_end.Tie as tie

@@ -5,7 +5,7 @@ use native.Mathlib.Omega.{arith}
 use lib.ListN.{length}
 use borrow.Author.Needs.{needs}
 use Rattle.text.specs.Digits.{inDigits, pointed}
-use Rattle.value_to_text.specs.Stored.{rawText}
+use Rattle.value_to_text.specs.mirror.Stored.{rawText}
 use Rattle.value_to_text.proofs.Writing.{wrote-as, wrote-none, by-key, by-text, by-none}
 use Rattle.value_to_text.proofs.put.put.Statement.{statement}
 use Rattle.value_to_text.proofs.put.put.Tie as tie

@@ -5,7 +5,7 @@ use Rattle.xml_pieces.proofs.piece.behind_a.Tie as tie
 use mathlib.Core.Path.{refl, ap}
 use mathlib.Core.List.{[], _∷_}
 use borrow.Author.Tests.{ne-eqb}
-use Rattle.xml.specs.Auto.{ampersandA, go-on}
+use Rattle.xml.specs.mirror.Auto.{ampersandA, go-on}
 use Rattle.xml_pieces.proofs.Pieces.{part-cut, part-word, part-dead}
 
 returns : tie.Need-returns

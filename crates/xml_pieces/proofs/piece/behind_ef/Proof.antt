@@ -4,7 +4,7 @@ use Rattle.xml_pieces.proofs.piece.behind_ef.Statement.{statement}
 use Rattle.xml_pieces.proofs.piece.behind_ef.Tie as tie
 use mathlib.Core.Path.{refl, ap}
 use borrow.Author.Tests.{ne-eqb}
-use Rattle.xml.specs.Auto.{ef, efbf, go-on}
+use Rattle.xml.specs.mirror.Auto.{ef, efbf, go-on}
 use Rattle.xml_pieces.proofs.Pieces.{part-cut, part-then, as-one}
 
 returns : tie.Need-returns

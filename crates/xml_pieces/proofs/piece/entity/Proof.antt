@@ -4,7 +4,7 @@ use Rattle.xml_pieces.proofs.piece.entity.Statement.{statement}
 use Rattle.xml_pieces.proofs.piece.entity.Tie as tie
 use mathlib.Core.Path.{ap}
 use mathlib.Core.List.{[], _∷_}
-use Rattle.xml.specs.Auto.{ampersand, ampersandA, go-on}
+use Rattle.xml.specs.mirror.Auto.{ampersand, ampersandA, go-on}
 use Rattle.xml_pieces.proofs.Pieces.{part-cut, part-then, part-word, part-dead, angle, no-entity}
 
 returns : tie.Need-returns

@@ -4,7 +4,7 @@ use Rattle.xml_pieces.proofs.piece.long.Statement.{statement}
 use Rattle.xml_pieces.proofs.piece.long.Tie as tie
 use mathlib.Core.Path.{refl}
 use native.Mathlib.Omega.{arith}
-use Rattle.xml.specs.Auto.{one, ef, lead, go-on}
+use Rattle.xml.specs.mirror.Auto.{one, ef, lead, go-on}
 use Rattle.xml_pieces.proofs.Pieces.{part-dead, part-then, piece-two, piece-three, as-one, lead-is, lead-low, lead-one, lead-ef, lead-high, of-three, of-four}
 
 shared-slice-read-x : tie.Need-shared-slice-read-x

@@ -4,7 +4,7 @@ use Rattle.xml_pieces.proofs.piece.piece.Statement.{statement}
 use Rattle.xml_pieces.proofs.piece.piece.Tie as tie
 use mathlib.Core.Path.{sym, _∙_}
 use native.Mathlib.Omega.{arith}
-use Rattle.xml.specs.Auto.{ampersand, lead}
+use Rattle.xml.specs.mirror.Auto.{ampersand, lead}
 use Rattle.xml_pieces.proofs.Pieces.{is-piece, part-cut, part-dead, part-last, part-then, lead-is, lead-ampersand, lead-less, lead-char, lead-blank, lead-control}
 
 returns : tie.Need-returns

@@ -44,11 +44,25 @@ value-requires c κs =
 returns-4 : tie.Need-returns-4
 returns-4 c =
     let m = a-mark _ (c .before .match .keys1) in
-    quoted _ _ _ (c .before .before .before .before .before .before .before .before .blanks-end .ensures) (c .before .before .before .before .before .before .before .before .before .before .pre) (c .before .before .before .before .before .before .before .if1 .left) (c .before .before .before .before .before .if2 .left) _ (c .before .before .before .before .blanks-end2 .ensures) (c .before .before .before .if3 .left) (m .quote) (c .value .result) (sym (m .is)) (c .value .ensures)
+    let at-if3 = c .before .before .before in
+    let at-blanks-end2 = at-if3 .before in
+    let at-if2 = at-blanks-end2 .before in
+    let at-if1 = at-if2 .before .before in
+    let at-blanks-end = at-if1 .before in
+    let start = at-blanks-end .before .before in
+    quoted _ _ _ (at-blanks-end .blanks-end .ensures) (start .pre) (at-if1 .if1 .left) (at-if2 .if2 .left) _ (at-blanks-end2 .blanks-end2 .ensures)
+    (at-if3 .if3 .left) (m .quote) (c .value .result) (sym (m .is)) (c .value .ensures)
 
 returns-5 : tie.Need-returns-5
 returns-5 c =
-    quote-other _ _ _ (c .before .before .before .before .before .before .before .blanks-end .ensures) (c .before .before .before .before .before .before .before .before .before .pre) (c .before .before .before .before .before .before .if1 .left) (c .before .before .before .before .if2 .left) _ (c .before .before .before .blanks-end2 .ensures) (c .before .before .if3 .left) (λ e. c .match .rest .1 (inr e)) (λ e. c .match .rest .1 (inl e))
+    let at-if3 = c .before .before in
+    let at-blanks-end2 = at-if3 .before in
+    let at-if2 = at-blanks-end2 .before in
+    let at-if1 = at-if2 .before .before in
+    let at-blanks-end = at-if1 .before in
+    let start = at-blanks-end .before .before in
+    quote-other _ _ _ (at-blanks-end .blanks-end .ensures) (start .pre) (at-if1 .if1 .left) (at-if2 .if2 .left) _ (at-blanks-end2 .blanks-end2 .ensures)
+    (at-if3 .if3 .left) (λ e. c .match .rest .1 (inr e)) (λ e. c .match .rest .1 (inl e))
 
 pub equals-spec : {M : Type 1} → statement M
 equals-spec =

@@ -38,7 +38,13 @@ enum-known-n c =
 
 returns-2 : tie.Need-returns-2 Inv-loop μ-loop
 returns-2 c =
-    value-stop _ _ _ _ (c .before .before .before .before .before .before .before .before .before .pre .1) (c .before .before .before .before .before .before .before .loop .inv) (c .before .before .before .before .before .before .loop-test .taken) (c .before .before .before .before .if1 .left) (c .before .before .before .piece .result) (c .before .before .before .piece .ensures) _ (c .before .n .given .1)
+    let at-piece = c .before .before .before in
+    let at-if1 = at-piece .before in
+    let at-loop-test = at-if1 .before .before in
+    let at-loop = at-loop-test .before in
+    let start = at-loop .before .before in
+    value-stop _ _ _ _ (start .pre .1) (at-loop .loop .inv) (at-loop-test .loop-test .taken) (at-if1 .if1 .left) (at-piece .piece .result)
+    (at-piece .piece .ensures) _ (c .before .n .given .1)
 
 enum-known-j : tie.Need-enum-known-j Inv-loop μ-loop
 enum-known-j c =
@@ -46,12 +52,24 @@ enum-known-j c =
 
 loop-less : tie.Need-loop-less Inv-loop μ-loop
 loop-less c =
-    let w = piece-on _ _ _ _ (c .before .before .before .before .before .before .before .before .before .pre .1) (c .before .before .before .before .before .before .before .loop .inv) (c .before .before .before .before .before .before .loop-test .taken) (c .before .before .before .before .if1 .left) (c .before .before .before .piece .result) (c .before .before .before .piece .ensures) _ (c .before .j .given .1) in
+    let at-piece = c .before .before .before in
+    let at-if1 = at-piece .before in
+    let at-loop-test = at-if1 .before .before in
+    let at-loop = at-loop-test .before in
+    let start = at-loop .before .before in
+    let w = piece-on _ _ _ _ (start .pre .1) (at-loop .loop .inv) (at-loop-test .loop-test .taken) (at-if1 .if1 .left) (at-piece .piece .result)
+    (at-piece .piece .ensures) _ (c .before .j .given .1) in
     omega (arith, w .0, w .1)
 
 loop-again : tie.Need-loop-again Inv-loop μ-loop
 loop-again c =
-    valuing-on _ _ _ _ (c .before .before .before .before .before .before .before .before .before .pre .1) (c .before .before .before .before .before .before .before .loop .inv) (c .before .before .before .before .before .before .loop-test .taken) (c .before .before .before .before .if1 .left) (c .before .before .before .piece .result) (c .before .before .before .piece .ensures) _ (c .before .j .given .1)
+    let at-piece = c .before .before .before in
+    let at-if1 = at-piece .before in
+    let at-loop-test = at-if1 .before .before in
+    let at-loop = at-loop-test .before in
+    let start = at-loop .before .before in
+    valuing-on _ _ _ _ (start .pre .1) (at-loop .loop .inv) (at-loop-test .loop-test .taken) (at-if1 .if1 .left) (at-piece .piece .result)
+    (at-piece .piece .ensures) _ (c .before .j .given .1)
 
 returns-3 : tie.Need-returns-3 Inv-loop μ-loop
 returns-3 c =

@@ -47,7 +47,13 @@ enum-known-over c =
 
 returns-3 : tie.Need-returns-3 Inv-loop μ-loop
 returns-3 c =
-    text-stop _ _ _ (texting-run _ _ _ (c .before .before .before .before .before .before .before .before .loop .inv) _ (run-is _ (c .before .before .before .before .before .before .before .before .before .before .pre .1) 0 (c .before .before .before .before .before .before .before .before .before .before .args .s .now) (c .before .before .before .before .before .before .before .before .loop .i) _ (c .before .before .before .before .before .before .before .run-end .ensures))) (c .before .before .before .other .result) (c .before .before .before .other .ensures) _ (c .before .over .given .1)
+    let at-other = c .before .before .before in
+    let at-run-end = at-other .before .before .before .before in
+    let at-loop = at-run-end .before in
+    let start = at-loop .before .before in
+    text-stop _ _ _
+    (texting-run _ _ _ (at-loop .loop .inv) _ (run-is _ (start .pre .1) 0 (start .args .s .now) (at-loop .loop .i) _ (at-run-end .run-end .ensures)))
+    (at-other .other .result) (at-other .other .ensures) _ (c .before .over .given .1)
 
 enum-known-over-2 : tie.Need-enum-known-over-2 Inv-loop μ-loop
 enum-known-over-2 c =
@@ -55,12 +61,24 @@ enum-known-over-2 c =
 
 loop-less : tie.Need-loop-less Inv-loop μ-loop
 loop-less c =
-    let w = other-on _ _ _ (texting-run _ _ _ (c .before .before .before .before .before .before .before .before .loop .inv) _ (run-is _ (c .before .before .before .before .before .before .before .before .before .before .pre .1) 0 (c .before .before .before .before .before .before .before .before .before .before .args .s .now) (c .before .before .before .before .before .before .before .before .loop .i) _ (c .before .before .before .before .before .before .before .run-end .ensures))) (c .before .before .before .other .result) (c .before .before .before .other .ensures) _ (c .before .over2 .given .1) in
+    let at-other = c .before .before .before in
+    let at-run-end = at-other .before .before .before .before in
+    let at-loop = at-run-end .before in
+    let start = at-loop .before .before in
+    let w = other-on _ _ _
+    (texting-run _ _ _ (at-loop .loop .inv) _ (run-is _ (start .pre .1) 0 (start .args .s .now) (at-loop .loop .i) _ (at-run-end .run-end .ensures)))
+    (at-other .other .result) (at-other .other .ensures) _ (c .before .over2 .given .1) in
     omega (arith, w .0, w .1, c .before .before .before .before .before .before .before .run-end .ensures)
 
 loop-again : tie.Need-loop-again Inv-loop μ-loop
 loop-again c =
-    texting-on _ _ _ (texting-run _ _ _ (c .before .before .before .before .before .before .before .before .loop .inv) _ (run-is _ (c .before .before .before .before .before .before .before .before .before .before .pre .1) 0 (c .before .before .before .before .before .before .before .before .before .before .args .s .now) (c .before .before .before .before .before .before .before .before .loop .i) _ (c .before .before .before .before .before .before .before .run-end .ensures))) (c .before .before .before .other .result) (c .before .before .before .other .ensures) _ (c .before .over2 .given .1)
+    let at-other = c .before .before .before in
+    let at-run-end = at-other .before .before .before .before in
+    let at-loop = at-run-end .before in
+    let start = at-loop .before .before in
+    texting-on _ _ _
+    (texting-run _ _ _ (at-loop .loop .inv) _ (run-is _ (start .pre .1) 0 (start .args .s .now) (at-loop .loop .i) _ (at-run-end .run-end .ensures)))
+    (at-other .other .result) (at-other .other .ensures) _ (c .before .over2 .given .1)
 
 pub text-end-spec : {M : Type 1} → statement M
 text-end-spec =

@@ -61,11 +61,21 @@ enum-known-e c = search needs
 
 returns-3 : tie.Need-returns-3
 returns-3 c =
-    any-stop _ _ _ _ _ (c .before .before .before .before .before .before .before .before .before .if1 .left) (c .before .before .before .before .before .before .before .before .before .before .before .pre .0) (c .before .before .before .before .before .before .before .if2 .left) (c .before .before .before .before .before .before .before .before .before .before .before .pre .1 .held) (c .before .before .before .end-tag .result) (c .before .before .before .end-tag .ensures) _ (c .before .p .given .1)
+    let at-end-tag = c .before .before .before in
+    let at-if2 = at-end-tag .before .before .before .before in
+    let at-if1 = at-if2 .before .before in
+    let start = at-if1 .before .before in
+    any-stop _ _ _ _ _ (at-if1 .if1 .left) (start .pre .0) (at-if2 .if2 .left) (start .pre .1 .held) (at-end-tag .end-tag .result)
+    (at-end-tag .end-tag .ensures) _ (c .before .p .given .1)
 
 returns-4 : tie.Need-returns-4
 returns-4 c =
-    any-close _ _ _ _ _ (c .before .before .before .before .before .before .before .before .before .if1 .left) (c .before .before .before .before .before .before .before .before .before .before .before .pre .0) (c .before .before .before .before .before .before .before .if2 .left) (c .before .before .before .before .before .before .before .before .before .before .before .pre .1 .held) (c .before .before .before .end-tag .result) (c .before .before .before .end-tag .ensures) _ (c .before .e .given .1)
+    let at-end-tag = c .before .before .before in
+    let at-if2 = at-end-tag .before .before .before .before in
+    let at-if1 = at-if2 .before .before in
+    let start = at-if1 .before .before in
+    any-close _ _ _ _ _ (at-if1 .if1 .left) (start .pre .0) (at-if2 .if2 .left) (start .pre .1 .held) (at-end-tag .end-tag .result)
+    (at-end-tag .end-tag .ensures) _ (c .before .e .given .1)
 
 pub any-tag-spec : {M : Type 1} → statement M
 any-tag-spec =

@@ -4,8 +4,8 @@ use Rattle.xml_scan.proofs.elements.elements.Tie as tie
 use mathlib.Core.Path.{refl}
 use native.Mathlib.Omega.{arith}
 use borrow.Author.Needs.{needs}
-use Rattle.xml.specs.Auto.{root}
-use Rattle.xml_scan.specs.Tags.{Steps}
+use Rattle.xml.specs.mirror.Auto.{root}
+use Rattle.xml_scan.specs.mirror.Tags.{Steps}
 use Rattle.xml_scan.proofs.Names.{held-none}
 use Rattle.xml_scan.proofs.Nesting.{root-opens, ahead, steps-halt, steps-nested, steps-done, steps-then, steps-less}
 

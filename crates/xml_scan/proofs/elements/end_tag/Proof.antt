@@ -21,14 +21,23 @@ add-t14 c = search needs
 
 returns : tie.Need-returns
 returns c =
-    close-now (c .before .before .before .before .before .before .before .before .before .args .s .now) (c .before .before .before .before .before .before .before .before .before .args .at) (c .before .before .before .before .before .before .before .before .before .args .w .now) (c .before .before .before .before .before .before .before .before .before .pre) (c .before .before .before .before .before .before .word .result) (c .before .before .before .before .before .before .word .ensures) _ (c .before .before .before .before .e .given .1) (c .before .before .if1 .taken) (c .if2 .taken)
+    let at-if1 = c .before .before in
+    let at-e = at-if1 .before .before in
+    let at-word = at-e .before .before in
+    let start = at-word .before .before .before in
+    close-now (start .args .s .now) (start .args .at) (start .args .w .now) (start .pre) (at-word .word .result) (at-word .word .ensures) _
+    (at-e .e .given .1) (at-if1 .if1 .taken) (c .if2 .taken)
 
 blanks-end-requires : tie.Need-blanks-end-requires
 blanks-end-requires c κs = search needs
 
 returns-2 : tie.Need-returns-2
 returns-2 c =
-    close-cut (c .before .before .before .before .before .before .before .before .before .args .s .now) (c .before .before .before .before .before .before .before .before .before .args .at) (c .before .before .before .before .before .before .before .before .before .args .w .now) (c .before .before .before .before .before .before .before .before .before .pre) (c .before .before .before .before .before .before .word .result) (c .before .before .before .before .before .before .word .ensures) _ (c .before .before .before .before .e .given .1) _ (c .before .blanks-end .ensures) (c .if3 .taken)
+    let at-e = c .before .before .before .before in
+    let at-word = at-e .before .before in
+    let start = at-word .before .before .before in
+    close-cut (start .args .s .now) (start .args .at) (start .args .w .now) (start .pre) (at-word .word .result) (at-word .word .ensures) _
+    (at-e .e .given .1) _ (c .before .blanks-end .ensures) (c .if3 .taken)
 
 shared-slice-read-if4 : tie.Need-shared-slice-read-if4
 shared-slice-read-if4 c = search needs
@@ -38,7 +47,13 @@ add-t17 c = search needs
 
 returns-3 : tie.Need-returns-3
 returns-3 c =
-    close-end (c .before .before .before .before .before .before .before .before .before .before .before .args .s .now) (c .before .before .before .before .before .before .before .before .before .before .before .args .at) (c .before .before .before .before .before .before .before .before .before .before .before .args .w .now) (c .before .before .before .before .before .before .before .before .before .before .before .pre) (c .before .before .before .before .before .before .before .before .word .result) (c .before .before .before .before .before .before .before .before .word .ensures) _ (c .before .before .before .before .before .before .e .given .1) _ (c .before .before .before .blanks-end .ensures) (c .before .before .if3 .left) (c .if4 .taken)
+    let at-if3 = c .before .before in
+    let at-blanks-end = at-if3 .before in
+    let at-e = at-blanks-end .before .before .before in
+    let at-word = at-e .before .before in
+    let start = at-word .before .before .before in
+    close-end (start .args .s .now) (start .args .at) (start .args .w .now) (start .pre) (at-word .word .result) (at-word .word .ensures) _
+    (at-e .e .given .1) _ (at-blanks-end .blanks-end .ensures) (at-if3 .if3 .left) (c .if4 .taken)
 
 returns-4 : tie.Need-returns-4
 returns-4 c =
@@ -46,7 +61,13 @@ returns-4 c =
 
 returns-5 : tie.Need-returns-5
 returns-5 c =
-    close-other (c .before .before .before .before .before .before .before .before .before .before .before .args .s .now) (c .before .before .before .before .before .before .before .before .before .before .before .args .at) (c .before .before .before .before .before .before .before .before .before .before .before .args .w .now) (c .before .before .before .before .before .before .before .before .before .before .before .pre) (c .before .before .before .before .before .before .before .before .word .result) (c .before .before .before .before .before .before .before .before .word .ensures) _ (c .before .before .before .before .before .before .e .given .1) _ (c .before .before .before .blanks-end .ensures) (c .before .before .if3 .left) (c .if4 .left)
+    let at-if3 = c .before .before in
+    let at-blanks-end = at-if3 .before in
+    let at-e = at-blanks-end .before .before .before in
+    let at-word = at-e .before .before in
+    let start = at-word .before .before .before in
+    close-other (start .args .s .now) (start .args .at) (start .args .w .now) (start .pre) (at-word .word .result) (at-word .word .ensures) _
+    (at-e .e .given .1) _ (at-blanks-end .blanks-end .ensures) (at-if3 .if3 .left) (c .if4 .left)
 
 pub end-tag-spec : {M : Type 1} → statement M
 end-tag-spec =

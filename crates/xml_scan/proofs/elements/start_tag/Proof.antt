@@ -35,7 +35,13 @@ run-end-requires c κs = search needs
 
 tag-rest-requires : tie.Need-tag-rest-requires
 tag-rest-requires c κs =
-    (name-within _ _ _ _ _ (c .before .before .before .before .before .if1 .left) (sym (c .before .before .before .is-name-start .ensures) ∙ not-false _ (c .before .before .if2 .left)) (c .before .before .before .before .before .before .before .pre .held) (omega arith) _ (run-is _ (c .before .before .before .before .before .before .before .pre .classed) 1 (c .before .before .before .before .before .before .before .args .s .now) (c .before .before .before .before .before .before .before .args .at + 1) _ (c .run-end .ensures)), c .before .before .before .before .before .before .before .pre .classed)
+    let at-if2 = c .before .before in
+    let at-is-name-start = at-if2 .before in
+    let at-if1 = at-is-name-start .before .before in
+    let start = at-if1 .before .before in (
+      name-within _ _ _ _ _ (at-if1 .if1 .left) (sym (at-is-name-start .is-name-start .ensures) ∙ not-false _ (at-if2 .if2 .left)) (start .pre .held) (omega arith) _ (run-is _ (start .pre .classed) 1 (start .args .s .now) (start .args .at + 1) _ (c .run-end .ensures)),
+      start .pre .classed,
+    )
 
 enum-known-p : tie.Need-enum-known-p
 enum-known-p c = search needs
@@ -63,18 +69,39 @@ add-t18 c = search needs
 
 returns-4 : tie.Need-returns-4
 returns-4 c =
-    start-stop _ _ _ _ _ (c .before .before .before .before .before .before .before .before .before .if1 .left) (sym (c .before .before .before .before .before .before .before .is-name-start .ensures) ∙ not-false _ (c .before .before .before .before .before .before .if2 .left)) (c .before .before .before .before .before .before .before .before .before .before .before .pre .held) (omega arith) _ (run-is _ (c .before .before .before .before .before .before .before .before .before .before .before .pre .classed) 1 (c .before .before .before .before .before .before .before .before .before .before .before .args .s .now) (c .before .before .before .before .before .before .before .before .before .before .before .args .at + 1) _ (c .before .before .before .before .run-end .ensures))
-    (c .before .before .before .tag-rest .result) (c .before .before .before .tag-rest .ensures) _ (c .before .p .given .1)
+    let at-tag-rest = c .before .before .before in
+    let at-run-end = at-tag-rest .before in
+    let at-if2 = at-run-end .before .before in
+    let at-is-name-start = at-if2 .before in
+    let at-if1 = at-is-name-start .before .before in
+    let start = at-if1 .before .before in
+    start-stop _ _ _ _ _ (at-if1 .if1 .left) (sym (at-is-name-start .is-name-start .ensures) ∙ not-false _ (at-if2 .if2 .left)) (start .pre .held)
+    (omega arith) _ (run-is _ (start .pre .classed) 1 (start .args .s .now) (start .args .at + 1) _ (at-run-end .run-end .ensures))
+    (at-tag-rest .tag-rest .result) (at-tag-rest .tag-rest .ensures) _ (c .before .p .given .1)
 
 returns-5 : tie.Need-returns-5
 returns-5 c =
-    start-empty _ _ _ _ _ (c .before .before .before .before .before .before .before .before .before .if1 .left) (sym (c .before .before .before .before .before .before .before .is-name-start .ensures) ∙ not-false _ (c .before .before .before .before .before .before .if2 .left)) (c .before .before .before .before .before .before .before .before .before .before .before .pre .held) (omega arith) _ (run-is _ (c .before .before .before .before .before .before .before .before .before .before .before .pre .classed) 1 (c .before .before .before .before .before .before .before .before .before .before .before .args .s .now) (c .before .before .before .before .before .before .before .before .before .before .before .args .at + 1) _ (c .before .before .before .before .run-end .ensures))
-    (c .before .before .before .tag-rest .result) (c .before .before .before .tag-rest .ensures) _ (c .before .i .given .1)
+    let at-tag-rest = c .before .before .before in
+    let at-run-end = at-tag-rest .before in
+    let at-if2 = at-run-end .before .before in
+    let at-is-name-start = at-if2 .before in
+    let at-if1 = at-is-name-start .before .before in
+    let start = at-if1 .before .before in
+    start-empty _ _ _ _ _ (at-if1 .if1 .left) (sym (at-is-name-start .is-name-start .ensures) ∙ not-false _ (at-if2 .if2 .left)) (start .pre .held)
+    (omega arith) _ (run-is _ (start .pre .classed) 1 (start .args .s .now) (start .args .at + 1) _ (at-run-end .run-end .ensures))
+    (at-tag-rest .tag-rest .result) (at-tag-rest .tag-rest .ensures) _ (c .before .i .given .1)
 
 returns-6 : tie.Need-returns-6
 returns-6 c =
-    start-open _ _ _ _ _ (c .before .before .before .before .before .before .before .before .before .if1 .left) (sym (c .before .before .before .before .before .before .before .is-name-start .ensures) ∙ not-false _ (c .before .before .before .before .before .before .if2 .left)) (c .before .before .before .before .before .before .before .before .before .before .before .pre .held) (omega arith) _ (run-is _ (c .before .before .before .before .before .before .before .before .before .before .before .pre .classed) 1 (c .before .before .before .before .before .before .before .before .before .before .before .args .s .now) (c .before .before .before .before .before .before .before .before .before .before .before .args .at + 1) _ (c .before .before .before .before .run-end .ensures))
-    (c .before .before .before .tag-rest .result) (c .before .before .before .tag-rest .ensures) _ (c .before .i2 .given .1)
+    let at-tag-rest = c .before .before .before in
+    let at-run-end = at-tag-rest .before in
+    let at-if2 = at-run-end .before .before in
+    let at-is-name-start = at-if2 .before in
+    let at-if1 = at-is-name-start .before .before in
+    let start = at-if1 .before .before in
+    start-open _ _ _ _ _ (at-if1 .if1 .left) (sym (at-is-name-start .is-name-start .ensures) ∙ not-false _ (at-if2 .if2 .left)) (start .pre .held)
+    (omega arith) _ (run-is _ (start .pre .classed) 1 (start .args .s .now) (start .args .at + 1) _ (at-run-end .run-end .ensures))
+    (at-tag-rest .tag-rest .result) (at-tag-rest .tag-rest .ensures) _ (c .before .i2 .given .1)
 
 pub start-tag-spec : {M : Type 1} → statement M
 start-tag-spec =

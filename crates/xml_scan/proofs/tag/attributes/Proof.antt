@@ -59,7 +59,12 @@ enum-known-p c =
 
 returns-4 : tie.Need-returns-4 Inv-loop μ-loop
 returns-4 c =
-    tag-stop _ _ _ _ _ _ (c .before .before .before .before .before .before .before .before .before .before .before .before .loop .inv) _ (c .before .before .before .before .before .before .before .before .before .before .before .blanks-end .ensures) (c .before .before .before .before .before .before .if3 .left) _ _ (c .before .before .before .attribute .result) (c .before .before .before .attribute .ensures) _ (c .before .p .given .1)
+    let at-attribute = c .before .before .before in
+    let at-if3 = at-attribute .before .before .before in
+    let at-blanks-end = at-if3 .before .before .before .before .before in
+    let at-loop = at-blanks-end .before in
+    tag-stop _ _ _ _ _ _ (at-loop .loop .inv) _ (at-blanks-end .blanks-end .ensures) (at-if3 .if3 .left) _ _ (at-attribute .attribute .result)
+    (at-attribute .attribute .ensures) _ (c .before .p .given .1)
 
 enum-known-j : tie.Need-enum-known-j Inv-loop μ-loop
 enum-known-j c =
@@ -71,11 +76,21 @@ add-n c =
 
 loop-less : tie.Need-loop-less Inv-loop μ-loop
 loop-less c =
-    attributing-less _ _ _ _ _ _ (c .before .before .before .before .before .before .before .before .before .before .before .before .loop .inv) _ (c .before .before .before .before .before .before .before .before .before .before .before .blanks-end .ensures) (c .before .before .before .before .before .before .if3 .left) _ _ (c .before .before .before .attribute .result) (c .before .before .before .attribute .ensures) _ (c .before .j .given .1)
+    let at-attribute = c .before .before .before in
+    let at-if3 = at-attribute .before .before .before in
+    let at-blanks-end = at-if3 .before .before .before .before .before in
+    let at-loop = at-blanks-end .before in
+    attributing-less _ _ _ _ _ _ (at-loop .loop .inv) _ (at-blanks-end .blanks-end .ensures) (at-if3 .if3 .left) _ _ (at-attribute .attribute .result)
+    (at-attribute .attribute .ensures) _ (c .before .j .given .1)
 
 loop-again : tie.Need-loop-again Inv-loop μ-loop
 loop-again c =
-    attributing-on _ _ _ _ _ _ (c .before .before .before .before .before .before .before .before .before .before .before .before .loop .inv) _ (c .before .before .before .before .before .before .before .before .before .before .before .blanks-end .ensures) (c .before .before .before .before .before .before .if3 .left) _ _ (c .before .before .before .attribute .result) (c .before .before .before .attribute .ensures) _ (c .before .j .given .1)
+    let at-attribute = c .before .before .before in
+    let at-if3 = at-attribute .before .before .before in
+    let at-blanks-end = at-if3 .before .before .before .before .before in
+    let at-loop = at-blanks-end .before in
+    attributing-on _ _ _ _ _ _ (at-loop .loop .inv) _ (at-blanks-end .blanks-end .ensures) (at-if3 .if3 .left) _ _ (at-attribute .attribute .result)
+    (at-attribute .attribute .ensures) _ (c .before .j .given .1)
 
 pub attributes-spec : {M : Type 1} → statement M
 attributes-spec =

@@ -4,7 +4,7 @@ use mathlib.Core.Bool.{not}
 use mathlib.Core.List.{[], _∷_}
 use mathlib.Core.Logic.{inl, inr}
 use Rattle.text.proofs.Classes.{yes-key, no}
-use Rattle.xml_tags.specs.Passing.{inName}
+use Rattle.xml_tags.specs.mirror.Passing.{inName}
 use Rattle.xml_tags.proofs.Passing.{name-stop}
 use Rattle.xml_tags.proofs.pass.in_name.Statement.{statement}
 use Rattle.xml_tags.proofs.pass.in_name.Tie as tie

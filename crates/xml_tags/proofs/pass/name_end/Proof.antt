@@ -5,7 +5,7 @@ use lib.ListN.{length, drop}
 use borrow.Author.Needs.{needs}
 use Rattle.text.specs.Lists.{span}
 use Rattle.text.proofs.Spans.{span-over, span-found, span-again}
-use Rattle.xml_tags.specs.Passing.{inName}
+use Rattle.xml_tags.specs.mirror.Passing.{inName}
 use Rattle.xml_tags.proofs.pass.name_end.Statement.{statement}
 use Rattle.xml_tags.proofs.pass.name_end.Tie as tie
 

@@ -1,7 +1,7 @@
 -- `pass::no_quote` meets its contract. Assumes nothing.
 use mathlib.Core.Path.{sym}
 use native.Mathlib.Omega.{arith}
-use Rattle.xml_tags.specs.Passing.{noQuote}
+use Rattle.xml_tags.specs.mirror.Passing.{noQuote}
 use Rattle.xml_tags.proofs.Passing.{no-quote}
 use Rattle.xml_tags.proofs.pass.no_quote.Statement.{statement}
 use Rattle.xml_tags.proofs.pass.no_quote.Tie as tie

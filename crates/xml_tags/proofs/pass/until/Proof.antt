@@ -47,19 +47,46 @@ shared-slice-read-if3 : tie.Need-shared-slice-read-if3 Inv-loop μ-loop
 shared-slice-read-if3 c = search needs
 
 returns-3 : tie.Need-returns-3 Inv-loop μ-loop
-returns-3 c = until-found _ _ _ _ (until-again _ _ _ _ (c .before .before .before .before .before .loop .inv .1) (omega (arith, c .before .before .before .before .before .loop .inv .0, c .before .before .before .before .loop-test .taken)) (c .before .before .if2 .left)) (omega (arith, c .before .before .before .before .before .loop .inv .0, c .before .before .before .before .loop-test .taken)) (c .if3 .taken)
+returns-3 c =
+    let at-if2 = c .before .before in
+    let at-loop-test = at-if2 .before .before in
+    let at-loop = at-loop-test .before in
+    until-found _ _ _ _
+    (until-again _ _ _ _ (at-loop .loop .inv .1) (omega (arith, at-loop .loop .inv .0, at-loop-test .loop-test .taken)) (at-if2 .if2 .left))
+    (omega (arith, at-loop .loop .inv .0, at-loop-test .loop-test .taken)) (c .if3 .taken)
 
 shared-slice-read-if4 : tie.Need-shared-slice-read-if4 Inv-loop μ-loop
 shared-slice-read-if4 c = search needs
 
 returns-4 : tie.Need-returns-4 Inv-loop μ-loop
-returns-4 c = until-found _ _ _ _ (until-again _ _ _ _ (until-again _ _ _ _ (c .before .before .before .before .before .before .before .loop .inv .1) (omega (arith, c .before .before .before .before .before .before .before .loop .inv .0, c .before .before .before .before .before .before .loop-test .taken)) (c .before .before .before .before .if2 .left)) (omega (arith, c .before .before .before .before .before .before .before .loop .inv .0, c .before .before .before .before .before .before .loop-test .taken)) (c .before .before .if3 .left)) (omega (arith, c .before .before .before .before .before .before .before .loop .inv .0, c .before .before .before .before .before .before .loop-test .taken)) (c .if4 .taken)
+returns-4 c =
+    let at-if3 = c .before .before in
+    let at-if2 = at-if3 .before .before in
+    let at-loop-test = at-if2 .before .before in
+    let at-loop = at-loop-test .before in
+    until-found _ _ _ _
+    (until-again _ _ _ _
+    (until-again _ _ _ _ (at-loop .loop .inv .1) (omega (arith, at-loop .loop .inv .0, at-loop-test .loop-test .taken)) (at-if2 .if2 .left))
+    (omega (arith, at-loop .loop .inv .0, at-loop-test .loop-test .taken)) (at-if3 .if3 .left))
+    (omega (arith, at-loop .loop .inv .0, at-loop-test .loop-test .taken)) (c .if4 .taken)
 
 shared-slice-read-if5 : tie.Need-shared-slice-read-if5 Inv-loop μ-loop
 shared-slice-read-if5 c = search needs
 
 returns-5 : tie.Need-returns-5 Inv-loop μ-loop
-returns-5 c = until-found _ _ _ _ (until-again _ _ _ _ (until-again _ _ _ _ (until-again _ _ _ _ (c .before .before .before .before .before .before .before .before .before .loop .inv .1) (omega (arith, c .before .before .before .before .before .before .before .before .before .loop .inv .0, c .before .before .before .before .before .before .before .before .loop-test .taken)) (c .before .before .before .before .before .before .if2 .left)) (omega (arith, c .before .before .before .before .before .before .before .before .before .loop .inv .0, c .before .before .before .before .before .before .before .before .loop-test .taken)) (c .before .before .before .before .if3 .left)) (omega (arith, c .before .before .before .before .before .before .before .before .before .loop .inv .0, c .before .before .before .before .before .before .before .before .loop-test .taken)) (c .before .before .if4 .left)) (omega (arith, c .before .before .before .before .before .before .before .before .before .loop .inv .0, c .before .before .before .before .before .before .before .before .loop-test .taken)) (c .if5 .taken)
+returns-5 c =
+    let at-if4 = c .before .before in
+    let at-if3 = at-if4 .before .before in
+    let at-if2 = at-if3 .before .before in
+    let at-loop-test = at-if2 .before .before in
+    let at-loop = at-loop-test .before in
+    until-found _ _ _ _
+    (until-again _ _ _ _
+    (until-again _ _ _ _
+    (until-again _ _ _ _ (at-loop .loop .inv .1) (omega (arith, at-loop .loop .inv .0, at-loop-test .loop-test .taken)) (at-if2 .if2 .left))
+    (omega (arith, at-loop .loop .inv .0, at-loop-test .loop-test .taken)) (at-if3 .if3 .left))
+    (omega (arith, at-loop .loop .inv .0, at-loop-test .loop-test .taken)) (at-if4 .if4 .left))
+    (omega (arith, at-loop .loop .inv .0, at-loop-test .loop-test .taken)) (c .if5 .taken)
 
 add-i : tie.Need-add-i Inv-loop μ-loop
 add-i c = omega (arith, c .before .before .before .before .before .before .before .before .before .loop .inv .0, c .before .before .before .before .before .before .before .before .loop-test .taken)
@@ -68,7 +95,21 @@ loop-less : tie.Need-loop-less Inv-loop μ-loop
 loop-less c = omega (arith, c .before .before .before .before .before .before .before .before .before .loop .inv .0, c .before .before .before .before .before .before .before .before .loop-test .taken)
 
 loop-again : tie.Need-loop-again Inv-loop μ-loop
-loop-again c = (c .before .before .before .before .before .before .before .before .before .loop .inv .0, (until-again _ _ _ _ (until-again _ _ _ _ (until-again _ _ _ _ (until-again _ _ _ _ (c .before .before .before .before .before .before .before .before .before .loop .inv .1) (omega (arith, c .before .before .before .before .before .before .before .before .before .loop .inv .0, c .before .before .before .before .before .before .before .before .loop-test .taken)) (c .before .before .before .before .before .before .if2 .left)) (omega (arith, c .before .before .before .before .before .before .before .before .before .loop .inv .0, c .before .before .before .before .before .before .before .before .loop-test .taken)) (c .before .before .before .before .if3 .left)) (omega (arith, c .before .before .before .before .before .before .before .before .before .loop .inv .0, c .before .before .before .before .before .before .before .before .loop-test .taken)) (c .before .before .if4 .left)) (omega (arith, c .before .before .before .before .before .before .before .before .before .loop .inv .0, c .before .before .before .before .before .before .before .before .loop-test .taken)) (c .if5 .left)))
+loop-again c =
+    let at-if4 = c .before .before in
+    let at-if3 = at-if4 .before .before in
+    let at-if2 = at-if3 .before .before in
+    let at-loop-test = at-if2 .before .before in
+    let at-loop = at-loop-test .before in (
+      at-loop .loop .inv .0,
+      (until-again _ _ _ _
+          (until-again _ _ _ _
+          (until-again _ _ _ _
+          (until-again _ _ _ _ (at-loop .loop .inv .1) (omega (arith, at-loop .loop .inv .0, at-loop-test .loop-test .taken)) (at-if2 .if2 .left))
+          (omega (arith, at-loop .loop .inv .0, at-loop-test .loop-test .taken)) (at-if3 .if3 .left))
+          (omega (arith, at-loop .loop .inv .0, at-loop-test .loop-test .taken)) (at-if4 .if4 .left))
+          (omega (arith, at-loop .loop .inv .0, at-loop-test .loop-test .taken)) (c .if5 .left)),
+    )
 
 until-near-requires-2 : tie.Need-until-near-requires-2 Inv-loop μ-loop
 until-near-requires-2 c κs = search needs

@@ -7,7 +7,7 @@ use native.Mathlib.Omega.{arith}
 use denote.Ref.{now}
 use Rattle.xml_tags.proofs.Passing.{head-in}
 use Rattle.xml_tags.proofs.Steps.{open-end, tail-greater, open-tail}
-use Rattle.xml_tags.specs.Skimmed.{tagOf}
+use Rattle.xml_tags.specs.mirror.Skimmed.{tagOf}
 
 returns : tie.Need-returns
 returns c =

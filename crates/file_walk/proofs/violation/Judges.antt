@@ -1,0 +1,29 @@
+-- Whoever judges which texts spell a value finds the same first; and who computes the values judges. Assumes nothing.
+use mathlib.Core.Path.{_≡_, sym, _∙_, ap}
+use mathlib.Core.List.{List}
+use mathlib.Core.Option.{Option}
+use Prim.Native.Nat.{ℕ}
+use Rattle.list.specs.Listing.{Leaf, Listing}
+use Rattle.xml.specs.Message.{Parts}
+use Rattle.file_walk.specs.declared.found.Found.{Found}
+use Rattle.file_walk.specs.Types.{Types, Judge, Decides}
+use Rattle.file_walk.specs.First.{First, firstViolation}
+use Rattle.file_walk.specs.mirror.Machine.{judgeOf, spellerOf, Computes}
+use Rattle.file_walk.proofs.violation.Answers.{iff-same, not-none, some-of}
+
+-- a way to compute the value that is spelt says whether there is one
+pub computes-decides : (t : Types) (sp : Leaf → List ℕ → List ℕ → Option (t .A)) → Computes t sp → Decides t (judgeOf (spellerOf t sp))
+computes-decides t sp y = record {
+  right = λ k w cs. (
+    (λ e. let v = some-of (sp k w cs) (not-none (sp k w cs) e) in (v .0, y .sound k w cs (v .0) (v .1))),
+    (λ g. rw (y .some k w cs (g .0) (g .1) .1)),
+  );
+}
+
+-- two judges say the same
+judges-one : (t : Types) (i j : Judge) → Decides t i → Decides t j → i ≡ j
+judges-one t i j x y = λ u k w cs. iff-same (i k w cs) (j k w cs) (λ e. y .right k w cs .1 (x .right k w cs .0 e)) (λ e. x .right k w cs .1 (y .right k w cs .0 e)) u
+
+-- only one thing is found first
+pub first-one : (t : Types) (l : Listing) (m : Parts) (f g : Found) → First t l m f → First t l m g → f ≡ g
+first-one t l m f g x y = sym (x .is) ∙ ap (λ (j : Judge). firstViolation j l m) (judges-one t (x .judge) (y .judge) (x .decides) (y .decides)) ∙ y .is

@@ -1,0 +1,54 @@
+-- What the code reads of sound tables is the list's. Assumes nothing.
+use mathlib.Core.Path.{_≡_, refl, sym, _∙_, ap}
+use mathlib.Core.Bool.{false, cond, not}
+use mathlib.Core.List.{List}
+use Prim.Native.Nat.{ℕ, zero, suc, _≤_}
+use native.Mathlib.Omega.{arith}
+use lib.Dec.{leb, ltb}
+use borrow.Author.Tests.{le-ltb, lt-leb}
+use Rattle.list.specs.Listing.{Kind, size, isGroup, isChoice}
+use Rattle.list.specs.Table.{cell, countOf, kindOf, wordsIn, listOf}
+use Rattle.list.specs.Sound.{Sound}
+use Rattle.list.proofs.rows.Codes.{choice-is}
+use Rattle.list.proofs.rows.Rows.{size-is, parent-is, count-is, kind-is}
+use Rattle.value_from_bytes.proofs.Numbered.{by-kind}
+use Rattle.image.specs.mirror.Follow.{repeats}
+use Rattle.image.specs.mirror.Step.{isLeaf, again}
+use Rattle.image.proofs.next.Step.{Lines}
+
+-- the numbers of kinds and counts, as the code tests them
+leaf-code : (k : ℕ) (ws : List (List ℕ)) (c : ℕ) → cond (ltb c 2) false (leb c 11) ≡ not (isGroup (kindOf c k ws))
+leaf-code k ws =
+    by-kind (λ c. cond (ltb c 2) false (leb c 11) ≡ not (isGroup (kindOf c k ws))) refl refl refl refl refl refl refl refl refl refl refl refl
+    (λ c.
+    let n = suc (suc (suc (suc (suc (suc (suc (suc (suc (suc (suc (suc c))))))))))) in
+    rw (le-ltb n 2 (omega arith), lt-leb n 11 (omega arith)))
+
+again-code : (c : ℕ) → cond (ltb c 2) false (leb c 3) ≡ repeats (countOf c)
+again-code zero = refl
+again-code (suc zero) = refl
+again-code (suc (suc zero)) = refl
+again-code (suc (suc (suc zero))) = refl
+again-code (suc (suc (suc (suc c)))) =
+    let a : ltb (suc (suc (suc (suc c)))) 2 ≡ false = le-ltb (suc (suc (suc (suc c)))) 2 (omega arith) in
+    let b : leb (suc (suc (suc (suc c)))) 3 ≡ false = lt-leb (suc (suc (suc (suc c)))) 3 (omega arith) in
+    rw (a, b)
+
+pub lines : (t pool : List ℕ) → Sound t pool → Lines t (listOf t pool)
+unfolding isLeaf again
+lines t pool s = record {
+  rows = sym (size-is t pool);
+  line = λ r a b.
+      let c : r ≤ cell t 0 0 = omega (arith, size-is t pool) in
+      let d = s .derived r b in
+      record {
+        parent = sym (parent-is t pool r a c);
+        leaf = leaf-code (cell t r 3) (wordsIn t pool r) (cell t r 2) ∙ ap (λ (k : Kind). not (isGroup k)) (sym (kind-is t pool r a c));
+        choice = sym (choice-is (cell t r 3) (wordsIn t pool r) (cell t r 2)) ∙ ap isChoice (sym (kind-is t pool r a c));
+        again = again-code (cell t r 1) ∙ ap repeats (sym (count-is t pool r a c));
+        mate = d .mate;
+        pair = d .pair;
+        dueChild = d .dueChild;
+        dueSibling = d .dueSibling;
+      };
+}
