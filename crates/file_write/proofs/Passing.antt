@@ -25,7 +25,7 @@ use Rattle.value_to_text.proofs.Meaning.{kind-number}
 use Rattle.image.specs.Image.{Item, valueBytes, itemBytes, bytes}
 use Rattle.image.specs.Kinds.{values}
 use Rattle.image.specs.Place.{Holds}
-use Rattle.file_walk.specs.mirror.Tables.{isGroupIn}
+use Rattle.file_walk.specs.Numbers.{isGroupIn}
 use Rattle.file_letter.specs.Stale.{NoneOf, FirstAt, Finer}
 use Rattle.file_write.specs.mirror.Emit.{Held, ValueAt}
 use Rattle.file_write.specs.mirror.Stale.{finerBy, FirstFiner, clear, found, Stale}

@@ -24,7 +24,7 @@ use Rattle.image.specs.Image.{Item, valueBytes, bytes, body}
 use Rattle.image.specs.Kinds.{values}
 use Rattle.image.specs.Place.{Holds}
 use Rattle.image.specs.mirror.Follow.{OfKind, ItemOk}
-use Rattle.file_walk.specs.mirror.Tables.{isGroupIn}
+use Rattle.file_walk.specs.Numbers.{isGroupIn}
 use Rattle.file_walk.proofs.bytes.Sound.{group-in}
 use Rattle.file_letter.proofs.Has.{rooted}
 use Rattle.file_write.specs.mirror.Emit.{ValueAt}
