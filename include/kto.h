@@ -1,10 +1,10 @@
 /* kto.h: the reconciliation unit for C.
  *
- * A statement file (camt.053.001.08, Austrian subset) is checked and its record image written (kto_check, kto_size); a run of bytes is read as
- * an image (kto_read); a value is picked from an image (kto_pick); an image is gone over item by item (kto_item);
- * the statement file of an image is written (kto_write). What an image's bytes say
- * is docs/IMAGE.md, what the codes say docs/CODES.md, the rows docs/LIST.md; examples/c/entries.c prints the entries of a statement. Link with
- * libunit.a, which `rt staticlib unit` makes (x86-64 Linux); it needs the C library and nothing else.
+ * A statement file (camt.053.001.08, Austrian subset) is checked and its record image written (kto_check), or only measured (kto_size); a run
+ * of bytes is read as an image (kto_read); a value is picked from an image (kto_pick); an image is gone over item by item (kto_item); the
+ * statement file of an image is written (kto_write). What an image's bytes say is docs/IMAGE.md, what the codes say docs/CODES.md, the rows
+ * docs/LIST.md; examples/c/entries.c prints the entries of a statement. Link with libunit.a, which `rt staticlib unit` makes (x86-64 Linux);
+ * it needs the C library and nothing else.
  *
  * Every call takes any bytes and any numbers. There is nothing to set up, no memory is allocated, nothing is kept between calls, and
  * calls from several threads do not meet as long as they lend different buffers. What a call uses of the stack does not hang on what is lent:
@@ -18,8 +18,8 @@
  * What comes back. The result is the code: KTO_ACCEPTED, or the number of the one refusal. With it go a row (the number of the element in the
  * house list, 0 for none) and a place (a byte offset, from 0).
  *
- * A run of more than KTO_LIMIT bytes. kto_read and kto_pick refuse one with KTO_TOO_LONG. No image that kto_check writes is longer than its
- * file, so lend them of such a run what they can take, and go on from image to image:
+ * A run of more than KTO_LIMIT bytes. kto_read, kto_pick and kto_write refuse one with KTO_TOO_LONG. No image that kto_check writes is longer
+ * than its file, so lend them of such a run what they can take, and go on from image to image:
  *
  *     for (uint64_t at = 0; at < len; at += place) {
  *         uint64_t lent = len - at < KTO_LIMIT ? len - at : KTO_LIMIT;
@@ -55,7 +55,7 @@ enum {
     KTO_EMPTY = 11,
     KTO_BAD_VALUE = 12,
     KTO_RULE_BROKEN = 13,
-    KTO_NO_ROOM = 14,          /* the file is good; place: the bytes that its image needs; also of a file that is to be written */
+    KTO_NO_ROOM = 14,          /* the file is good; place: the bytes that its image needs; or those that a file to be written needs */
     /* of a run */
     KTO_NO_HEADER = 15,
     KTO_WRONG_VERSION = 16,

@@ -5,6 +5,9 @@ use std::io::{BufRead, BufReader};
 use std::path::{Path, PathBuf};
 use std::process::{Command, Stdio};
 
+use cases::writes::image_for_file_of;
+use independent::LIMIT;
+
 fn grade_command(words: &[&str]) -> Command {
     let examples = Path::new(env!("CARGO_MANIFEST_DIR")).join("../../examples");
     let mut command = Command::new(env!("CARGO_BIN_EXE_grade"));
@@ -106,6 +109,34 @@ fn images_are_written_as_files_and_none_is_written_over() {
     assert_eq!(status, Some(2));
     assert!(said.contains("cut.kto: image 1 at byte 0: refused 17") && said.contains("can't be read"), "{said}");
     assert!(!folder.join("cut.xml").exists());
+}
+
+/// 20 says the row of the date-time and where its item stands in the run; 19 how many bytes the file would need.
+#[test]
+fn a_file_that_is_not_written_says_where_or_how_long() {
+    let folder = empty_folder("not-written");
+    fs::create_dir_all(&folder).unwrap();
+    let examples = Path::new(env!("CARGO_MANIFEST_DIR")).join("../../examples/written");
+    let image = |name: &str| fs::read(examples.join(name)).unwrap();
+    let (before, mut finer) = (image("several-statements.kto"), image("rent-account.kto"));
+    // The header has five bytes, three groups one each, MsgId its row, two of length and 17 of text: CreDtTm's item stands at 28, and its
+    // microseconds after the row byte, the day and the time of day.
+    finer[36..40].copy_from_slice(&123_456_u32.to_be_bytes());
+    let run = folder.join("run.kto");
+    fs::write(&run, [&before[..], &finer].concat()).unwrap();
+    let (status, said) = grade(&["write", run.to_str().unwrap()]);
+    assert_eq!(status, Some(1));
+    assert!(said.contains("image 1 at byte 0: written as"), "{said}");
+    let refused = "image 2 at byte 1170: refused 20 TOO_FINE, fraction finer than a file says, row 5 \
+                   Document/BkToCstmrStmt/GrpHdr/CreDtTm, byte 1198\n";
+    assert!(said.ends_with(refused), "{said}");
+    assert_eq!(fs::read_dir(&folder).unwrap().count(), 2, "the run and the first image's file");
+
+    let large = folder.join("large.kto");
+    fs::write(&large, image_for_file_of(LIMIT + 1)).unwrap();
+    let (status, said) = grade(&["write", large.to_str().unwrap()]);
+    assert_eq!(status, Some(1));
+    assert!(said.contains("refused 19 TOO_LARGE") && said.ends_with(", 1048577 bytes needed\n"), "{said}");
 }
 
 /// A reader that has enough ends `grade` without a word.

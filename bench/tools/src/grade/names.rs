@@ -1,5 +1,6 @@
-//! The names of the codes, as the answer type of the unit has them, and `include/kto.h` behind `KTO_`. `.ci/pages.py` holds them to it.
+//! The names of the codes, as the answer type of the unit has them, and `include/kto.h` after `KTO_`. `.ci/pages.py` holds them to it.
 
+use independent::list;
 use independent::Code;
 
 const NAMES: [(u8, &str); 21] = [
@@ -39,6 +40,11 @@ pub fn code_meaning(code: u8) -> &'static str {
 /// `12 BAD_VALUE, value breaks its type`.
 pub fn code_in_words(code: u8) -> String {
     format!("{code} {}, {}", code_name(code), code_meaning(code))
+}
+
+/// `row 30 Document/BkToCstmrStmt/Stmt/Ntry/BookgDt/Dt`; nothing of 0, which is no row.
+pub fn row_in_words(row: u8) -> Option<String> {
+    list::find(row).map(|row| format!("row {} {}", row.number, list::path(row)))
 }
 
 #[cfg(test)]

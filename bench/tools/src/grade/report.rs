@@ -4,9 +4,7 @@ use std::collections::BTreeMap;
 use std::fmt;
 use std::path::PathBuf;
 
-use independent::list;
-
-use super::names::code_in_words;
+use super::names::{code_in_words, row_in_words};
 use super::spot::Spot;
 use crate::unit::Line;
 
@@ -46,9 +44,9 @@ impl Outcome {
 }
 
 impl Refusal {
-    /// `row 30 Document/BkToCstmrStmt/Stmt/Ntry/BookgDt/Dt`; nothing where the answer has no row.
+    /// The row with its path; nothing where the answer has no row.
     pub fn row_in_words(&self) -> Option<String> {
-        list::find(self.row).map(|row| format!("row {} {}", row.number, list::path(row)))
+        row_in_words(self.row)
     }
 }
 

@@ -8,7 +8,7 @@ use independent::LIMIT;
 
 use super::divide::{divide, Part};
 use super::kept::keep;
-use super::names::code_in_words;
+use super::names::{code_in_words, row_in_words};
 use crate::unit::{Line, Unit};
 
 /// Writes each image of a run as a file, `NAME.xml` in the folder, a second and third with a number, and says so. True if the run is
@@ -16,11 +16,16 @@ use crate::unit::{Line, Unit};
 pub fn write_files(unit: &Unit, path: &Path, run: &[u8], folder: &Path, out: &mut dyn Write) -> io::Result<bool> {
     let mut all_written = true;
     let left = divide(unit, run, |Part { number, start, bytes }| {
-        let Line { code, place, bytes: file, .. } = file_of(unit, bytes)?;
+        let Line { code, row, place, bytes: file } = file_of(unit, bytes)?;
         let image = format!("{}: image {number} at byte {start}", path.display());
         if code != 0 {
             all_written = false;
-            return writeln!(out, "{image}: refused {}, {place} bytes needed", code_in_words(code));
+            // Where the refusal has a row (20), its place is that of the item in the image; of 19 it is a length.
+            let why = match row_in_words(row) {
+                Some(row) => format!("{row}, byte {}", start + place),
+                None => format!("{place} bytes needed"),
+            };
+            return writeln!(out, "{image}: refused {}, {why}", code_in_words(code));
         }
         let written = keep(folder, path, "xml", &file)?;
         writeln!(out, "{image}: written as {}, {place} bytes", written.display())
