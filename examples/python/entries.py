@@ -4,6 +4,7 @@
 
 The same lines as examples/c/entries.c prints. Ends with 1 where the file is refused, and with 2 where it can't be read.
 """
+import signal
 import sys
 
 import kto
@@ -57,4 +58,6 @@ def main(words):
 
 
 if __name__ == '__main__':
+    # whoever reads no further (`| head`) ends it without a word
+    signal.signal(signal.SIGPIPE, signal.SIG_DFL)
     sys.exit(main(sys.argv[1:]))

@@ -143,7 +143,9 @@ int main(void) {
     writes("all but the image's last byte", image, 66, sizeof out, KTO_BROKEN_IMAGE, 0, 66);
     /* the microseconds of CreDtTm are its item's bytes 8 to 11, and the item stands at 13: 1 is no thousandth, 1000 is one */
     static uint8_t finer[sizeof image];
-    memcpy(finer, image, sizeof image);
+    for (uint64_t i = 0; i < sizeof image; i++) {
+        finer[i] = image[i];
+    }
     finer[24] = 1;
     writes("a date-time finer than thousandths", finer, sizeof finer, sizeof out, KTO_TOO_FINE, KTO_ROW_GRPHDR_CREDTTM, 13);
     writes("the same, without room", finer, sizeof finer, 0, KTO_TOO_FINE, KTO_ROW_GRPHDR_CREDTTM, 13);
