@@ -8,7 +8,7 @@
  *
  * Every call takes any bytes and any numbers. There is nothing to set up, no memory is allocated, nothing is kept between calls, and
  * calls from several threads do not meet as long as they lend different buffers. What a call uses of the stack does not hang on what is lent:
- * at most 9,536 bytes were seen (docs/SPEED.md); leave it 16 KiB.
+ * at most 9,552 bytes were seen (docs/SPEED.md); leave it 16 KiB.
  *
  * What is lent. A buffer is a pointer and its length in bytes. While a call runs, nobody else may change what is lent for reading, or read or
  * change what is lent for writing, and what is lent for writing may not overlap anything else that is lent to the same call. Of a
