@@ -20,15 +20,12 @@ PROMISING = ('unit', 'image_hold', 'kto', 'write')
 # Reading order where the imports leave a choice: by floor.
 FLOORS = ('answer', 'text', 'list', 'xml', 'value', 'image', 'file', 'unit', 'program', 'kto', 'write')
 
-# Known exceptions, each with its reason: files of mirrors, and names with how many meanings each has. To be emptied; one that is not
-# needed is a fault.
+# Known exceptions, each with its reason: files of mirrors, and names with how many meanings each has. One that is not needed
+# is a fault.
 MIRRORS = {}
 NAMES = {
     'a kind has one name for its case among values (`IsValue`) and among texts (`Form`)':
-        'account 2, count 2, dated 2, either 2, money 2, reference 2, timed 2, writing 2',
-    'to be renamed in the definitions':
-        'Answers 2, Begins 2, Content 2, Counts 2, Good 2, Parts 2, Says 2, absent 4, behind 2, bytes 3, char 2, currency 3, '
-        'empty 3, end 2, image 2, listed 3, none 3, now 2, over 2, refused 2, single 2, some 2, whole 2',
+        'account 2, count 2, currency 2, dated 2, either 2, listed 2, money 2, reference 2, timed 2, writing 2',
 }
 
 # A name is any run of characters but these (the kit's primer, 4.1); a comment begins at `--`, but not in a quoted text.

@@ -1,7 +1,7 @@
 """The files of crates/list_house: definitions, constants, the constants' mirror, and the proofs that these say those and are sound."""
 MADE = 'Written by tools/lists/make.'
 
-COUNTS = {'1..1': 'one', '0..1': 'optional', '1..n': 'some', '0..n': 'any', None: 'alternative'}
+COUNTS = {'1..1': 'one', '0..1': 'optional', '1..n': 'several', '0..n': 'any', None: 'alternative'}
 KINDS = {'G': 'group', 'C': 'choice'}
 
 
@@ -12,7 +12,7 @@ class Names:
         own = found.name
         plain = found is lists[0]
         self.list = own
-        self.listed = 'listed' if plain else f'{own}Listed'
+        self.listed = 'rowsListed' if plain else f'{own}Listed'
         self.table = f'{own}Rows'
         self.function = 'rows' if plain else f'{own}_rows'
         self.constant = self.function.upper()
@@ -41,7 +41,7 @@ use mathlib.Core.List.{{List, [], _∷_}}
 use Prim.Native.Nat.{{{numbers}}}
 use Prim.Native.String.{{String}}
 {also}use Rattle.text.specs.Bytes.{{ascii}}
-use Rattle.list.specs.Listing.{{ref, iban, ccy, bool, num, amt, date, dtm, txt, enum, Kind, group, choice, leaf, Count, one, optional, some, any, alternative, Row, both, Listing}}
+use Rattle.list.specs.Listing.{{ref, iban, ccy, bool, num, amt, date, dtm, txt, enum, Kind, group, choice, leaf, Count, one, optional, several, any, alternative, Row, both, Listing}}
 
 -- "name, parent row, count, kind"
 abbrev row : String → ℕ → Count → Kind → Row

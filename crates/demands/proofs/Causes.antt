@@ -15,12 +15,12 @@ use Rattle.list.specs.WellFormed.{KindOk}
 use Rattle.list_house.specs.House.{house}
 use Rattle.list_house.proofs.HouseSound.{house-well}
 use Rattle.image.proofs.content.Rows.{well}
-use Rattle.xml.specs.Message.{Attrs, Parts, none, char, element}
+use Rattle.xml.specs.Message.{Attrs, Inside, nothingInside, character, element}
 use Rattle.value.specs.Value.{Value, Spelt}
 use Rattle.file_walk.specs.declared.found.Found.{Found}
 use Rattle.file_walk.specs.declared.found.Found.the-variants.{Fine, Violation}
 use Rattle.file_walk.specs.Types.{Judge, Decides}
-use Rattle.file_walk.specs.First.{First, refuse, firstOf, empty, passed, breaks, textOf, currency, noAttrs, attrsOk, kindOf, isRoot, over, absent, childRows, opening, groupEnd, closing, inside, firstViolation}
+use Rattle.file_walk.specs.First.{First, refuse, firstOf, isEmpty, passed, breaks, textOf, currencyGiven, noAttrs, attrsOk, kindOf, isRoot, overCount, absentRow, childRows, opening, groupEnd, closing, inside, firstViolation}
 use Rattle.file_walk.proofs.violation.Answers.{no-attrs}
 use Rattle.file_walk.proofs.violation.Attrs.{leaf-mean}
 use Rattle.file.specs.Instance.{houseTypes}
@@ -57,11 +57,11 @@ on P Q g Fine h = tt
 on P Q g (Violation a) h = g a h
 
 -- of 12, that an element's characters spell no value; of 9, that its attributes are not the type's
-abbrev Cause : ℕ → Parts → Answer → Type 0
+abbrev Cause : ℕ → Inside → Answer → Type 0
 Cause p m a = (a .code ≡ 12 → BadValue p m (a .row) (a .place)) × (a .code ≡ 9 → BadAttributes p m (a .row) (a .place))
 
 -- from some parts to those that they stand among
-lift : (p q : ℕ) (m k : Parts) → ((r o : ℕ) (ats : Attrs) (i : Parts) → Stands house r o ats i p m → Stands house r o ats i q k) → (f : Found) → Means (Cause p m) f → Means (Cause q k) f
+lift : (p q : ℕ) (m k : Inside) → ((r o : ℕ) (ats : Attrs) (i : Inside) → Stands house r o ats i p m → Stands house r o ats i q k) → (f : Found) → Means (Cause p m) f → Means (Cause q k) f
 lift p q m k s =
     on (Cause p m) (Cause q k)
     (λ a h. (
@@ -73,46 +73,46 @@ lift p q m k s =
 abbrev silent : Answer → Bool
 silent a = not (eqb (a .code) 12 || eqb (a .code) 9)
 
-module _ (j : Judge) (d : Decides houseTypes j) (p : ℕ) (m : Parts) where
+module _ (j : Judge) (d : Decides houseTypes j) (p : ℕ) (m : Inside) where
   other : (b : Bool) (a : Answer) → silent a ≡ true → Means (Cause p m) (refuse b a)
   other b a t = refused (Cause p m) b a (λ e. ((λ z. absurd (false≢true (sym (ap (λ (c : ℕ). not (eqb c 12 || eqb c 9)) z) ∙ t))), (λ z. absurd (false≢true (sym (ap (λ (c : ℕ). not (eqb c 12 || eqb c 9)) z) ∙ t)))))
 
   group-means : (r o : ℕ) (rs : List ℕ) → Means (Cause p m) (groupEnd j house r o rs)
   group-means r o rs =
       first (Cause p m)
-      (refuse (empty rs) (table.empty r o) ∷ refuse (ltb 0 (absent house r rs)) (table.absent (absent house r rs) o) ∷ refuse (breaks r rs (house .rules)) (table.ruleBroken r o) ∷ [])
-      (other (empty rs) (table.empty r o) refl, (other (ltb 0 (absent house r rs)) (table.absent (absent house r rs) o) refl, (other (breaks r rs (house .rules)) (table.ruleBroken r o) refl, tt)))
+      (refuse (isEmpty rs) (table.empty r o) ∷ refuse (ltb 0 (absentRow house r rs)) (table.absent (absentRow house r rs) o) ∷ refuse (breaks r rs (house .rules)) (table.ruleBroken r o) ∷ [])
+      (other (isEmpty rs) (table.empty r o) refl, (other (ltb 0 (absentRow house r rs)) (table.absent (absentRow house r rs) o) refl, (other (breaks r rs (house .rules)) (table.ruleBroken r o) refl, tt)))
 
-  closing-means : (k : Kind) (r o : ℕ) (ats : Attrs) (rs cs : List ℕ) → KindOk k → ((f : Leaf) → k ≡ leaf f → ((v : Value) → Spelt f (currency ats) cs v → ⊥) → BadValue p m r o) → Means (Cause p m) (closing j house k r o ats rs cs)
+  closing-means : (k : Kind) (r o : ℕ) (ats : Attrs) (rs cs : List ℕ) → KindOk k → ((f : Leaf) → k ≡ leaf f → ((v : Value) → Spelt f (currencyGiven ats) cs v → ⊥) → BadValue p m r o) → Means (Cause p m) (closing j house k r o ats rs cs)
   closing-means group r o ats rs cs ok h = group-means r o rs
   closing-means choice r o ats rs cs ok h = group-means r o rs
   closing-means (leaf f) r o ats rs cs ok h =
-      first (Cause p m) (refuse (empty cs) (table.empty r o) ∷ refuse (not (j f (currency ats) cs)) (table.badValue r o) ∷ [])
-      (other (empty cs) (table.empty r o) refl, (refused (Cause p m) (not (j f (currency ats) cs)) (table.badValue r o) bad, tt))
+      first (Cause p m) (refuse (isEmpty cs) (table.empty r o) ∷ refuse (not (j f (currencyGiven ats) cs)) (table.badValue r o) ∷ [])
+      (other (isEmpty cs) (table.empty r o) refl, (refused (Cause p m) (not (j f (currencyGiven ats) cs)) (table.badValue r o) bad, tt))
     where
-      bad : not (j f (currency ats) cs) ≡ true → Cause p m (table.badValue r o)
-      bad e = ((λ z. h f refl (λ v s. false≢true (sym (ap not (d .right f (currency ats) cs .1 (v, s))) ∙ e))), (λ z. absurd (omega arith)))
+      bad : not (j f (currencyGiven ats) cs) ≡ true → Cause p m (table.badValue r o)
+      bad e = ((λ z. h f refl (λ v s. false≢true (sym (ap not (d .right f (currencyGiven ats) cs .1 (v, s))) ∙ e))), (λ z. absurd (omega arith)))
 
   opening-means : (q : ℕ) (seen : List ℕ) (r : ℕ) (ats : Attrs) (o : ℕ) → ((AttrsOf (rowAt house r .kind) ats → ⊥) → BadAttributes p m r o) → Means (Cause p m) (opening j house q seen r ats o)
   opening-means q seen r ats o h =
       first (Cause p m)
       (refuse (eqb r 0) (table.notAChild q o) ∷ refuse (not (isChoice (kindOf house q)) && passed r seen) (table.outOfOrder r o)
-      ∷ refuse (over house (kindOf house q) seen r) (table.tooMany r o) ∷ refuse (not (attrsOk j (kindOf house r) ats)) (table.wrongAttributes r o) ∷ []) (
+      ∷ refuse (overCount house (kindOf house q) seen r) (table.tooMany r o) ∷ refuse (not (attrsOk j (kindOf house r) ats)) (table.wrongAttributes r o) ∷ []) (
         other (eqb r 0) (table.notAChild q o) refl,
         (
           other (not (isChoice (kindOf house q)) && passed r seen) (table.outOfOrder r o) refl,
-          (other (over house (kindOf house q) seen r) (table.tooMany r o) refl, (refused (Cause p m) (not (attrsOk j (kindOf house r) ats)) (table.wrongAttributes r o) bad, tt)),
+          (other (overCount house (kindOf house q) seen r) (table.tooMany r o) refl, (refused (Cause p m) (not (attrsOk j (kindOf house r) ats)) (table.wrongAttributes r o) bad, tt)),
         ),
       )
     where
       bad : not (attrsOk j (kindOf house r) ats) ≡ true → Cause p m (table.wrongAttributes r o)
       bad e = ((λ z. absurd (omega arith)), (λ z. h (λ g. false≢true (sym (ap not (attrs-mean j d (kindOf house r) ats .1 g)) ∙ e))))
 
-inside-means : (j : Judge) (d : Decides houseTypes j) (m : Parts) (p : ℕ) (seen : List ℕ) → Means (Cause p m) (inside j house p seen m)
+inside-means : (j : Judge) (d : Decides houseTypes j) (m : Inside) (p : ℕ) (seen : List ℕ) → Means (Cause p m) (inside j house p seen m)
 unfolding inside
-inside-means j d none p seen = tt
-inside-means j d (char o x k) p seen =
-    let m = char o x k in
+inside-means j d nothingInside p seen = tt
+inside-means j d (character o x k) p seen =
+    let m = character o x k in
     first (Cause p m) (refuse (isGroup (kindOf house p) && not (isBlank x)) (table.textInGroup p o) ∷ inside j house p seen k ∷ []) (
       other j d p m (isGroup (kindOf house p) && not (isBlank x)) (table.textInGroup p o) refl,
       (lift p p k m (λ r q ats i s. after p o x k s) (inside j house p seen k) (inside-means j d k p seen), tt),
@@ -132,10 +132,10 @@ inside-means j d (element o n ats i k) p seen =
       ),
     )
 
-means : (j : Judge) (d : Decides houseTypes j) (m : Parts) → Means (Cause 1 (inner m)) (firstViolation j house m)
+means : (j : Judge) (d : Decides houseTypes j) (m : Inside) → Means (Cause 1 (inner m)) (firstViolation j house m)
 unfolding firstViolation
-means j d none = tt
-means j d (char o x k) = tt
+means j d nothingInside = tt
+means j d (character o x k) = tt
 means j d (element o n ats i k) =
     first (Cause 1 i) (refuse (not (isRoot house n ats)) (table.wrongRoot o) ∷ inside j house 1 [] i ∷ closing j house (kindOf house 1) 1 o ats (childRows house 1 i) (textOf i) ∷ []) (
       other j d 1 i (not (isRoot house n ats)) (table.wrongRoot o) refl,
@@ -145,5 +145,5 @@ means j d (element o n ats i k) =
       ),
     )
 
-pub causes : (m : Parts) (a : Answer) → First houseTypes house m (Violation a) → Cause 1 (inner m) a
+pub causes : (m : Inside) (a : Answer) → First houseTypes house m (Violation a) → Cause 1 (inner m) a
 causes m a f = subst (Means (Cause 1 (inner m))) (f .is) (means (f .judge) (f .decides) m)

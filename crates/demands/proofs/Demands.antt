@@ -28,7 +28,7 @@ use Rattle.file_walk.proofs.violation.Accept as walk
 use Rattle.file_walk.proofs.violation.Judges.{first-one}
 use Rattle.file_walk.proofs.bytes.Root.{one-element}
 use Rattle.image.specs.Kinds.{values}
-use Rattle.image.specs.Place.{over, foreign, version, broken, whole}
+use Rattle.image.specs.Place.{over, foreign, version, broken, wholeImage}
 use Rattle.image.specs.Pick.{refused, missing, found as at}
 use Rattle.image.proofs.types.Lawful.{lawful}
 use Rattle.image.proofs.content.Images.{told, image-long}
@@ -38,7 +38,7 @@ use Rattle.image_reading.proofs.House.{house-reads-some, house-reads-one, house
 use Rattle.image_hold.proofs.Holding.{next-one, next-some}
 use Rattle.file.specs.Instance.{houseTypes, houseKinds}
 use Rattle.file.specs.File.{Whole, messageIn}
-use Rattle.file.specs.Checks.{Checks, Finds, long, bytes, markup, violation, room, image}
+use Rattle.file.specs.Checks.{Checks, Finds, long, badBytes, markup, violation, room, imaged}
 use Rattle.file.proofs.Codes.{violation-code}
 use Rattle.file.proofs.One.{of-long, of-bytes, of-markup, of-violation, of-room}
 use Rattle.file.proofs.Accepted as general
@@ -68,31 +68,31 @@ line a f n h e = e ∙ ap f (sym (place e ∙ h))
 
 lines : (s d : List ℕ) (a : Answer) (d′ : List ℕ) → Checks s d a d′ → (length d′ ≡ length d) × ((a ≡ accepted (a .place)) ⊎ (FileRefused a × (d′ ≡ d)))
 lines s d a d′ (long h e f) = (ap length f, inr (inl e, f))
-lines s d a d′ (bytes h u n p e f) = (ap length f, inr (inr (inl (line a notUtf8 n refl e)), f))
+lines s d a d′ (badBytes h u n p e f) = (ap length f, inr (inr (inl (line a notUtf8 n refl e)), f))
 lines s d a d′ (markup h u x n p e f) = (ap length f, inr (inr (inr (inl (line a notHouseXml n refl e))), f))
 lines s d a d′ (violation w p f) =
     let v = violation-code houseTypes house (messageIn w) a p in
     (ap length f, inr (inr (inr (inr (inl (v .0, v .1)))), f))
 lines s d a d′ (room c w h e f) = (ap length f, inr (inr (inr (inr (inr (line a noRoom (length (houseImage c)) refl e)))), f))
-lines s d a d′ (image c w h e f) =
+lines s d a d′ (imaged c w h e f) =
     let x = houseImage c in
     (omega (arith, ap length f, length-append x (drop (length x) d), length-drop (length x) d), inl (line a accepted (length x) refl e))
 
 -- the answer to a buffer as long as the file is the answer to every longer one
 longer : (s : List ℕ) (a : Answer) (e′ d : List ℕ) → length s ≤ length d → Checks s s a e′ → (d′ : List ℕ) × Checks s d a d′
 longer s a e′ d g (long h e f) = (d, long h e refl)
-longer s a e′ d g (bytes h u n p e f) = (d, bytes h u n p e refl)
+longer s a e′ d g (badBytes h u n p e f) = (d, badBytes h u n p e refl)
 longer s a e′ d g (markup h u x n p e f) = (d, markup h u x n p e refl)
 longer s a e′ d g (violation w p f) = (d, violation w p refl)
 longer s a e′ d g (room c w h e f) = absurd (omega (arith, image-no-longer s c w))
-longer s a e′ d g (image c w h e f) = (houseImage c ++ drop (length (houseImage c)) d, image c w (omega arith) e refl)
+longer s a e′ d g (imaged c w h e f) = (houseImage c ++ drop (length (houseImage c)) d, imaged c w (omega arith) e refl)
 
 run-lines : (run : List ℕ) (a : Answer) → HouseReads run a → (a ≡ accepted (a .place)) ⊎ RunRefused a
 run-lines run a (over h e) = inr (inl e)
 run-lines run a (foreign h x e) = inr (inr (inl e))
 run-lines run a (version h x y w e) = inr (inr (inr (inl e)))
 run-lines run a (broken h l i t q s x n y e) = inr (inr (inr (inr (line a brokenImage (length t + n) refl e))))
-run-lines run a (whole h n w e) = inl (line a accepted n refl e)
+run-lines run a (wholeImage h n w e) = inl (line a accepted n refl e)
 
 pick-lines : (run : List ℕ) (r n : ℕ) (a : Answer) (part : List ℕ) → HousePicks run r n a part → (a ≡ table.picked r (a .place)) ⊎ (PickRefused a × (part ≡ []))
 pick-lines run r n a part (refused x z e) = go (run-lines run a x)
@@ -148,13 +148,13 @@ module _ (s d : List ℕ) where
   module _ (a : Answer) (d′ : List ℕ) where
     why : Checks s d a d′ → Why a
     why (long h e f) = subst Why (sym e) h
-    why (bytes h u n p e f) = subst Why (sym e) (h, u, p)
+    why (badBytes h u n p e f) = subst Why (sym e) (h, u, p)
     why (markup h u x n p e f) = subst Why (sym e) (h, u, x, p)
     why (violation w p f) =
         let v = violation-code houseTypes house (messageIn w) a p in
         on-walk a (v .0, v .1) .1 (w, p)
     why (room c w h e f) = subst Why (sym e) (c, w, refl, h)
-    why (image c w h e f) = subst Why (sym e) (c, w, refl, h)
+    why (imaged c w h e f) = subst Why (sym e) (c, w, refl, h)
 
     gives-image : Checks s d a d′ → (n : ℕ) → a ≡ accepted n → (c : Content Value) → HouseFile s c → d′ ≡ houseImage c ++ drop n d
     gives-image p n z c f =
@@ -189,7 +189,7 @@ module _ (run : List ℕ) (n : ℕ) where
 reads-image : (run : List ℕ) (a : Answer) → HouseReads run a → (n : ℕ) → (a ≡ accepted n) ↔ ((length run ≤ limit) × ((c : Content Value) × Meets IsValue house c × Begins run n c))
 reads-image run a r n = (
   (λ z. let w = house-reads-exactly run a r n .0 (code z, place z) in (w .0, begins run n (w .1))),
-  (λ g. house-reads-one run a (accepted n) r (whole (g .0) n (begun run n (g .1 .0) (g .1 .1) (g .1 .2)) refl)),
+  (λ g. house-reads-one run a (accepted n) r (wholeImage (g .0) n (begun run n (g .1 .0) (g .1 .1) (g .1 .2)) refl)),
 )
 
 -- every content that meets the rules, by the present one of date-times, has a message, the one that is written for it; and what has one meets them

@@ -4,9 +4,9 @@ use mathlib.Core.List.{List, []}
 use Prim.Native.Nat.{ℕ}
 use Rattle.list.specs.Listing.{Leaf, Kind, group, choice, leaf, Listing, rowAt, child}
 use Rattle.list_house.specs.House.{house}
-use Rattle.xml.specs.Message.{Attrs, Parts, none, char, element}
+use Rattle.xml.specs.Message.{Attrs, Inside, nothingInside, character, element}
 use Rattle.value.specs.Value.{Value, Spelt}
-use Rattle.file_walk.specs.First.{currency, textOf}
+use Rattle.file_walk.specs.First.{currencyGiven, textOf}
 use Rattle.file_walk.specs.Denotes.{LeafAttrs}
 use Rattle.file.specs.Instance.{houseTypes}
 
@@ -17,30 +17,30 @@ AttrsOf choice ats = ats ≡ []
 AttrsOf (leaf k) ats = LeafAttrs houseTypes k ats
 
 -- among the parts of an element of row p, at any depth, stands an element of row r, with its `<` at o, these attributes and these parts
-pub data Stands (l : Listing) (r o : ℕ) (ats : Attrs) (i : Parts) : ℕ → Parts → Type 0 where
-  here : (p : ℕ) (n : List ℕ) (k : Parts) → child l p n ≡ r → Stands l r o ats i p (element o n ats i k)
-  after : (p q x : ℕ) (k : Parts) → Stands l r o ats i p k → Stands l r o ats i p (char q x k)
-  behind : (p q : ℕ) (n : List ℕ) (as′ : Attrs) (j k : Parts) → Stands l r o ats i p k → Stands l r o ats i p (element q n as′ j k)
-  within : (p q : ℕ) (n : List ℕ) (as′ : Attrs) (j k : Parts) → Stands l r o ats i (child l p n) j → Stands l r o ats i p (element q n as′ j k)
+pub data Stands (l : Listing) (r o : ℕ) (ats : Attrs) (i : Inside) : ℕ → Inside → Type 0 where
+  here : (p : ℕ) (n : List ℕ) (k : Inside) → child l p n ≡ r → Stands l r o ats i p (element o n ats i k)
+  after : (p q x : ℕ) (k : Inside) → Stands l r o ats i p k → Stands l r o ats i p (character q x k)
+  behind : (p q : ℕ) (n : List ℕ) (as′ : Attrs) (j k : Inside) → Stands l r o ats i p k → Stands l r o ats i p (element q n as′ j k)
+  within : (p q : ℕ) (n : List ℕ) (as′ : Attrs) (j k : Inside) → Stands l r o ats i (child l p n) j → Stands l r o ats i p (element q n as′ j k)
 
 -- what stands in the root
-abbrev pub inner : Parts → Parts
-inner none = none
-inner (char o x k) = none
+abbrev pub inner : Inside → Inside
+inner nothingInside = nothingInside
+inner (character o x k) = nothingInside
 inner (element o n ats i k) = i
 
 -- 12: "value breaks its type": the characters of a leaf, entities resolved, spell no value of its type
-pub record BadValue (p : ℕ) (m : Parts) (r o : ℕ) : Type 0 where
+pub record BadValue (p : ℕ) (m : Inside) (r o : ℕ) : Type 0 where
   pub attrs : Attrs
-  pub parts : Parts
+  pub parts : Inside
   pub stands : Stands house r o attrs parts p m
   pub type : Leaf
   pub kind : rowAt house r .kind ≡ leaf type
-  pub none : (v : Value) → Spelt type (currency attrs) (textOf parts) v → ⊥
+  pub none : (v : Value) → Spelt type (currencyGiven attrs) (textOf parts) v → ⊥
 
 -- 9: "attributes not exactly the type's, or bad Ccy"
-pub record BadAttributes (p : ℕ) (m : Parts) (r o : ℕ) : Type 0 where
+pub record BadAttributes (p : ℕ) (m : Inside) (r o : ℕ) : Type 0 where
   pub attrs : Attrs
-  pub parts : Parts
+  pub parts : Inside
   pub stands : Stands house r o attrs parts p m
   pub wrong : AttrsOf (rowAt house r .kind) attrs → ⊥

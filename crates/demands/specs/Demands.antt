@@ -24,7 +24,7 @@ use Rattle.list.specs.Listing.{Leaf}
 use Rattle.list.specs.Content.{Content, Meets}
 use Rattle.list_house.specs.House.{house}
 use Rattle.xml.specs.House.{HouseXml, Longest}
-use Rattle.xml.specs.Message.{Parts, messageOf}
+use Rattle.xml.specs.Message.{Inside, messageOf}
 use Rattle.value.specs.Value.{Value, IsValue}
 use Rattle.value.specs.Moment.{present}
 use Rattle.value_to_text.specs.Spelled.{Spelled, SpelledByEither}
@@ -122,7 +122,7 @@ pub record Message (s : List ℕ) (c : Content Value) : Type 0 where
 pub record Demand2 : Type 0 where
   pub told : (s d : List ℕ) (a : Answer) (d′ : List ℕ) → Checks s d a d′ → Told s d a d′
   -- whoever judges whether a text spells a value, as long as it is the relation's answer, finds the same first; and someone can
-  pub judges : (j : Judge) → Decides houseTypes j → (m : Parts) (f : Found) → First houseTypes house m f ↔ (firstViolation j house m ≡ f)
+  pub judges : (j : Judge) → Decides houseTypes j → (m : Inside) (f : Found) → First houseTypes house m f ↔ (firstViolation j house m ≡ f)
   pub judge : (j : Judge) × Decides houseTypes j
   -- "within the size limit the image reader accepts exactly the runs that begin with the image of a content that meets the same rules": with its length
   pub reads : (run : List ℕ) (a : Answer) → HouseReads run a → (n : ℕ) → (a ≡ accepted n) ↔ ((length run ≤ limit) × ((c : Content Value) × Meets IsValue house c × Begins run n c))

@@ -15,7 +15,7 @@ use Rattle.list.specs.Content.{Content}
 use Rattle.file_walk.specs.Types.{Spelling}
 use Rattle.file.specs.Instance.{Kinds}
 use Rattle.file.specs.File.{messageIn, File, imageOf}
-use Rattle.file.specs.Checks.{Answers, long, bytes, markup, violation, room, image}
+use Rattle.file.specs.Checks.{Answers, long, badBytes, markup, violation, room, imaged}
 use Rattle.file.proofs.Codes.{violation-code}
 use Rattle.file.proofs.One.{of-image}
 
@@ -26,11 +26,11 @@ module _ (k : Kinds) (l : Listing) (s d : List ℕ) (a : Answer) (d′ : List �
   -- "Any other code leaves that buffer unchanged": every refusal leaves every byte
   pub refusal-leaves : Answers k l s d a d′ → a .code ≢ 0 → d′ ≡ d
   refusal-leaves (long h e f) n = f
-  refusal-leaves (bytes h u m q e f) n = f
+  refusal-leaves (badBytes h u m q e f) n = f
   refusal-leaves (markup h u v m q e f) n = f
   refusal-leaves (violation w q f) n = f
   refusal-leaves (room c w h e f) n = f
-  refusal-leaves (image c w h e f) n = absurd (n (code-of a (accepted (length (imageOf k l c))) e))
+  refusal-leaves (imaged c w h e f) n = absurd (n (code-of a (accepted (length (imageOf k l c))) e))
 
   -- what an accepted file is, and what stands in the buffer then
   pub record Taken : Type 0 where
@@ -43,11 +43,11 @@ module _ (k : Kinds) (l : Listing) (s d : List ℕ) (a : Answer) (d′ : List �
   -- the codes of the refusals are none of acceptance
   pub taken : Answers k l s d a d′ → a .code ≡ 0 → Taken
   taken (long h e f) z = absurd (omega (arith, code-of a tooLong e))
-  taken (bytes h u m q e f) z = absurd (omega (arith, code-of a (notUtf8 m) e))
+  taken (badBytes h u m q e f) z = absurd (omega (arith, code-of a (notUtf8 m) e))
   taken (markup h u v m q e f) z = absurd (omega (arith, code-of a (notHouseXml m) e))
   taken (violation w q f) z = absurd (omega (arith, violation-code (k .types) l (messageIn w) a q))
   taken (room c w h e f) z = absurd (omega (arith, code-of a (noRoom (length (imageOf k l c))) e))
-  taken (image c w h e f) z = record { content = c; file = w; fits = h; is = e; buffer = f }
+  taken (imaged c w h e f) z = record { content = c; file = w; fits = h; is = e; buffer = f }
 
   module _ (y : Spelling (k .types)) (wf : WellFormed l) where
     -- a good file whose image fits is accepted, with that image
@@ -71,8 +71,8 @@ module _ (k : Kinds) (l : Listing) (s d : List ℕ) (a : Answer) (d′ : List �
   -- where no image is longer than its file, a buffer as long as the file is long enough
   pub room-enough : ((u : List ℕ) (c : Content (k .types .A)) → File k l u c → length (imageOf k l c) ≤ length u) → Answers k l s d a d′ → length s ≤ length d → a .code ≢ 14
   room-enough f (long h e g) m z = omega (arith, code-of a tooLong e)
-  room-enough f (bytes h u n q e g) m z = omega (arith, code-of a (notUtf8 n) e)
+  room-enough f (badBytes h u n q e g) m z = omega (arith, code-of a (notUtf8 n) e)
   room-enough f (markup h u v n q e g) m z = omega (arith, code-of a (notHouseXml n) e)
   room-enough f (violation w q g) m z = omega (arith, violation-code (k .types) l (messageIn w) a q)
   room-enough f (room c w h e g) m z = omega (arith, f s c w)
-  room-enough f (image c w h e g) m z = omega (arith, code-of a (accepted (length (imageOf k l c))) e)
+  room-enough f (imaged c w h e g) m z = omega (arith, code-of a (accepted (length (imageOf k l c))) e)

@@ -9,11 +9,11 @@ use Rattle.answer.specs.declared.Answer.{Answer}
 use Rattle.answer.specs.Table as table
 use Rattle.text.specs.Bytes.{isBlank}
 use Rattle.list.specs.Listing.{Kind, group, choice, leaf, Listing, child, isGroup, isChoice}
-use Rattle.xml.specs.Message.{Attrs, Parts, none, char, element}
+use Rattle.xml.specs.Message.{Attrs, Inside, nothingInside, character, element}
 use Rattle.file_walk.specs.declared.found.Found.{Found}
 use Rattle.file_walk.specs.declared.found.Found.the-variants.{Fine, Violation}
 use Rattle.file_walk.specs.Types.{Types, Judge}
-use Rattle.file_walk.specs.First.{First, refuse, orElse, empty, passed, breaks, textOf, currency, attrsOk, kindOf, isRoot, over, absent, childRows, opening, groupEnd, closing, inside, firstViolation}
+use Rattle.file_walk.specs.First.{First, refuse, orElse, isEmpty, passed, breaks, textOf, currencyGiven, attrsOk, kindOf, isRoot, overCount, absentRow, childRows, opening, groupEnd, closing, inside, firstViolation}
 
 -- a code from 4 to 13, with row 1 of 4
 abbrev pub Line : Answer → Type 0
@@ -41,26 +41,26 @@ module _ (j : Judge) (l : Listing) where
   opening-coded p seen r ats o =
       later (eqb r 0) (table.notAChild p o) _ (omega arith) (omega arith)
       (later (not (isChoice (kindOf l p)) && passed r seen) (table.outOfOrder r o) _ (omega arith) (omega arith)
-      (later (over l (kindOf l p) seen r) (table.tooMany r o) _ (omega arith) (omega arith)
+      (later (overCount l (kindOf l p) seen r) (table.tooMany r o) _ (omega arith) (omega arith)
       (later (not (attrsOk j (kindOf l r) ats)) (table.wrongAttributes r o) Fine (omega arith) (omega arith) tt)))
 
   group-coded : (r o : ℕ) (rs : List ℕ) → Coded (groupEnd j l r o rs)
   group-coded r o rs =
-      later (empty rs) (table.empty r o) _ (omega arith) (omega arith)
-      (later (ltb 0 (absent l r rs)) (table.absent (absent l r rs) o) _ (omega arith) (omega arith)
+      later (isEmpty rs) (table.empty r o) _ (omega arith) (omega arith)
+      (later (ltb 0 (absentRow l r rs)) (table.absent (absentRow l r rs) o) _ (omega arith) (omega arith)
       (later (breaks r rs (l .rules)) (table.ruleBroken r o) Fine (omega arith) (omega arith) tt))
 
   closing-coded : (k : Kind) (r o : ℕ) (ats : Attrs) (rs cs : List ℕ) → Coded (closing j l k r o ats rs cs)
   closing-coded group r o ats rs cs = group-coded r o rs
   closing-coded choice r o ats rs cs = group-coded r o rs
   closing-coded (leaf k) r o ats rs cs =
-      later (empty cs) (table.empty r o) _ (omega arith) (omega arith)
-      (later (not (j k (currency ats) cs)) (table.badValue r o) Fine (omega arith) (omega arith) tt)
+      later (isEmpty cs) (table.empty r o) _ (omega arith) (omega arith)
+      (later (not (j k (currencyGiven ats) cs)) (table.badValue r o) Fine (omega arith) (omega arith) tt)
 
-  inside-coded : (m : Parts) (p : ℕ) (seen : List ℕ) → Coded (inside j l p seen m)
+  inside-coded : (m : Inside) (p : ℕ) (seen : List ℕ) → Coded (inside j l p seen m)
   unfolding inside
-  inside-coded none p seen = tt
-  inside-coded (char o x m) p seen =
+  inside-coded nothingInside p seen = tt
+  inside-coded (character o x m) p seen =
       later (isGroup (kindOf l p) && not (isBlank x)) (table.textInGroup p o) _ (omega arith) (omega arith)
       (or-coded (inside j l p seen m) Fine (inside-coded m p seen) tt)
   inside-coded (element o n ats i m) p seen =
@@ -70,15 +70,15 @@ module _ (j : Judge) (l : Listing) where
       (or-coded (closing j l (kindOf l r) r o ats (childRows l r i) (textOf i)) _ (closing-coded (kindOf l r) r o ats (childRows l r i) (textOf i))
       (or-coded (inside j l p (r ∷ seen) m) Fine (inside-coded m p (r ∷ seen)) tt)))
 
-  coded : (m : Parts) → Coded (firstViolation j l m)
+  coded : (m : Inside) → Coded (firstViolation j l m)
   unfolding firstViolation
-  coded none = tt
-  coded (char o x m) = tt
+  coded nothingInside = tt
+  coded (character o x m) = tt
   coded (element o n ats i m) =
       test-coded (not (isRoot l n ats)) (table.wrongRoot o) _ (omega arith, omega arith, λ e. refl)
       (or-coded (inside j l 1 [] i) _ (inside-coded i 1 [])
       (or-coded (closing j l (kindOf l 1) 1 o ats (childRows l 1 i) (textOf i)) Fine (closing-coded (kindOf l 1) 1 o ats (childRows l 1 i) (textOf i)) tt))
 
 -- what is found first in a message has a code from 4 to 13, and row 1 where it is 4
-pub violation-code : (t : Types) (l : Listing) (m : Parts) (a : Answer) → First t l m (Violation a) → (4 ≤ a .code) × (a .code ≤ 13) × (a .code ≡ 4 → a .row ≡ 1)
+pub violation-code : (t : Types) (l : Listing) (m : Inside) (a : Answer) → First t l m (Violation a) → (4 ≤ a .code) × (a .code ≤ 13) × (a .code ≡ 4 → a .row ≡ 1)
 violation-code t l m a f = subst Coded (f .is) (coded (f .judge) l m)

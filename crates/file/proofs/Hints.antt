@@ -9,10 +9,10 @@ use Rattle.text_characters.specs.Pieces.{spell, resolved, resolvedAll}
 use Rattle.list.specs.Listing.{Kind, group, choice, leaf, Listing, rowAt}
 use Rattle.list.specs.WellFormed.{WellFormed}
 use Rattle.list.specs.Content.{Content, end, value, node}
-use Rattle.xml.specs.House.{Attr, Tag, tag, Content as Tags, end as over, piece, empty, full, render, OneElement, Tree}
-use Rattle.xml.specs.Message.{Attrs, Parts, attrsOf, partsOf, rootAt}
+use Rattle.xml.specs.House.{Attr, Tag, tag, Markup as Tags, noMore as over, piece, emptyTag, full, render, OneElement, Tree}
+use Rattle.xml.specs.Message.{Attrs, Inside, attrsOf, partsOf, rootAt}
 use Rattle.file_walk.specs.Types.{Types, Spelling}
-use Rattle.file_walk.specs.First.{textOf, isHint, unhinted, bound, currency}
+use Rattle.file_walk.specs.First.{textOf, isHint, unhinted, bound, currencyGiven}
 use Rattle.file_walk.specs.Denotes.{plain, RootAttrs, Spells, Denotes, Has}
 use Rattle.file.specs.Instance.{Kinds}
 use Rattle.file.specs.File.{Whole, messageIn, File, imageOf}
@@ -24,29 +24,29 @@ use Rattle.file.proofs.One.{content-one}
 plain-moved : (i : Tags) (o o′ : ℕ) → plain (partsOf o i) ≡ plain (partsOf o′ i)
 plain-moved over o o′ = refl
 plain-moved (piece p i) o o′ = plain-moved i (o + length (spell p)) (o′ + length (spell p))
-plain-moved (empty t i) o o′ = refl
+plain-moved (emptyTag t i) o o′ = refl
 plain-moved (full t j g i) o o′ = refl
 
 text-moved : (i : Tags) (o o′ : ℕ) → textOf (partsOf o i) ≡ textOf (partsOf o′ i)
 text-moved over o o′ = refl
 text-moved (piece p i) o o′ = ap (λ (cs : List ℕ). resolved p ∷ cs) (text-moved i (o + length (spell p)) (o′ + length (spell p)))
-text-moved (empty t i) o o′ = text-moved i (o + length (render (empty t over))) (o′ + length (render (empty t over)))
+text-moved (emptyTag t i) o o′ = text-moved i (o + length (render (emptyTag t over))) (o′ + length (render (emptyTag t over)))
 text-moved (full t j g i) o o′ = text-moved i (o + length (render (full t j g over))) (o′ + length (render (full t j g over)))
 
 module _ (t : Types) (l : Listing) where
   spells-moved : (k : Kind) (ats : Attrs) (i : Tags) (o o′ : ℕ) (v : t .A) → Spells t l k ats (partsOf o i) v → Spells t l k ats (partsOf o′ i) v
   spells-moved group ats i o o′ v h = h
   spells-moved choice ats i o o′ v h = h
-  spells-moved (leaf f) ats i o o′ v h = (plain-moved i o′ o ∙ h .0, h .1, subst (λ (cs : List ℕ). t .Spelt f (currency ats) cs v) (text-moved i o o′) (h .2))
+  spells-moved (leaf f) ats i o o′ v h = (plain-moved i o′ o ∙ h .0, h .1, subst (λ (cs : List ℕ). t .Spelt f (currencyGiven ats) cs v) (text-moved i o o′) (h .2))
 
   denotes-moved : (i : Tags) (o o′ p : ℕ) (c : Content (t .A)) → Denotes t l p (partsOf o i) c → Denotes t l p (partsOf o′ i) c
   denotes-moved over o o′ p c h = h
   denotes-moved (piece x i) o o′ p c h = (h .0, denotes-moved i (o + length (spell x)) (o′ + length (spell x)) p c (h .1))
-  denotes-moved (empty g i) o o′ p end h = absurd h
-  denotes-moved (empty g i) o o′ p (value r v c) h =
-      (h .0, h .1, denotes-moved i (o + length (render (empty g over))) (o′ + length (render (empty g over))) p c (h .2))
-  denotes-moved (empty g i) o o′ p (node r d c) h =
-      (h .0, h .1, h .2, denotes-moved i (o + length (render (empty g over))) (o′ + length (render (empty g over))) p c (h .3))
+  denotes-moved (emptyTag g i) o o′ p end h = absurd h
+  denotes-moved (emptyTag g i) o o′ p (value r v c) h =
+      (h .0, h .1, denotes-moved i (o + length (render (emptyTag g over))) (o′ + length (render (emptyTag g over))) p c (h .2))
+  denotes-moved (emptyTag g i) o o′ p (node r d c) h =
+      (h .0, h .1, h .2, denotes-moved i (o + length (render (emptyTag g over))) (o′ + length (render (emptyTag g over))) p c (h .3))
   denotes-moved (full g j b i) o o′ p end h = absurd h
   denotes-moved (full g j b i) o o′ p (value r v c) h = (
     h .0,
@@ -78,7 +78,7 @@ attrs-moved space g g′ e b h =
 
 -- ---- messages and files
 
-empty-tag : (g g′ : Tag) (k k′ : Tags) → empty g k ≡ empty g′ k′ → g ≡ g′
+empty-tag : (g g′ : Tag) (k k′ : Tags) → emptyTag g k ≡ emptyTag g′ k′ → g ≡ g′
 empty-tag g g′ k k′ e = cc
 
 full-tag : (g g′ : Tag) (i i′ : Tags) (b b′ : List ℕ) (k k′ : Tags) → full g i b k ≡ full g′ i′ b′ k′ → g ≡ g′
@@ -88,24 +88,24 @@ full-inside : (g g′ : Tag) (i i′ : Tags) (b b′ : List ℕ) (k k′ : Tags)
 full-inside g g′ i i′ b b′ k k′ e = cc
 
 module _ (t : Types) (l : Listing) where
-  has-bound : (m : Parts) (c : Content (t .A)) → Has t l m c → bound (rootOf m) ≡ true
-  has-bound Parts.none c h = absurd h
-  has-bound (Parts.char o x k) c h = absurd h
-  has-bound (Parts.element o n ats i k) c h = h .attrs .tied
+  has-bound : (m : Inside) (c : Content (t .A)) → Has t l m c → bound (rootOf m) ≡ true
+  has-bound Inside.nothingInside c h = absurd h
+  has-bound (Inside.character o x k) c h = absurd h
+  has-bound (Inside.element o n ats i k) c h = h .attrs .tied
 
   has-moved : (r r′ : Tags) (o o′ : ℕ) (c : Content (t .A)) → bareRoot r ≡ bareRoot r′ → OneElement r′ → bound (rootOf (partsOf o′ r′)) ≡ true
       → Has t l (partsOf o r) c → Has t l (partsOf o′ r′) c
   has-moved over r′ o o′ c e one b h = absurd h
   has-moved (piece p k) r′ o o′ c e one b h = absurd h
-  has-moved (empty g k) over o o′ c e one b h = absurd one
-  has-moved (empty g k) (piece p k′) o o′ c e one b h = absurd one
-  has-moved (empty g k) (full g′ i′ b′ k′) o o′ c e one b h = let z : _≡_ {A = ℕ} 0 1 = cc in absurd (omega arith)
-  has-moved (empty g k) (empty g′ k′) o o′ c e one b h =
+  has-moved (emptyTag g k) over o o′ c e one b h = absurd one
+  has-moved (emptyTag g k) (piece p k′) o o′ c e one b h = absurd one
+  has-moved (emptyTag g k) (full g′ i′ b′ k′) o o′ c e one b h = let z : _≡_ {A = ℕ} 0 1 = cc in absurd (omega arith)
+  has-moved (emptyTag g k) (emptyTag g′ k′) o o′ c e one b h =
       let z = empty-tag (bareTag g) (bareTag g′) k k′ e in
       record { name = h .name ∙ ap (λ (x : Tag). x .name) z; attrs = attrs-moved (l .space) g g′ z b (h .attrs); alone = ap (partsOf _) one; kids = h .kids; is = h .is; parts = h .parts }
   has-moved (full g i d k) over o o′ c e one b h = absurd one
   has-moved (full g i d k) (piece p k′) o o′ c e one b h = absurd one
-  has-moved (full g i d k) (empty g′ k′) o o′ c e one b h = let z : _≡_ {A = ℕ} 0 1 = cc in absurd (omega arith)
+  has-moved (full g i d k) (emptyTag g′ k′) o o′ c e one b h = let z : _≡_ {A = ℕ} 0 1 = cc in absurd (omega arith)
   has-moved (full g i d k) (full g′ i′ d′ k′) o o′ c e one b h =
       let z = full-tag (bareTag g) (bareTag g′) i i′ d d′ k k′ e in
       let w = full-inside (bareTag g) (bareTag g′) i i′ d d′ k k′ e in

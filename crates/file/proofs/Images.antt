@@ -12,7 +12,7 @@ use Rattle.list.specs.WellFormed.{WellFormed}
 use Rattle.list.specs.Within.{Kept}
 use Rattle.list.proofs.Within.{meets-within}
 use Rattle.image.specs.Image.{Lawful, header, body, image}
-use Rattle.image.specs.Place.{now, Accepts, Reads, whole}
+use Rattle.image.specs.Place.{current, Accepts, Reads, wholeImage}
 use Rattle.image.proofs.content.Within.{image-within}
 use Rattle.image.proofs.content.Images.{told}
 use Rattle.file.specs.Instance.{Kinds, valuesOf}
@@ -55,7 +55,7 @@ module _ (k : Kinds) (l : Listing) where
         list = w .list;
         among = w .among;
         head = header (w .list);
-        front = now refl;
+        front = current refl;
         behind = bodyOf ++ u;
         at = ap (λ (x : List ℕ). x ++ u) (written k l s d a d′ t ∙ same-image) ∙ append-assoc (header (w .list)) bodyOf u;
         size = length bodyOf;
@@ -69,4 +69,4 @@ module _ (k : Kinds) (l : Listing) where
 
       -- the reader's answer for it is check's, whatever follows within the limit
       pub read-alike : length (take (a .place) d′ ++ u) ≤ limit → Reads (valuesOf k) ls (take (a .place) d′ ++ u) a
-      read-alike h = whole h (a .place) reads-back (t .is ∙ ap accepted (sym long-is))
+      read-alike h = wholeImage h (a .place) reads-back (t .is ∙ ap accepted (sym long-is))

@@ -12,13 +12,13 @@ use Rattle.text_characters.proofs.Spelling.{spells-none}
 use Rattle.list.specs.Listing.{Leaf, ref, iban, ccy, bool, num, amt, date, dtm, txt, enum, Kind, group, choice, leaf, Listing, rowAt}
 use Rattle.list.specs.WellFormed.{LeafOk, KindOk, WellFormed}
 use Rattle.list.specs.Content.{Content, end, value, node, items}
-use Rattle.xml.specs.House.{IsName, mark, Attr, attr, attrs, Tag, tag, GoodTag, Content as Tags, end as over, piece, empty, full, render, Good, OneElement, declaration, whole}
-use Rattle.xml.specs.Message.{Attrs, Parts, attrsOf, partsOf, rootAt}
+use Rattle.xml.specs.House.{IsName, mark, Attr, attr, attrs, Tag, tag, GoodTag, Markup as Tags, noMore as over, piece, emptyTag, full, render, GoodMarkup, OneElement, declaration, whole}
+use Rattle.xml.specs.Message.{Attrs, Inside, attrsOf, partsOf, rootAt}
 use Rattle.value.specs.Laws.{extra}
 use Rattle.file_walk.specs.Types.{Spelling}
-use Rattle.file_walk.specs.First.{textOf, isHint, unhinted, currency}
+use Rattle.file_walk.specs.First.{textOf, isHint, unhinted, currencyGiven}
 use Rattle.file_walk.specs.Denotes.{plain, LeafAttrs, Spells as Holds, Denotes, Has}
-use Rattle.image.specs.Image.{Item, header, valueBytes, itemBytes, bytes, image}
+use Rattle.image.specs.Image.{Item, header, valueBytes, itemBytes, itemsBytes, image}
 use Rattle.image.proofs.answers.Heads.{header-length}
 use Rattle.file.specs.Instance.{Kinds, valuesOf}
 use Rattle.file.specs.File.{File, imageOf}
@@ -50,7 +50,7 @@ attr-long a =
 tag-long : (t : Tag) → length (t .name) + length (attrs (t .attributes)) ≤ length (tag t)
 tag-long t = omega (arith, length-append (t .name) (attrs (t .attributes) ++ t .gap), length-append (attrs (t .attributes)) (t .gap))
 
-empty-long : (t : Tag) (k : Tags) → length (render (empty t k)) ≡ length (tag t) + 3 + length (render k)
+empty-long : (t : Tag) (k : Tags) → length (render (emptyTag t k)) ≡ length (tag t) + 3 + length (render k)
 empty-long t k = omega (arith, length-append (tag t) (solidus ∷ greater ∷ render k))
 
 full-long : (t : Tag) (i : Tags) (g : List ℕ) (k : Tags) → length (tag t) + length (t .name) + length (render i) + length (render k) + 5 ≤ length (render (full t i g k))
@@ -75,7 +75,7 @@ sole (a ∷ as′) n v e = go (isHint (a .name)) e (sole as′ n v)
 
 -- ---- a leaf's text
 
-leaf-text : (i : Tags) (d o : ℕ) → Good d i → plain (partsOf o i) ≡ true → Spells (render i) (textOf (partsOf o i))
+leaf-text : (i : Tags) (d o : ℕ) → GoodMarkup d i → plain (partsOf o i) ≡ true → Spells (render i) (textOf (partsOf o i))
 leaf-text over d o g p = spells-none
 leaf-text (piece x i) d o g p =
     let w = leaf-text i d (o + length (spell x)) (g .2) p in
@@ -85,20 +85,20 @@ leaf-text (piece x i) d o g p =
       is = ap (λ (u : List ℕ). spell x ++ u) (w .is);
       chars = ap (λ (u : List ℕ). resolved x ∷ u) (w .chars);
     }
-leaf-text (empty t k) d o g p = absurd (false≢true p)
+leaf-text (emptyTag t k) d o g p = absurd (false≢true p)
 leaf-text (full t j e k) d o g p = absurd (false≢true p)
 
 module _ (k : Kinds) (y : Spelling (k .types)) (l : Listing) (wf : WellFormed l) (nums : NumNames l)
     (short : (f : Leaf) (w s cs : List ℕ) (v : k .types .A) → LeafOk f → Spells s cs → k .types .Spelt f w cs v → length (k .bytes f v) ≤ length s + extra f) where
   -- how many bytes items have
   abbrev many : List (Item (valuesOf k)) → ℕ
-  many is = length (bytes (valuesOf k) l is)
+  many is = length (itemsBytes (valuesOf k) l is)
 
   many-append : (a b : List (Item (valuesOf k))) → many (a ++ b) ≡ many a + many b
   many-append [] b = omega arith
   many-append (i ∷ a) b =
       let x = itemBytes (valuesOf k) l i in
-      omega (arith, many-append a b, length-append x (bytes (valuesOf k) l (a ++ b)), length-append x (bytes (valuesOf k) l a))
+      omega (arith, many-append a b, length-append x (itemsBytes (valuesOf k) l (a ++ b)), length-append x (itemsBytes (valuesOf k) l a))
 
   no-value : (d : Kind) → valueBytes (valuesOf k) l d Option.none ≡ []
   no-value group = refl
@@ -108,11 +108,11 @@ module _ (k : Kinds) (y : Spelling (k .types)) (l : Listing) (wf : WellFormed l)
   node-many : (r : ℕ) (c e : Content (k .types .A)) → many (items (node r c e)) ≡ 1 + many (items c) + many (items e)
   node-many r c e =
       let x = valueBytes (valuesOf k) l (rowAt l r .kind) Option.none in
-      let z = bytes (valuesOf k) l (items c ++ items e) in
+      let z = itemsBytes (valuesOf k) l (items c ++ items e) in
       omega (arith, length-append x z, ap length (no-value (rowAt l r .kind)), many-append (items c) (items e))
 
   value-many : (r : ℕ) (v : k .types .A) (e : Content (k .types .A)) → many (items (value r v e)) ≡ 1 + length (valueBytes (valuesOf k) l (rowAt l r .kind) (Option.some v)) + many (items e)
-  value-many r v e = omega (arith, length-append (valueBytes (valuesOf k) l (rowAt l r .kind) (Option.some v)) (bytes (valuesOf k) l (items e)))
+  value-many r v e = omega (arith, length-append (valueBytes (valuesOf k) l (rowAt l r .kind) (Option.some v)) (itemsBytes (valuesOf k) l (items e)))
 
   -- an amount has its attribute
   currency-long : (as′ : List Attr) → LeafAttrs (k .types) amt (attrsOf as′) → 6 ≤ length (attrs as′)
@@ -135,7 +135,7 @@ module _ (k : Kinds) (y : Spelling (k .types)) (l : Listing) (wf : WellFormed l)
   covered (txt m) t n g e = omega arith
   covered (enum ws) t n g e = omega arith
 
-  leaf-short : (d : Kind) (t : Tag) (i : Tags) (m o : ℕ) (v : k .types .A) → KindOk d → (d ≡ leaf num → 2 ≤ length (t .name)) → GoodTag t → Good m i
+  leaf-short : (d : Kind) (t : Tag) (i : Tags) (m o : ℕ) (v : k .types .A) → KindOk d → (d ≡ leaf num → 2 ≤ length (t .name)) → GoodTag t → GoodMarkup m i
       → Holds (k .types) l d (attrsOf (t .attributes)) (partsOf o i) v → 1 + length (valueBytes (valuesOf k) l d (Option.some v)) ≤ length (tag t) + length (t .name) + length (render i) + 5
   leaf-short group t i m o v ok n g h s = absurd s
   leaf-short choice t i m o v ok n g h s = absurd s
@@ -143,16 +143,16 @@ module _ (k : Kinds) (y : Spelling (k .types)) (l : Listing) (wf : WellFormed l)
       omega (
         arith,
         covered f t (λ e. n (ap leaf e)) g (s .1),
-        short f (currency (attrsOf (t .attributes))) (render i) (textOf (partsOf o i)) v ok (leaf-text i m o h (s .0)) (s .2),
+        short f (currencyGiven (attrsOf (t .attributes))) (render i) (textOf (partsOf o i)) v ok (leaf-text i m o h (s .0)) (s .2),
       )
 
   -- the empty element spells no value
-  no-empty : (d : Kind) (ats : Attrs) (v : k .types .A) → KindOk d → Holds (k .types) l d ats Parts.none v → ⊥
+  no-empty : (d : Kind) (ats : Attrs) (v : k .types .A) → KindOk d → Holds (k .types) l d ats Inside.nothingInside v → ⊥
   no-empty group ats v ok s = s
   no-empty choice ats v ok s = s
-  no-empty (leaf f) ats v ok s = y .none f (currency ats) v ok (s .2)
+  no-empty (leaf f) ats v ok s = y .none f (currencyGiven ats) v ok (s .2)
 
-  none-end : (p : ℕ) (c : Content (k .types .A)) → Denotes (k .types) l p Parts.none c → many (items c) ≡ 0
+  none-end : (p : ℕ) (c : Content (k .types .A)) → Denotes (k .types) l p Inside.nothingInside c → many (items c) ≡ 0
   none-end p end h = refl
   none-end p (value r v c) h = absurd h
   none-end p (node r d c) h = absurd h
@@ -161,14 +161,14 @@ module _ (k : Kinds) (y : Spelling (k .types)) (l : Listing) (wf : WellFormed l)
   num-name r n e h = omega (arith, nums r h, ap length e)
 
   -- what stands in an element has no fewer bytes than the items that it is
-  weigh : (i : Tags) (d o p : ℕ) (c : Content (k .types .A)) → Good d i → Denotes (k .types) l p (partsOf o i) c → many (items c) ≤ length (render i)
+  weigh : (i : Tags) (d o p : ℕ) (c : Content (k .types .A)) → GoodMarkup d i → Denotes (k .types) l p (partsOf o i) c → many (items c) ≤ length (render i)
   weigh over d o p c g h = omega (arith, none-end p c h)
   weigh (piece x i) d o p c g h = omega (arith, weigh i d (o + length (spell x)) p c (g .2) (h .1), length-append (spell x) (render i))
-  weigh (empty t i) zero o p c g h = absurd g
-  weigh (empty t i) (suc d) o p end g h = absurd h
-  weigh (empty t i) (suc d) o p (value r v c) g h = absurd (no-empty (rowAt l r .kind) (attrsOf (t .attributes)) v (wf .kinds p r (h .0 .0)) (h .1))
-  weigh (empty t i) (suc d) o p (node r e c) g h =
-      omega (arith, node-many r e c, none-end r e (h .2), weigh i (suc d) (o + length (render (empty t over))) p c (g .1) (h .3), empty-long t i)
+  weigh (emptyTag t i) zero o p c g h = absurd g
+  weigh (emptyTag t i) (suc d) o p end g h = absurd h
+  weigh (emptyTag t i) (suc d) o p (value r v c) g h = absurd (no-empty (rowAt l r .kind) (attrsOf (t .attributes)) v (wf .kinds p r (h .0 .0)) (h .1))
+  weigh (emptyTag t i) (suc d) o p (node r e c) g h =
+      omega (arith, node-many r e c, none-end r e (h .2), weigh i (suc d) (o + length (render (emptyTag t over))) p c (g .1) (h .3), empty-long t i)
   weigh (full t j b i) zero o p c g h = absurd g
   weigh (full t j b i) (suc d) o p end g h = absurd h
   weigh (full t j b i) (suc d) o p (value r v c) g h =
@@ -191,13 +191,13 @@ module _ (k : Kinds) (y : Spelling (k .types)) (l : Listing) (wf : WellFormed l)
   image-many : (c e : Content (k .types .A)) → c ≡ node 1 e end → length (imageOf k l c) ≡ 7 + many (items e)
   unfolding image
   image-many c e h =
-      let x = bytes (valuesOf k) l (items c) in
+      let x = itemsBytes (valuesOf k) l (items c) in
       omega (arith, length-append (header l) (x ++ (0 ∷ [])), length-append x (0 ∷ []), header-length l, ap (λ (z : Content (k .types .A)). many (items z)) h, node-many 1 e end)
 
-  root-short : (i : Tags) (o : ℕ) (c : Content (k .types .A)) → OneElement i → Good 16 i → Has (k .types) l (partsOf o i) c → length (imageOf k l c) ≤ length (render i)
+  root-short : (i : Tags) (o : ℕ) (c : Content (k .types .A)) → OneElement i → GoodMarkup 16 i → Has (k .types) l (partsOf o i) c → length (imageOf k l c) ≤ length (render i)
   root-short over o c one g h = absurd one
   root-short (piece x i) o c one g h = absurd one
-  root-short (empty t i) o c one g h =
+  root-short (emptyTag t i) o c one g h =
       omega (arith, image-many c (h .kids) (h .is), none-end 1 (h .kids) (h .parts), empty-long t i, tag-long t, sole (t .attributes) (ascii "xmlns") (l .space) (h .attrs .besides))
   root-short (full t j b i) o c one g h =
       omega (

@@ -28,7 +28,7 @@ use Rattle.file_walk.specs.First.{First, firstViolation}
 use Rattle.file_walk.proofs.violation.Accept.{accept}
 use Rattle.file.specs.Instance.{Kinds, houseKinds}
 use Rattle.file.specs.File.{Whole, messageIn, File, imageOf}
-use Rattle.file.specs.Checks.{Answers, Checks, long, bytes, markup, violation, room, image}
+use Rattle.file.specs.Checks.{Answers, Checks, long, badBytes, markup, violation, room, imaged}
 use Rattle.file.proofs.House.{spelling, houseJudge, deciding}
 use Rattle.file.proofs.One.{answers-one}
 use Rattle.file_walk.proofs.bytes.Root.{one-element}
@@ -116,7 +116,7 @@ module _ (k : Kinds) (y : Spelling (k .types)) (j : Judge) (x : Decides (k .type
     | no h ↦ record {
       answer = accepted (length (imageOf k l c));
       buffer = imageOf k l c ++ drop (length (imageOf k l c)) d;
-      fits = image c f (omega arith) refl refl;
+      fits = imaged c f (omega arith) refl refl;
     }
   ]
 

@@ -24,7 +24,7 @@ use Rattle.list_house.specs.House.{house}
 use Rattle.list.specs.Test.{every as all, begins}
 use Rattle.list_house.proofs.HouseSound.{house-well}
 use Rattle.list.proofs.rows.Words.{same-eq}
-use Rattle.xml.specs.House.{double, Tag, Content, end, piece, empty, full, OneElement, whole}
+use Rattle.xml.specs.House.{double, Tag, Markup, noMore, piece, emptyTag, full, OneElement, whole}
 use Rattle.xml.specs.Message.{messageOf}
 use Rattle.xml.specs.mirror.Auto.{at, start, step, next, lead, run, liveLen}
 use Rattle.xml.proofs.Theorem.{longest, refused}
@@ -38,11 +38,11 @@ use Rattle.value.specs.Spell.{spell, frontOff, backOff, passesFrom, dayOf, frac
 use Rattle.value.specs.Value.{Value}
 use Rattle.file_walk.specs.declared.found.Found.{Found}
 use Rattle.file_walk.specs.declared.found.Found.the-variants.{Fine, Violation}
-use Rattle.file_walk.specs.First.{absent, childRows, inside, firstViolation}
+use Rattle.file_walk.specs.First.{absentRow, childRows, inside, firstViolation}
 use Rattle.file_walk.specs.mirror.Machine.{spellerOf, before, fresh, advance, emits}
 use Rattle.file_walk.proofs.violation.Accept.{accept}
 use Rattle.file_walk.proofs.events.Items.{items-are}
-use Rattle.image.specs.Image.{header, bytes, image}
+use Rattle.image.specs.Image.{header, itemsBytes, image}
 use Rattle.image.specs.Kinds.{values}
 use Rattle.file.specs.Instance.{houseTypes, houseKinds}
 use Rattle.file.specs.File.{Whole, File, imageOf}
@@ -58,7 +58,7 @@ use Rattle.file.proofs.Some.{isDone}
 
 -- how a file is shown: by its tree, or as no house XML
 data Way : Type 0 where
-  tree : Content → Way
+  tree : Markup → Way
   stray : Way
 
 abbrev sameAnswer : Answer → Answer → Bool
@@ -68,24 +68,24 @@ abbrev isNil : List ℕ → Bool
 isNil [] = true
 isNil (x ∷ xs) = false
 
-abbrev isEnd : Content → Bool
-isEnd end = true
+abbrev isEnd : Markup → Bool
+isEnd noMore = true
 isEnd (piece p k) = false
-isEnd (empty t k) = false
+isEnd (emptyTag t k) = false
 isEnd (full t i g k) = false
 
-abbrev oneTest : Content → Bool
-oneTest end = false
+abbrev oneTest : Markup → Bool
+oneTest noMore = false
 oneTest (piece p k) = false
-oneTest (empty t k) = isEnd k
+oneTest (emptyTag t k) = isEnd k
 oneTest (full t i g k) = isEnd k
 
 -- the first violation of a tree's message, and the image of the items that the walk hands out
-abbrev foundIn : Content → Found
+abbrev foundIn : Markup → Found
 foundIn i = firstViolation houseJudge house (messageOf (rootTree i))
 
-abbrev imageIn : Content → List ℕ
-imageIn i = header house ++ (bytes values house (emits (spellerOf houseTypes spell) house before (events (messageOf (rootTree i)) [])) ++ (0 ∷ []))
+abbrev imageIn : Markup → List ℕ
+imageIn i = header house ++ (itemsBytes values house (emits (spellerOf houseTypes spell) house before (events (messageOf (rootTree i)) [])) ++ (0 ∷ []))
 
 abbrev fits : Star → List ℕ → Buffers → Bool
 fits e x every = false
@@ -122,16 +122,16 @@ nil-is : (x : List ℕ) → isNil x ≡ true → x ≡ []
 nil-is [] t = refl
 nil-is (y ∷ x) t = absurd (false≢true t)
 
-end-is : (k : Content) → isEnd k ≡ true → k ≡ end
-end-is end t = refl
+end-is : (k : Markup) → isEnd k ≡ true → k ≡ noMore
+end-is noMore t = refl
 end-is (piece p k) t = absurd (false≢true t)
-end-is (empty g k) t = absurd (false≢true t)
+end-is (emptyTag g k) t = absurd (false≢true t)
 end-is (full g i h k) t = absurd (false≢true t)
 
-one-is : (i : Content) → oneTest i ≡ true → OneElement i
-one-is end t = absurd (false≢true t)
+one-is : (i : Markup) → oneTest i ≡ true → OneElement i
+one-is noMore t = absurd (false≢true t)
 one-is (piece p k) t = absurd (false≢true t)
-one-is (empty g k) t = end-is k t
+one-is (emptyTag g k) t = end-is k t
 one-is (full g i h k) t = end-is k t
 
 module _ (e : Star) (chars : asciiTest (e .file) ≡ true) (size : leb (length (e .file)) limit ≡ true) (d : List ℕ) where
@@ -142,7 +142,7 @@ module _ (e : Star) (chars : asciiTest (e .file) ≡ true) (size : leb (length (
   kept : isNil (e .image) ≡ true → left (e .image) ≡ d
   kept t = ap left (nil-is (e .image) t)
 
-  module _ (i : Content) (good : contentTest 16 i ≡ true) (one : OneElement i) (is : e .file ≡ whole (rootTree i)) where
+  module _ (i : Markup) (good : contentTest 16 i ≡ true) (one : OneElement i) (is : e .file ≡ whole (rootTree i)) where
     file : Whole (e .file)
     file = record { size = leb-true (length (e .file)) limit size; utf8 = ascii-utf8 (e .file) chars; xml = record { tree = rootTree i; good = tree-good i good one; is = is } }
 
@@ -159,7 +159,7 @@ module _ (e : Star) (chars : asciiTest (e .file) ≡ true) (size : leb (length (
         record {
           content = c .0;
           its = record { whole = file; has = c .2; meets = c .1 };
-          pictured = ap (λ is′. header house ++ (bytes values house is′ ++ (0 ∷ []))) (sym (items-are houseTypes spell computing house house-well (messageOf (rootTree i)) (c .0) (c .2)));
+          pictured = ap (λ is′. header house ++ (itemsBytes values house is′ ++ (0 ∷ []))) (sym (items-are houseTypes spell computing house house-well (messageOf (rootTree i)) (c .0) (c .2)));
         }
 
     fits-shown : foundIn i ≡ Fine → (b : Buffers) → Lent b d → fits e (imageIn i) b ≡ true → Checks (e .file) d (e .answer) (left (e .image))
@@ -169,7 +169,7 @@ module _ (e : Star) (chars : asciiTest (e .file) ≡ true) (size : leb (length (
         let n : length (imageOf houseKinds house (r .content)) ≡ length (imageIn i) = ap length (r .pictured) in
         let o = and-is (leb (length (imageIn i)) m) (sameAnswer (e .answer) (accepted (length (imageIn i))) && same (e .image) (imageIn i)) t in
         let a = and-is (sameAnswer (e .answer) (accepted (length (imageIn i)))) (same (e .image) (imageIn i)) (o .1) in
-        checks.image (r .content) (r .its) (omega (arith, n, h, leb-true (length (imageIn i)) m (o .0))) (same-answer (e .answer) (accepted (length (imageIn i))) (a .0) ∙ ap accepted (sym n))
+        checks.imaged (r .content) (r .its) (omega (arith, n, h, leb-true (length (imageIn i)) m (o .0))) (same-answer (e .answer) (accepted (length (imageIn i))) (a .0) ∙ ap accepted (sym n))
         (ap left (same-eq (e .image) (imageIn i) (a .1) ∙ sym (r .pictured)))
     fits-shown z (under m) h t =
         let r = right z in
@@ -214,8 +214,8 @@ abbrev pieces : List ℕ → List Piece
 pieces [] = []
 pieces (x ∷ xs) = char x ∷ pieces xs
 
-abbrev text : List ℕ → Content
-text [] = end
+abbrev text : List ℕ → Markup
+text [] = noMore
 text (x ∷ xs) = piece (char x) (text xs)
 
 abbrev named : String → Tag
@@ -225,21 +225,21 @@ named n = record { name = ascii n; attributes = []; gap = [] }
 abbrev marked : String → String → String → Tag
 marked n a v = record { name = ascii n; attributes = record { gap = 32 ∷ []; name = ascii a; before = []; after = []; quote = double; value = pieces (ascii v) } ∷ []; gap = [] }
 
-abbrev element : String → Content → Content → Content
+abbrev element : String → Markup → Markup → Markup
 element n i k = full (named n) i [] k
 
-abbrev leaf : String → String → Content → Content
+abbrev leaf : String → String → Markup → Markup
 leaf n v k = element n (text (ascii v)) k
 
-abbrev statementTreeAt : String → String → String → Content
+abbrev statementTreeAt : String → String → String → Markup
 statementTreeAt t m a =
     full (marked "Document" "xmlns" "urn:iso:std:iso:20022:tech:xsd:camt.053.001.08")
-    (element "BkToCstmrStmt" (element "GrpHdr" (leaf "MsgId" m (leaf "CreDtTm" t end))
-    (element "Stmt" (leaf "Id" "S1" (element "Acct" (element "Id" (element "Othr" (leaf "Id" "9" end) end) end)
-    (element "Bal" (element "Tp" (element "CdOrPrtry" (leaf "Cd" "CLBD" end) end)
-    (full (marked "Amt" "Ccy" "EUR") (text (ascii a)) [] (leaf "CdtDbtInd" "CRDT" (element "Dt" (leaf "Dt" "2024-02-29" end) end)))) end))) end)) end) [] end
+    (element "BkToCstmrStmt" (element "GrpHdr" (leaf "MsgId" m (leaf "CreDtTm" t noMore))
+    (element "Stmt" (leaf "Id" "S1" (element "Acct" (element "Id" (element "Othr" (leaf "Id" "9" noMore) noMore) noMore)
+    (element "Bal" (element "Tp" (element "CdOrPrtry" (leaf "Cd" "CLBD" noMore) noMore)
+    (full (marked "Amt" "Ccy" "EUR") (text (ascii a)) [] (leaf "CdtDbtInd" "CRDT" (element "Dt" (leaf "Dt" "2024-02-29" noMore) noMore)))) noMore))) noMore)) noMore) [] noMore
 
-abbrev statementTree : String → String → Content
+abbrev statementTree : String → String → Markup
 statementTree m a = statementTreeAt "2024-03-01T06:00:00Z" m a
 
 abbrev amount : String → Way
@@ -247,14 +247,14 @@ amount a = tree (statementTree "M1" a)
 
 unfoldable ways : List Way
 ways =
-    stray ∷ stray ∷ tree (empty (named "Document") end) ∷
+    stray ∷ stray ∷ tree (emptyTag (named "Document") noMore) ∷
     amount "1250.50" ∷ amount "-0.00" ∷ amount ".5" ∷ amount "0.000010" ∷ amount "999999999999999999" ∷
     amount "0.000001" ∷ amount "1000000000000000000" ∷ amount "." ∷
     tree (statementTree "A/B" "5.00") ∷ tree (statementTree "A//B" "5.00") ∷ amount "5.00" ∷ amount "5.00" ∷ []
 
 -- every row of the table shows
 pub all-stars : Each Shows stars
-unfolding stars liveLen run step next lead all begins encode isBlank isCapital isDigit isLetter isNameStart isNamePart firstViolation inside childRows absent child firstFrom same rowAt house xor decimalFrom isRef isTxt textFrom readOf signedOf pointOf wholeOf fracOf judged spell frontOff backOff passesFrom placeFrom dayOf fractionOf zoneOf momentOf header bigEndian fresh advance emits nextDue firstOf secondOf ways
+unfolding stars liveLen run step next lead all begins encode isBlank isCapital isDigit isLetter isNameStart isNamePart firstViolation inside childRows absentRow child firstFrom same rowAt house xor decimalFrom isRef isTxt textFrom readOf signedOf pointOf wholeOf fracOf judged spell frontOff backOff passesFrom placeFrom dayOf fractionOf zoneOf momentOf header bigEndian fresh advance emits nextDue firstOf secondOf ways
 all-stars = shown stars ways refl
 
 -- date-times
@@ -268,5 +268,5 @@ moments =
     time "2024-03-01T06:00:00.12Z" ∷ time "2024-03-01T06:00:00.120Z" ∷ time "2024-03-01T06:00:00.120000Z" ∷ []
 
 pub all-times : Each Shows times
-unfolding times liveLen run step next lead all begins encode isBlank isCapital isDigit isLetter isNameStart isNamePart firstViolation inside childRows absent child firstFrom same rowAt house xor decimalFrom isRef isTxt textFrom readOf signedOf pointOf wholeOf fracOf judged spell frontOff backOff passesFrom placeFrom dayOf fractionOf zoneOf momentOf header bigEndian fresh advance emits nextDue firstOf secondOf moments
+unfolding times liveLen run step next lead all begins encode isBlank isCapital isDigit isLetter isNameStart isNamePart firstViolation inside childRows absentRow child firstFrom same rowAt house xor decimalFrom isRef isTxt textFrom readOf signedOf pointOf wholeOf fracOf judged spell frontOff backOff passesFrom placeFrom dayOf fractionOf zoneOf momentOf header bigEndian fresh advance emits nextDue firstOf secondOf moments
 all-times = shown times moments refl

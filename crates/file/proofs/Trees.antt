@@ -15,7 +15,7 @@ use Rattle.text.proofs.Classes.{and-is}
 use Rattle.list.specs.Test.{every, begins}
 use Rattle.list.proofs.sound.Tests.{clash}
 use Rattle.list.proofs.sound.Sound.{every-is, begins-is}
-use Rattle.xml.specs.House.{Quote, mark, GoodValue, IsAttrName, Attr, GoodAttr, GoodAttrs, Tag, GoodTag, Content, end, piece, empty, full, cut, Good, OneElement, Tree, GoodTree}
+use Rattle.xml.specs.House.{Quote, mark, GoodValue, IsAttrName, Attr, GoodAttr, GoodAttrs, Tag, GoodTag, Markup, noMore, piece, emptyTag, full, cut, GoodMarkup, OneElement, Tree, GoodTree}
 
 pub not-is : (b : Bool) → not b ≡ true → b ≡ false
 not-is true e = absurd (false≢true e)
@@ -95,22 +95,22 @@ tag-good t e =
     let q = and-is (attrsTest (t .attributes)) (every isBlank (t .gap)) (p .1) in
     record { name = begins-is isNameStart isNamePart (t .name) (p .0); attributes = attrs-good (t .attributes) (q .0); gap = every-is isBlank (t .gap) (q .1) }
 
-abbrev pub contentTest : ℕ → Content → Bool
-contentTest d end = true
+abbrev pub contentTest : ℕ → Markup → Bool
+contentTest d noMore = true
 contentTest d (piece p k) = pieceTest p && (not (cut (piece p k)) && contentTest d k)
-contentTest zero (empty t k) = false
-contentTest (suc d) (empty t k) = tagTest t && contentTest (suc d) k
+contentTest zero (emptyTag t k) = false
+contentTest (suc d) (emptyTag t k) = tagTest t && contentTest (suc d) k
 contentTest zero (full t i g k) = false
 contentTest (suc d) (full t i g k) = tagTest t && (contentTest d i && (every isBlank g && contentTest (suc d) k))
 
-content-good : (i : Content) (d : ℕ) → contentTest d i ≡ true → Good d i
-content-good end d e = tt
+content-good : (i : Markup) (d : ℕ) → contentTest d i ≡ true → GoodMarkup d i
+content-good noMore d e = tt
 content-good (piece p k) d e =
     let a = and-is (pieceTest p) (not (cut (piece p k)) && contentTest d k) e in
     let b = and-is (not (cut (piece p k))) (contentTest d k) (a .1) in
     (piece-good p (a .0), not-is (cut (piece p k)) (b .0), content-good k d (b .1))
-content-good (empty t k) zero e = absurd (false≢true e)
-content-good (empty t k) (suc d) e = let a = and-is (tagTest t) (contentTest (suc d) k) e in (tag-good t (a .0), content-good k (suc d) (a .1))
+content-good (emptyTag t k) zero e = absurd (false≢true e)
+content-good (emptyTag t k) (suc d) e = let a = and-is (tagTest t) (contentTest (suc d) k) e in (tag-good t (a .0), content-good k (suc d) (a .1))
 content-good (full t i g k) zero e = absurd (false≢true e)
 content-good (full t i g k) (suc d) e =
     let a = and-is (tagTest t) (contentTest d i && (every isBlank g && contentTest (suc d) k)) e in
@@ -119,10 +119,10 @@ content-good (full t i g k) (suc d) e =
     (tag-good t (a .0), content-good i d (b .0), every-is isBlank g (c .0), content-good k (suc d) (c .1))
 
 -- one element, with nothing around it
-abbrev pub rootTree : Content → Tree
+abbrev pub rootTree : Markup → Tree
 rootTree i = record { declared = false; before = []; root = i; after = [] }
 
-pub tree-good : (i : Content) → contentTest 16 i ≡ true → OneElement i → GoodTree (rootTree i)
+pub tree-good : (i : Markup) → contentTest 16 i ≡ true → OneElement i → GoodTree (rootTree i)
 tree-good i e one = record { before = tt; one = one; root = content-good i 16 e; after = tt }
 
 -- ---- ASCII is UTF-8

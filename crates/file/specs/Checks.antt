@@ -21,7 +21,7 @@ module _ (k : Kinds) (l : Listing) where
     -- 1: "input over 1,048,576 bytes", place 1048576
     long : limit < length s → a ≡ tooLong → d′ ≡ d → Answers s d a d′
     -- 2: "not UTF-8", "start of first bad sequence"
-    bytes : length s ≤ limit → (Utf8 s → ⊥) → (n : ℕ) → LongestUtf8 s n → a ≡ notUtf8 n → d′ ≡ d → Answers s d a d′
+    badBytes : length s ≤ limit → (Utf8 s → ⊥) → (n : ℕ) → LongestUtf8 s n → a ≡ notUtf8 n → d′ ≡ d → Answers s d a d′
     -- 3: "not house XML", "most leading bytes that still begin some house XML text"
     markup : length s ≤ limit → Utf8 s → (HouseXml s → ⊥) → (n : ℕ) → Longest s n → a ≡ notHouseXml n → d′ ≡ d → Answers s d a d′
     -- 4 to 13: "then the message is walked in document order and the first violation is the answer"
@@ -29,7 +29,7 @@ module _ (k : Kinds) (l : Listing) where
     -- 14: "valid, but image longer than the buffer", row 0, "bytes needed"; "14 comes last"
     room : (c : Content (k .types .A)) → File k l s c → length d < length (imageOf k l c) → a ≡ noRoom (length (imageOf k l c)) → d′ ≡ d → Answers s d a d′
     -- "Acceptance is 0, row 0, image length; bytes of the result buffer beyond the image stay"
-    image : (c : Content (k .types .A)) → File k l s c → length (imageOf k l c) ≤ length d → a ≡ accepted (length (imageOf k l c))
+    imaged : (c : Content (k .types .A)) → File k l s c → length (imageOf k l c) ≤ length d → a ≡ accepted (length (imageOf k l c))
         → d′ ≡ imageOf k l c ++ drop (length (imageOf k l c)) d → Answers s d a d′
 
 -- with document 01's types and its house list

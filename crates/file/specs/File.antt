@@ -7,7 +7,7 @@ use Rattle.text_characters.specs.Utf8.{Utf8}
 use Rattle.list.specs.Listing.{Listing}
 use Rattle.list.specs.Content.{Content, Meets}
 use Rattle.xml.specs.House.{HouseXml}
-use Rattle.xml.specs.Message.{Parts, messageOf}
+use Rattle.xml.specs.Message.{Inside, messageOf}
 use Rattle.file_walk.specs.Denotes.{Has}
 use Rattle.image.specs.Image.{image}
 use Rattle.file.specs.Instance.{Kinds, valuesOf}
@@ -19,7 +19,7 @@ pub record Whole (s : List ℕ) : Type 0 where
   pub xml : HouseXml s
 
 -- its message: what its tree holds, with the place of each `<` and of each character
-abbrev pub messageIn : {s : List ℕ} → Whole s → Parts
+abbrev pub messageIn : {s : List ℕ} → Whole s → Inside
 messageIn w = messageOf (w .xml .tree)
 
 module _ (k : Kinds) (l : Listing) where

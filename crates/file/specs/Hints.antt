@@ -3,8 +3,8 @@ use mathlib.Core.Path.{_≡_}
 use mathlib.Core.Bool.{cond}
 use mathlib.Core.List.{List, [], _∷_}
 use Prim.Native.Nat.{ℕ}
-use Rattle.xml.specs.House.{Attr, Tag, Content, end, piece, empty, full, Tree}
-use Rattle.xml.specs.Message.{Attrs, Parts, none, char, element}
+use Rattle.xml.specs.House.{Attr, Tag, Markup, noMore, piece, emptyTag, full, Tree}
+use Rattle.xml.specs.Message.{Attrs, Inside, nothingInside, character, element}
 use Rattle.file_walk.specs.First.{isHint}
 use Rattle.file.specs.File.{Whole}
 
@@ -16,10 +16,10 @@ bareAttrs (a ∷ more) = cond (isHint (a .name)) (bareAttrs more) (a ∷ bareAtt
 abbrev pub bareTag : Tag → Tag
 bareTag t = record { name = t .name; attributes = bareAttrs (t .attributes); gap = t .gap }
 
-abbrev pub bareRoot : Content → Content
-bareRoot end = end
+abbrev pub bareRoot : Markup → Markup
+bareRoot noMore = noMore
 bareRoot (piece p k) = piece p k
-bareRoot (empty t k) = empty (bareTag t) k
+bareRoot (emptyTag t k) = emptyTag (bareTag t) k
 bareRoot (full t i g k) = full (bareTag t) i g k
 
 abbrev pub bareTree : Tree → Tree
@@ -30,7 +30,7 @@ abbrev pub HintsAlone : {s s′ : List ℕ} → Whole s → Whole s′ → Type 
 HintsAlone w w′ = bareTree (w .xml .tree) ≡ bareTree (w′ .xml .tree)
 
 -- the attributes of a message's root
-abbrev pub rootOf : Parts → Attrs
-rootOf none = []
-rootOf (char o x k) = []
+abbrev pub rootOf : Inside → Attrs
+rootOf nothingInside = []
+rootOf (character o x k) = []
 rootOf (element o n ats i k) = ats

@@ -17,7 +17,7 @@ use Rattle.list_house.specs.mirror.HouseTable.{houseRows, housePool}
 use Rattle.value.specs.Value.{Value}
 use Rattle.file.specs.Instance.{houseKinds}
 use Rattle.file.specs.File.{File, imageOf}
-use Rattle.file.specs.Checks.{Checks, Finds, long, bytes, markup, violation, room, image}
+use Rattle.file.specs.Checks.{Checks, Finds, long, badBytes, markup, violation, room, imaged}
 use Rattle.file.proofs.House.{image-no-longer, good-fine}
 use Rattle.file.proofs.Accepted.{Taken, taken}
 use Rattle.file_measure.specs.Measured.{Faultless}
@@ -40,11 +40,11 @@ module _ (s : List ℕ) (a : Answer) (p : Finds s a) where
     where
       go : (d′ : List ℕ) → Checks s s a d′ → Checks s d a d
       go d′ (long h e f) = long h e refl
-      go d′ (bytes h u m q e f) = bytes h u m q e refl
+      go d′ (badBytes h u m q e f) = badBytes h u m q e refl
       go d′ (markup h u x m q e f) = markup h u x m q e refl
       go d′ (violation w q f) = violation w q refl
       go d′ (room c f h e g) = absurd (omega (arith, h, image-no-longer s c f))
-      go d′ (image c f h e g) = absurd (n (ap (λ (x : Answer). x .code) e))
+      go d′ (imaged c f h e g) = absurd (n (ap (λ (x : Answer). x .code) e))
 
   module _ (z : a .code ≡ 0) where
     found : Taken houseKinds house s s a (roomy .0)
@@ -71,5 +71,5 @@ module _ (s : List ℕ) (a : Answer) (p : Finds s a) where
           let w : File houseKinds house s c = found .file in
           let n : length (imageOf houseKinds house c) ≤ length d = omega (arith, h, size-is) in
           let g : FilledIn houseKinds house s d d′ = subst (λ (l : Listing). FilledIn houseKinds l s d d′) (list-is t pool et ep) f in
-          image c w n (e ∙ ap accepted size-is)
+          imaged c w n (e ∙ ap accepted size-is)
           (g c (record { xml = w .whole .xml; none = good-fine s c w (w .whole); has = w .has }) n ∙ start-pasted d (imageOf houseKinds house c) n)

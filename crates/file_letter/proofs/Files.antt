@@ -76,7 +76,7 @@ pub letter-found : (c : Content Value) → Meets (Spelled present) house c → l
 letter-found c m h =
     let f = letter-file house house-well c m h in
     let n = image-no-longer (letterOf house c) c f in
-    record { roomy = λ d r. (imageOf houseKinds house c ++ drop (length (imageOf houseKinds house c)) d, Answers.image c f (omega arith) refl refl) }
+    record { roomy = λ d r. (imageOf houseKinds house c ++ drop (length (imageOf houseKinds house c)) d, Answers.imaged c f (omega arith) refl refl) }
 
 -- "gives the same image": what check writes for the file that was written from the image that a run begins with is that image
 module _ (run : List ℕ) (n : ℕ) (w : HouseAccepts run n) where

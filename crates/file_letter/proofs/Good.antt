@@ -22,7 +22,7 @@ use Rattle.list.specs.Content.{Content, end, value, node, rows, Good, Meets, Va
 use Rattle.value.specs.Rules.{InThousandths}
 use Rattle.value.specs.Value.{Value, IsValue, Spelt}
 use Rattle.value.proofs.classes.Classes.{each-all}
-use Rattle.xml.specs.House.{IsName, IsAttrName, double, GoodValue, GoodAttr, GoodTag, Content as Tags, end as over, piece, empty, full, render, isChar, begins, behind, cut, Good as Fine, GoodTree}
+use Rattle.xml.specs.House.{IsName, IsAttrName, double, GoodValue, GoodAttr, GoodTag, Markup as Tags, noMore as over, piece, emptyTag, full, render, isChar, begins, following, cut, GoodMarkup as Fine, GoodTree}
 use Rattle.value_to_text.specs.Script.{scriptOf, currencyOf}
 use Rattle.value_to_text.specs.Raw.{pieceOf, rawOf}
 use Rattle.file_letter.specs.Letter.{textIn, plainly, attrOf, tagOf, coinOf, wordsIn, treeIn, rootIn, treeOf}
@@ -57,7 +57,7 @@ and-no true true = refl
 and-no true false = refl
 and-no false b = refl
 
-behind-text : (cs : List ℕ) → begins greater (behind (textIn cs)) ≡ false
+behind-text : (cs : List ℕ) → begins greater (following (textIn cs)) ≡ false
 behind-text [] = refl
 behind-text (c ∷ cs) = no-greater cs
 
@@ -212,13 +212,13 @@ module _ (l : Listing) (wf : WellFormed l) where
 abbrev pub Filled : Tags → Type 0
 Filled over = Unit {0}
 Filled (piece p k) = Filled k
-Filled (empty t k) = ⊥
+Filled (emptyTag t k) = ⊥
 Filled (full t i g k) = (i ≢ over) × Filled i × Filled k
 
 isOver : Tags → Bool
 isOver over = true
 isOver (piece p k) = false
-isOver (empty t k) = false
+isOver (emptyTag t k) = false
 isOver (full t i g k) = false
 
 text-more : (cs : List ℕ) → 1 ≤ length cs → textIn cs ≢ over

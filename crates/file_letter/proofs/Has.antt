@@ -17,7 +17,7 @@ use Rattle.value.specs.Moment.{present}
 use Rattle.value.specs.Rules.{InThousandths}
 use Rattle.value.specs.Value.{Value, text, place, truth, natural, amount, day, moment, IsValue, Form, Spelt}
 use Rattle.xml.specs.Message.{attrsOf, partsOf, messageOf}
-use Rattle.file_walk.specs.First.{textOf, currency}
+use Rattle.file_walk.specs.First.{textOf, currencyGiven}
 use Rattle.file_walk.specs.Denotes.{plain, LeafAttrs, Spells, Denotes, Has}
 use Rattle.file.specs.Instance.{houseTypes}
 use Rattle.value_to_text.specs.Script.{scriptOf, currencyOf}
@@ -58,7 +58,7 @@ plainly-is (c ∷ cs) = ap (λ (u : List ℕ). c ∷ u) (plainly-is cs)
 
 -- the characters of the currency that is written
 abbrev pub coin : Value → List ℕ
-coin v = currency (attrsOf (coinOf v))
+coin v = currencyGiven (attrsOf (coinOf v))
 
 coin-is : (v : Value) → coin v ≡ currencyOf v
 coin-is (text cs) = refl

@@ -12,8 +12,8 @@ use Rattle.value.specs.Moment.{present}
 use Rattle.value.specs.Value.{Value, text, place, truth, natural, amount, day, moment, IsValue}
 use Rattle.value.specs.Rules.{InThousandths}
 use Rattle.value.proofs.Rules.{spelt-fine}
-use Rattle.xml.specs.Message.{Attrs, Parts, none, char, element}
-use Rattle.file_walk.specs.First.{textOf, currency}
+use Rattle.xml.specs.Message.{Attrs, Inside, nothingInside, character, element}
+use Rattle.file_walk.specs.First.{textOf, currencyGiven}
 use Rattle.file_walk.specs.Denotes.{Spells, Denotes, Has}
 use Rattle.image.specs.Kinds.{values}
 use Rattle.image.specs.Image.{Item}
@@ -117,27 +117,27 @@ module _ (l : Listing) where
   none-finer c m = ((λ n. record { root = m .root; good = good-said c n (m .good) }), (λ s. good-fine c (s .good)))
 
   -- a message says no finer date-time
-  spells-fine : (k : Kind) (ats : Attrs) (i : Parts) (v : Value) → Spells houseTypes l k ats i v → InThousandths v
+  spells-fine : (k : Kind) (ats : Attrs) (i : Inside) (v : Value) → Spells houseTypes l k ats i v → InThousandths v
   spells-fine group ats i v s = absurd s
   spells-fine choice ats i v s = absurd s
-  spells-fine (leaf k) ats i v s = spelt-fine k (currency ats) (textOf i) v (s .2)
+  spells-fine (leaf k) ats i v s = spelt-fine k (currencyGiven ats) (textOf i) v (s .2)
 
-  denoted-fine : (p : ℕ) (i : Parts) (c : Content Value) → Denotes houseTypes l p i c → NoneOf Finer (items c)
-  denoted-fine p none end d = tt
-  denoted-fine p none (value r v c) d = absurd d
-  denoted-fine p none (node r b c) d = absurd d
-  denoted-fine p (char o x k) c d = denoted-fine p k c (d .1)
+  denoted-fine : (p : ℕ) (i : Inside) (c : Content Value) → Denotes houseTypes l p i c → NoneOf Finer (items c)
+  denoted-fine p nothingInside end d = tt
+  denoted-fine p nothingInside (value r v c) d = absurd d
+  denoted-fine p nothingInside (node r b c) d = absurd d
+  denoted-fine p (character o x k) c d = denoted-fine p k c (d .1)
   denoted-fine p (element o n ats i k) end d = absurd d
   denoted-fine p (element o n ats i k) (value r v c) d = ((λ f. f (spells-fine (rowAt l r .kind) ats i v (d .1))), denoted-fine p k c (d .2))
   denoted-fine p (element o n ats i k) (node r b c) d = ((λ f. f), both-each (λ (j : Item values). Finer j → ⊥) (items b) (items c) (denoted-fine r i b (d .2)) (denoted-fine p k c (d .3)))
 
-  pub has-fine : (m : Parts) (c : Content Value) → Has houseTypes l m c → NoneOf Finer (items c)
-  has-fine none c h = absurd h
-  has-fine (char o x k) c h = absurd h
+  pub has-fine : (m : Inside) (c : Content Value) → Has houseTypes l m c → NoneOf Finer (items c)
+  has-fine nothingInside c h = absurd h
+  has-fine (character o x k) c h = absurd h
   has-fine (element o n ats i k) c h =
       subst (λ (z : Content Value). NoneOf Finer (items z)) (sym (h .is))
       ((λ f. f), both-each (λ (j : Item values). Finer j → ⊥) (items (h .kids)) [] (denoted-fine 1 i (h .kids) (h .parts)) tt)
 
   -- so what a message says is said by the present rule
-  pub has-said : (m : Parts) (c : Content Value) → Meets IsValue l c → Has houseTypes l m c → Meets (Spelled present) l c
+  pub has-said : (m : Inside) (c : Content Value) → Meets IsValue l c → Has houseTypes l m c → Meets (Spelled present) l c
   has-said m c n h = none-finer c n .0 (has-fine m c h)

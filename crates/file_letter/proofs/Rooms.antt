@@ -7,7 +7,7 @@ use native.Mathlib.Omega.{arith}
 use lib.ListN.{length, take, drop}
 use Rattle.answer.specs.declared.Answer.{Answer}
 use Rattle.answer.specs.Table.{limit}
-use Rattle.image.specs.Place.{over, foreign, version, broken, whole as read}
+use Rattle.image.specs.Place.{over, foreign, version, broken, wholeImage as read}
 use Rattle.image_reading.specs.Reads.{HouseReads}
 use Rattle.file_letter.specs.Writes.{letterIn, Delivers, large, short, delivered, Writes, unread, finer, begun}
 use Rattle.file_letter.proofs.Writing.{writes-one, written-file}

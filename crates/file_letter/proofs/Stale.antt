@@ -10,7 +10,7 @@ use Rattle.text.specs.Lists.{Each}
 use Rattle.list.specs.Listing.{Listing}
 use Rattle.value.specs.Rules.{InThousandths}
 use Rattle.image.specs.Kinds.{values}
-use Rattle.image.specs.Image.{Item, itemBytes, bytes}
+use Rattle.image.specs.Image.{Item, itemBytes, itemsBytes}
 use Rattle.file_letter.specs.Stale.{NoneOf, FirstAt, Finer}
 use Rattle.file_letter.proofs.Meeting.{fine-or, each-last}
 
@@ -43,7 +43,7 @@ module _ (l : Listing) (P : Item values → Type 0) where
           its = f .its;
           clean = (n, f .clean);
           own = f .own;
-          stands = omega (arith, f .stands, length-append (itemBytes values l i) (bytes values l (f .before)));
+          stands = omega (arith, f .stands, length-append (itemBytes values l i) (itemsBytes values l (f .before)));
         };
       }
 
@@ -76,5 +76,5 @@ module _ (l : Listing) (P : Item values → Type 0) where
   first-one from is r p s q f g =
       let o = same-first (f .before) (g .before) (f .item) (g .item) (f .rest) (g .rest) (sym (f .at) ∙ g .at) (f .its) (g .its) (f .clean) (g .clean) in (
         f .own ∙ ap (λ (i : Item values). i .0) (o .one) ∙ sym (g .own),
-        f .stands ∙ ap (λ (b : List (Item values)). from + length (bytes values l b)) (o .front) ∙ sym (g .stands),
+        f .stands ∙ ap (λ (b : List (Item values)). from + length (itemsBytes values l b)) (o .front) ∙ sym (g .stands),
       )

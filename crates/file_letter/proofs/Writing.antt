@@ -17,7 +17,7 @@ use Rattle.value.specs.Value.{Value}
 use Rattle.value_to_text.specs.Spelled.{Spelled}
 use Rattle.image.specs.Image.{header}
 use Rattle.image.specs.Kinds.{values}
-use Rattle.image.specs.Place.{Front, now, whole as read}
+use Rattle.image.specs.Place.{Front, current, wholeImage as read}
 use Rattle.image.proofs.answers.One.{accepting}
 use Rattle.image_reading.specs.Reads.{stored, HouseAccepts, HouseReads}
 use Rattle.image_reading.proofs.House.{only, house-accepts-one, house-reads-one, house-reads-some}
@@ -95,7 +95,7 @@ module _ (run : List ℕ) where
   headed w = go (w .front) ∙ ap header (only (w .list) (w .among))
     where
       go : Front (w .list) (w .head) → w .head ≡ header (w .list)
-      go (now e) = e
+      go (current e) = e
 
   same-finer : (m n : ℕ) (v : HouseAccepts run m) (w : HouseAccepts run n) (r p : ℕ) → FinerAt v r p → FinerAt w r p
   same-finer m n v w r p f =

@@ -7,7 +7,7 @@ use Rattle.text_characters.specs.Pieces.{Piece, char}
 use Rattle.list.specs.Listing.{Kind, group, choice, leaf, Listing, rowAt}
 use Rattle.list.specs.Content.{Content, end, value, node}
 use Rattle.value.specs.Value.{Value, text, place, truth, natural, amount, day, moment}
-use Rattle.xml.specs.House.{double, Attr, Tag, Content as Tags, end as over, piece, full, Tree, whole}
+use Rattle.xml.specs.House.{double, Attr, Tag, Markup as Tags, noMore as over, piece, full, Tree, whole}
 use Rattle.value_to_text.specs.Script.{scriptOf}
 use Rattle.value_to_text.specs.Raw.{pieceOf}
 

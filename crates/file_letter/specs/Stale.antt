@@ -8,7 +8,7 @@ use Rattle.text.specs.Lists.{Each}
 use Rattle.list.specs.Listing.{Listing}
 use Rattle.value.specs.Rules.{InThousandths}
 use Rattle.image.specs.Kinds.{values}
-use Rattle.image.specs.Image.{Item, bytes}
+use Rattle.image.specs.Image.{Item, itemsBytes}
 
 -- P holds of none of them
 abbrev pub NoneOf : (Item values → Type 0) → List (Item values) → Type 0
@@ -23,7 +23,7 @@ pub record FirstAt (l : Listing) (P : Item values → Type 0) (from : ℕ) (is :
   pub its : P item
   pub clean : NoneOf P before
   pub own : row ≡ item .0
-  pub stands : place ≡ from + length (bytes values l before)
+  pub stands : place ≡ from + length (itemsBytes values l before)
 
 -- "Stored images with finer fractions": a date-time with a part of a second below a thousandth
 abbrev pub Finer : Item values → Type 0

@@ -8,7 +8,7 @@ use Rattle.text.specs.Pasting.{pasted}
 use Rattle.list.specs.Listing.{Listing}
 use Rattle.list.specs.WellFormed.{WellFormed}
 use Rattle.list.specs.Content.{Content}
-use Rattle.xml.specs.Message.{Parts, messageOf}
+use Rattle.xml.specs.Message.{Inside, messageOf}
 use Rattle.file_walk.specs.declared.found.Found.the-variants.{Fine, Violation}
 use Rattle.file_walk.specs.Types.{Spelling}
 use Rattle.file_walk.proofs.violation.Accept.{unique}
@@ -21,7 +21,7 @@ use Rattle.file_measure.specs.Measured.{Says, Message}
 use Rattle.file_measure.specs.Pass.{Passes, violates, holds}
 
 module _ (k : Kinds) (l : Listing) where
-  pub says-of : (m : Parts) (d : List ℕ) (v : Answer) (d′ : List ℕ) → Passes k l m d v d′ → Says k l m v
+  pub says-of : (m : Inside) (d : List ℕ) (v : Answer) (d′ : List ℕ) → Passes k l m d v d′ → Says k l m v
   says-of m d v d′ (violates e) = measured.violates e
   says-of m d v d′ (holds e c h f g) = measured.holds e c h f
 

@@ -27,7 +27,7 @@ use Rattle.file_walk.proofs.violation.Accept as walk
 use Rattle.file_walk.proofs.bytes.Root.{one-element}
 use Rattle.file.specs.Instance.{Kinds, houseKinds}
 use Rattle.file.specs.File.{Whole, messageIn, File, imageOf}
-use Rattle.file.specs.Checks.{Checks, Finds, markup, violation, image}
+use Rattle.file.specs.Checks.{Checks, Finds, markup, violation, imaged}
 use Rattle.file.proofs.House.{spelling, image-no-longer}
 use Rattle.file.proofs.Early.{says-long, says-bytes}
 use Rattle.file_measure.specs.Measured.{Says, violates, holds, Measured}
@@ -87,6 +87,6 @@ module _ (t pool : List ℕ) (et : t ≡ houseRows) (ep : pool ≡ housePool) wh
             record {
               roomy = λ d i. (
                 imageOf houseKinds house c ++ drop (length (imageOf houseKinds house c)) d,
-                image c f (omega (arith, i, image-no-longer s c f)) e refl,
+                imaged c f (omega (arith, i, image-no-longer s c f)) e refl,
               );
             }

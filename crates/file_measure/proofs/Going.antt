@@ -30,7 +30,7 @@ use Rattle.file_walk.specs.declared.step.Met.{Met}
 use Rattle.file_walk.specs.declared.step.Met.the-variants.{Opened, Closed, Refused, Lost}
 use Rattle.file_walk.specs.declared.step.Turn.{Turn}
 use Rattle.file_walk.specs.Types.{Spelling}
-use Rattle.file_walk.specs.First.{First, refuse, orElse, currency}
+use Rattle.file_walk.specs.First.{First, refuse, orElse, currencyGiven}
 use Rattle.file_walk.specs.Denotes.{Has}
 use Rattle.file_walk.specs.mirror.Machine.{Speller, isNone, judgeOf, spellerOf, Computes, before, advance, opens, closes, run, emits}
 use Rattle.file_walk.specs.mirror.Stride.{stepIn, stackIn}
@@ -46,7 +46,7 @@ use Rattle.file_walk.proofs.bytes.Root.{one-element, began, first-is}
 use Rattle.file_walk.proofs.violation.Accept.{accept}
 use Rattle.file_walk.proofs.events.Items.{opens-group, closes-group, items-are}
 use Rattle.file_walk.proofs.bytes.Stands.{Stands, Nested, Enters, Leaves, Ends, Turned, refused, opened, closed, whole, Starts, Began, denied, starts, finds, hands}
-use Rattle.image.specs.Image.{bytes, itemBytes, valueBytes, header, image}
+use Rattle.image.specs.Image.{itemsBytes, itemBytes, valueBytes, header, image}
 use Rattle.file.specs.Instance.{Kinds, valuesOf}
 use Rattle.file.specs.File.{imageOf}
 use Rattle.text.proofs.Puts.{puts-none, puts-pasted, puts-then, puts-as}
@@ -108,7 +108,7 @@ module _ (cm : Computed) (t pool s : List ℕ) (sd : Sound t pool) where
   l = listOf t pool
 
   abbrev itemsOf : List (ℕ × Option (T .A)) → List ℕ
-  itemsOf is = bytes (valuesOf k) l is
+  itemsOf is = itemsBytes (valuesOf k) l is
 
   -- ---- bytes of items
 
@@ -327,7 +327,7 @@ module _ (cm : Computed) (t pool s : List ℕ) (sd : Sound t pool) where
           leaf-ok : (f : Leaf) → rowAt l row .kind ≡ leaf f → LeafOk f
           leaf-ok f e = subst KindOk e (sd .well .kinds (turn .here .level .row) row child-here)
 
-          shut : (f : Leaf) → rowAt l row .kind ≡ leaf f → Shut t pool row (slice (here .value) (here .quote) s) (slice (here .at) (turn .less) s) f (currency (g .ats)) (w .chars)
+          shut : (f : Leaf) → rowAt l row .kind ≡ leaf f → Shut t pool row (slice (here .value) (here .quote) s) (slice (here .at) (turn .less) s) f (currencyGiven (g .ats)) (w .chars)
           shut f e = record {
             kind = sym kind-here ∙ e;
             ok = leaf-ok f e;
@@ -355,14 +355,14 @@ module _ (cm : Computed) (t pool s : List ℕ) (sd : Sound t pool) where
             }
 
             abbrev spelt : Leaf → Option (T .A)
-            spelt f = T .spell f (currency (g .ats)) (w .chars)
+            spelt f = T .spell f (currencyGiven (g .ats)) (w .chars)
 
             by-group : isGroup (rowAt l row .kind) ≡ true → Going d′ st′ (turn .here) r
             by-group b = goes-by (judged-group T l (rowAt l row .kind) row (here .level .place) (g .ats) (w .chars) b)
                 (puts-as d at [] (itemsOf new) r d′ (ap itemsOf (sym (closes-group T l (rowAt l row .kind) row (g .ats) (w .chars) b))) (o .group (ap isGroup (sym kind-here) ∙ b)))
 
             item-of : (f : Leaf) → rowAt l row .kind ≡ leaf f → (v : Option (T .A)) → spelt f ≡ v → ItemPut k t pool row f v d at r d′
-            item-of f e v u = o .leaf f (currency (g .ats)) (w .chars) (shut f e) v (yields k (cm .spell) (cm .computes) f (currency (g .ats)) (w .chars) (leaf-ok f e) v u)
+            item-of f e v u = o .leaf f (currencyGiven (g .ats)) (w .chars) (shut f e) v (yields k (cm .spell) (cm .computes) f (currencyGiven (g .ats)) (w .chars) (leaf-ok f e) v u)
 
             by-leaf : r ≢ 0 → (f : Leaf) → rowAt l row .kind ≡ leaf f → (v : Option (T .A)) → spelt f ≡ v → Going d′ st′ (turn .here) r
             by-leaf n f e Option.none u = absurd (n (item-of f e Option.none u))

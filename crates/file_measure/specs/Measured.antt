@@ -8,7 +8,7 @@ use Rattle.answer.specs.Table.{accepted}
 use Rattle.list.specs.Listing.{Listing}
 use Rattle.list.specs.Content.{Content}
 use Rattle.xml.specs.House.{HouseXml}
-use Rattle.xml.specs.Message.{Parts, messageOf}
+use Rattle.xml.specs.Message.{Inside, messageOf}
 use Rattle.file_walk.specs.declared.found.Found.the-variants.{Fine, Violation}
 use Rattle.file_walk.specs.First.{First}
 use Rattle.file_walk.specs.Denotes.{Has}
@@ -17,7 +17,7 @@ use Rattle.file.specs.File.{imageOf}
 
 module _ (k : Kinds) (l : Listing) where
   -- the first violation of a message; or that there is none, and the length of its content's image
-  pub data Says (m : Parts) (a : Answer) : Type 0 where
+  pub data Says (m : Inside) (a : Answer) : Type 0 where
     violates : First (k .types) l m (Violation a) → Says m a
     holds : First (k .types) l m Fine → (c : Content (k .types .A)) → Has (k .types) l m c → a ≡ accepted (length (imageOf k l c)) → Says m a
 

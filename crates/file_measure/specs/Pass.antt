@@ -16,7 +16,7 @@ use Rattle.list.specs.Content.{Content}
 use Rattle.list.specs.Table.{cell, placeIn, kindOf, wordsIn}
 use Rattle.list.specs.Sound.{Sound}
 use Rattle.xml.specs.House.{HouseXml}
-use Rattle.xml.specs.Message.{Parts, messageOf}
+use Rattle.xml.specs.Message.{Inside, messageOf}
 use Rattle.value.specs.Code.{Ccy}
 use Rattle.file_walk.specs.declared.found.Found.the-variants.{Fine, Violation}
 use Rattle.file_walk.specs.First.{First}
@@ -95,7 +95,7 @@ pub record Ready (t pool s : List ℕ) : Type 0 where
 
 module _ (k : Kinds) (l : Listing) where
   -- the first violation of a message; or that there is none, its image's length, and its image where that fits in
-  pub data Passes (m : Parts) (d : List ℕ) (a : Answer) (d′ : List ℕ) : Type 0 where
+  pub data Passes (m : Inside) (d : List ℕ) (a : Answer) (d′ : List ℕ) : Type 0 where
     violates : First (k .types) l m (Violation a) → Passes m d a d′
     holds : First (k .types) l m Fine → (c : Content (k .types .A)) → Has (k .types) l m c → a ≡ accepted (length (imageOf k l c))
         → (length (imageOf k l c) ≤ length d → d′ ≡ pasted d 0 (imageOf k l c)) → Passes m d a d′

@@ -6,21 +6,21 @@ use Prim.Native.Nat.{ℕ}
 use Rattle.text.specs.Bytes.{ascii, isBlank}
 use Rattle.list.specs.Listing.{Leaf, ref, iban, ccy, bool, num, amt, date, dtm, txt, enum, Kind, group, choice, leaf, Listing, rowAt, Child, isGroup}
 use Rattle.list.specs.Content.{Content, end, value, node}
-use Rattle.xml.specs.Message.{Attrs, Parts, none, char, element}
+use Rattle.xml.specs.Message.{Attrs, Inside, nothingInside, character, element}
 use Rattle.file_walk.specs.Types.{Types}
-use Rattle.file_walk.specs.First.{textOf, unhinted, bound, currency}
+use Rattle.file_walk.specs.First.{textOf, unhinted, bound, currencyGiven}
 
 -- no element stands in it
-abbrev pub plain : Parts → Bool
-plain none = true
-plain (char o x k) = plain k
+abbrev pub plain : Inside → Bool
+plain nothingInside = true
+plain (character o x k) = plain k
 plain (element o n ats i k) = false
 
 -- exactly one element
-abbrev pub OneElement : Parts → Type 0
-OneElement none = ⊥
-OneElement (char o x k) = ⊥
-OneElement (element o n ats i k) = k ≡ none
+abbrev pub OneElement : Inside → Type 0
+OneElement nothingInside = ⊥
+OneElement (character o x k) = ⊥
+OneElement (element o n ats i k) = k ≡ nothingInside
 
 -- "attributes .. exactly the type's": of an amount one, `Ccy`, "of type CCY"; of another leaf none
 module _ (t : Types) where
@@ -43,33 +43,33 @@ pub record RootAttrs (space : List ℕ) (ats : Attrs) : Type 0 where
 
 module _ (t : Types) (l : Listing) where
   -- an element with these attributes and parts spells a leaf's value
-  abbrev pub Spells : Kind → Attrs → Parts → t .A → Type 0
+  abbrev pub Spells : Kind → Attrs → Inside → t .A → Type 0
   Spells group ats i v = ⊥
   Spells choice ats i v = ⊥
-  Spells (leaf k) ats i v = (plain i ≡ true) × LeafAttrs t k ats × t .Spelt k (currency ats) (textOf i) v
+  Spells (leaf k) ats i v = (plain i ≡ true) × LeafAttrs t k ats × t .Spelt k (currencyGiven ats) (textOf i) v
 
   -- what stands in an element of row p, and the content that it is: blanks aside, elements that are children of p by their names
-  abbrev pub Denotes : ℕ → Parts → Content (t .A) → Type 0
-  Denotes p none end = Unit {0}
-  Denotes p none (value r v c) = ⊥
-  Denotes p none (node r d c) = ⊥
-  Denotes p (char o x k) c = (isBlank x ≡ true) × Denotes p k c
+  abbrev pub Denotes : ℕ → Inside → Content (t .A) → Type 0
+  Denotes p nothingInside end = Unit {0}
+  Denotes p nothingInside (value r v c) = ⊥
+  Denotes p nothingInside (node r d c) = ⊥
+  Denotes p (character o x k) c = (isBlank x ≡ true) × Denotes p k c
   Denotes p (element o n ats i k) end = ⊥
   Denotes p (element o n ats i k) (value r v c) = (Child l p r × (rowAt l r .name ≡ n)) × Spells (rowAt l r .kind) ats i v × Denotes p k c
   Denotes p (element o n ats i k) (node r d c) =
       (Child l p r × (rowAt l r .name ≡ n)) × ((isGroup (rowAt l r .kind) ≡ true) × (ats ≡ [])) × Denotes r i d × Denotes p k c
 
   -- an element as the root: row 1's name, the namespace and no other attribute but hints, nothing behind it
-  pub record Rooted (n : List ℕ) (ats : Attrs) (i k : Parts) (c : Content (t .A)) : Type 0 where
+  pub record Rooted (n : List ℕ) (ats : Attrs) (i k : Inside) (c : Content (t .A)) : Type 0 where
     pub name : rowAt l 1 .name ≡ n
     pub attrs : RootAttrs (l .space) ats
-    pub alone : k ≡ none
+    pub alone : k ≡ nothingInside
     pub kids : Content (t .A)
     pub is : c ≡ node 1 kids end
     pub parts : Denotes 1 i kids
 
   -- the content of a message
-  abbrev pub Has : Parts → Content (t .A) → Type 0
-  Has none c = ⊥
-  Has (char o x k) c = ⊥
+  abbrev pub Has : Inside → Content (t .A) → Type 0
+  Has nothingInside c = ⊥
+  Has (character o x k) c = ⊥
   Has (element o n ats i k) c = Rooted n ats i k c

@@ -9,8 +9,8 @@ use Rattle.answer.specs.Table as table
 use Rattle.text.specs.Bytes.{ascii, isBlank}
 use Rattle.text.specs.Lists.{same}
 use Rattle.list.specs.Words.{has, firstFrom}
-use Rattle.list.specs.Listing.{Leaf, ref, iban, ccy, bool, num, amt, date, dtm, txt, enum, Kind, group, choice, leaf, Rule, both, Listing, rowAt, size, child, isGroup, isChoice, single, required}
-use Rattle.xml.specs.Message.{Attrs, Parts, none, char, element}
+use Rattle.list.specs.Listing.{Leaf, ref, iban, ccy, bool, num, amt, date, dtm, txt, enum, Kind, group, choice, leaf, Rule, both, Listing, rowAt, size, child, isGroup, isChoice, atMostOnce, required}
+use Rattle.xml.specs.Message.{Attrs, Inside, nothingInside, character, element}
 use Rattle.file_walk.specs.declared.found.Found.{Found}
 use Rattle.file_walk.specs.declared.found.Found.the-variants.{Fine, Violation}
 use Rattle.file_walk.specs.Types.{Types, Judge, Decides}
@@ -29,9 +29,9 @@ abbrev pub firstOf : List Found → Found
 firstOf [] = Fine
 firstOf (f ∷ fs) = orElse f (firstOf fs)
 
-abbrev pub empty : List ℕ → Bool
-empty [] = true
-empty (x ∷ xs) = false
+abbrev pub isEmpty : List ℕ → Bool
+isEmpty [] = true
+isEmpty (x ∷ xs) = false
 
 -- one of rs is greater than r
 abbrev pub passed : ℕ → List ℕ → Bool
@@ -44,9 +44,9 @@ breaks p rs [] = false
 breaks p rs (both g a b ∷ qs) = (eqb g p && xor (has a rs) (has b rs)) || breaks p rs qs
 
 -- the characters that stand in an element
-abbrev pub textOf : Parts → List ℕ
-textOf none = []
-textOf (char o x k) = x ∷ textOf k
+abbrev pub textOf : Inside → List ℕ
+textOf nothingInside = []
+textOf (character o x k) = x ∷ textOf k
 textOf (element o n ats i k) = textOf k
 
 -- exactly one attribute, of this name and value
@@ -82,9 +82,9 @@ noAttrs [] = true
 noAttrs (a ∷ ats) = false
 
 -- the characters of the one attribute that an amount has
-abbrev pub currency : Attrs → List ℕ
-currency [] = []
-currency (a ∷ ats) = a .1
+abbrev pub currencyGiven : Attrs → List ℕ
+currencyGiven [] = []
+currencyGiven (a ∷ ats) = a .1
 
 module _ (judge : Judge) where
   -- "One attribute, Ccy, of type CCY"
@@ -120,19 +120,19 @@ module _ (l : Listing) where
   isRoot n ats = same (rowAt l 1 .name) n && rootAttrs (l .space) ats
 
   -- "over its count, or second child in a choice"; seen: the rows of its earlier siblings, the latest first
-  abbrev pub over : Kind → List ℕ → ℕ → Bool
-  over group seen r = single (rowAt l r .count) && has r seen
-  over choice seen r = not (empty seen)
-  over (leaf k) seen r = false
+  abbrev pub overCount : Kind → List ℕ → ℕ → Bool
+  overCount group seen r = atMostOnce (rowAt l r .count) && has r seen
+  overCount choice seen r = not (isEmpty seen)
+  overCount (leaf k) seen r = false
 
   -- the lowest required child of p that is not among rs; 0 where there is none
-  unfoldable pub absent : ℕ → List ℕ → ℕ
-  absent p rs = firstFrom (λ r. eqb (rowAt l r .parent) p && (required (rowAt l r .count) && not (has r rs))) 1 (size l)
+  unfoldable pub absentRow : ℕ → List ℕ → ℕ
+  absentRow p rs = firstFrom (λ r. eqb (rowAt l r .parent) p && (required (rowAt l r .count) && not (has r rs))) 1 (size l)
 
   -- the rows of the elements that stand in one of row p; 0 for what is no child of p
-  unfoldable pub childRows : ℕ → Parts → List ℕ
-  childRows p none = []
-  childRows p (char o x k) = childRows p k
+  unfoldable pub childRows : ℕ → Inside → List ℕ
+  childRows p nothingInside = []
+  childRows p (character o x k) = childRows p k
   childRows p (element o n ats i k) = child l p n ∷ childRows p k
 
 module _ (judge : Judge) (l : Listing) where
@@ -142,20 +142,20 @@ module _ (judge : Judge) (l : Listing) where
   opening p seen r ats o = firstOf (
       refuse (eqb r 0) (table.notAChild p o) ∷
       refuse (not (isChoice (kindOf l p)) && passed r seen) (table.outOfOrder r o) ∷
-      refuse (over l (kindOf l p) seen r) (table.tooMany r o) ∷
+      refuse (overCount l (kindOf l p) seen r) (table.tooMany r o) ∷
       refuse (not (attrsOk judge (kindOf l r) ats)) (table.wrongAttributes r o) ∷ [])
 
   -- "a closing tag 11, 8, 12, 13": of a group with children of the rows rs; of a leaf with the characters cs
   abbrev pub groupEnd : ℕ → ℕ → List ℕ → Found
   groupEnd r o rs = firstOf (
-      refuse (empty rs) (table.empty r o) ∷
-      refuse (ltb 0 (absent l r rs)) (table.absent (absent l r rs) o) ∷
+      refuse (isEmpty rs) (table.empty r o) ∷
+      refuse (ltb 0 (absentRow l r rs)) (table.absent (absentRow l r rs) o) ∷
       refuse (breaks r rs (l .rules)) (table.ruleBroken r o) ∷ [])
 
   abbrev pub leafEnd : Leaf → ℕ → ℕ → Attrs → List ℕ → Found
   leafEnd k r o ats cs = firstOf (
-      refuse (empty cs) (table.empty r o) ∷
-      refuse (not (judge k (currency ats) cs)) (table.badValue r o) ∷ [])
+      refuse (isEmpty cs) (table.empty r o) ∷
+      refuse (not (judge k (currencyGiven ats) cs)) (table.badValue r o) ∷ [])
 
   abbrev pub closing : Kind → ℕ → ℕ → Attrs → List ℕ → List ℕ → Found
   closing group r o ats rs cs = groupEnd r o rs
@@ -163,9 +163,9 @@ module _ (judge : Judge) (l : Listing) where
   closing (leaf k) r o ats rs cs = leafEnd k r o ats cs
 
   -- "the message is walked in document order": what stands in an element of row p, one part after the other; 10 is "non-blank text in a group"
-  unfoldable pub inside : ℕ → List ℕ → Parts → Found
-  inside p seen none = Fine
-  inside p seen (char o x k) = firstOf (refuse (isGroup (kindOf l p) && not (isBlank x)) (table.textInGroup p o) ∷ inside p seen k ∷ [])
+  unfoldable pub inside : ℕ → List ℕ → Inside → Found
+  inside p seen nothingInside = Fine
+  inside p seen (character o x k) = firstOf (refuse (isGroup (kindOf l p) && not (isBlank x)) (table.textInGroup p o) ∷ inside p seen k ∷ [])
   inside p seen (element o n ats i k) =
       let r = child l p n in firstOf (
       opening p seen r ats o ∷
@@ -174,9 +174,9 @@ module _ (judge : Judge) (l : Listing) where
       inside p (r ∷ seen) k ∷ [])
 
   -- of a message, which is one element
-  unfoldable pub firstViolation : Parts → Found
-  firstViolation none = Fine
-  firstViolation (char o x k) = Fine
+  unfoldable pub firstViolation : Inside → Found
+  firstViolation nothingInside = Fine
+  firstViolation (character o x k) = Fine
   firstViolation (element o n ats i k) = firstOf (
       refuse (not (isRoot l n ats)) (table.wrongRoot o) ∷
       inside 1 [] i ∷
@@ -184,7 +184,7 @@ module _ (judge : Judge) (l : Listing) where
 
 -- f is what is found first in a message. "value breaks its type", "bad Ccy": a judge says yes exactly where some value is spelt; who judges does not
 -- matter (`first-one`)
-pub record First (t : Types) (l : Listing) (m : Parts) (f : Found) : Type 0 where
+pub record First (t : Types) (l : Listing) (m : Inside) (f : Found) : Type 0 where
   pub judge : Judge
   pub decides : Decides t judge
   pub is : firstViolation judge l m ≡ f

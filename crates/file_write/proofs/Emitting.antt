@@ -26,7 +26,7 @@ use Rattle.value_from_bytes.specs.Stands.{taken}
 use Rattle.value_from_bytes.specs.mirror.Ends.{valueEnd}
 use Rattle.value_from_bytes.proofs.Meaning.{ends-one}
 use Rattle.xml.specs.House.{render}
-use Rattle.image.specs.Image.{Item, valueBytes, bytes, body}
+use Rattle.image.specs.Image.{Item, valueBytes, itemsBytes, body}
 use Rattle.image.specs.Kinds.{values}
 use Rattle.image.specs.Place.{Holds}
 use Rattle.image.specs.mirror.Follow.{OfKind, ItemOk}

@@ -22,7 +22,7 @@ use Rattle.value.specs.Rules.{InThousandths}
 use Rattle.value.specs.Kind.{code}
 use Rattle.value_from_bytes.specs.mirror.Ends.{valueEnd}
 use Rattle.value_to_text.proofs.Meaning.{kind-number}
-use Rattle.image.specs.Image.{Item, valueBytes, itemBytes, bytes}
+use Rattle.image.specs.Image.{Item, valueBytes, itemBytes, itemsBytes}
 use Rattle.image.specs.Kinds.{values}
 use Rattle.image.specs.Place.{Holds}
 use Rattle.file_walk.specs.Numbers.{isGroupIn}
@@ -89,10 +89,10 @@ module _ (t pool : List ℕ) where
   abbrev l : Listing
   l = listOf t pool
 
-  bytes-then : (is : List (Item values)) (j : Item values) → length (bytes values l (is ++ (j ∷ []))) ≡ length (bytes values l is) + length (itemBytes values l j)
+  bytes-then : (is : List (Item values)) (j : Item values) → length (itemsBytes values l (is ++ (j ∷ []))) ≡ length (itemsBytes values l is) + length (itemBytes values l j)
   bytes-then [] j = omega (arith, ap length (append-nil (itemBytes values l j)))
   bytes-then (i ∷ is) j =
-      omega (arith, length-append (itemBytes values l i) (bytes values l (is ++ (j ∷ []))), length-append (itemBytes values l i) (bytes values l is), bytes-then is j)
+      omega (arith, length-append (itemBytes values l i) (itemsBytes values l (is ++ (j ∷ []))), length-append (itemBytes values l i) (itemsBytes values l is), bytes-then is j)
 
   module _ (run : List ℕ) (from : ℕ) (all : List (Item values)) where
     -- the items before i are passed, and none of them is finer
@@ -101,7 +101,7 @@ module _ (t pool : List ℕ) where
       pub passed : List (Item values)
       pub are : passed ++ stands .left ≡ all
       pub clean : NoneOf Finer passed
-      pub place : i ≡ from + length (bytes values l passed)
+      pub place : i ≡ from + length (itemsBytes values l passed)
       pub late : from < i
 
   -- the same of whatever content is held in the run

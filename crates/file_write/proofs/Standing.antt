@@ -20,7 +20,7 @@ use Rattle.value.specs.Value.{Value, IsValue, bytes as valued}
 use Rattle.value_from_bytes.specs.Stands.{taken}
 use Rattle.value_from_bytes.specs.mirror.Ends.{valueEnd}
 use Rattle.value_from_bytes.proofs.Meaning.{ends-one}
-use Rattle.image.specs.Image.{Item, valueBytes, bytes, body}
+use Rattle.image.specs.Image.{Item, valueBytes, itemsBytes, body}
 use Rattle.image.specs.Kinds.{values}
 use Rattle.image.specs.Place.{Holds}
 use Rattle.image.specs.mirror.Follow.{OfKind, ItemOk}
@@ -87,7 +87,7 @@ module _ (t pool : List ℕ) where
   pub record Standing (run : List ℕ) (i : ℕ) : Type 0 where
     pub left : List (Item values)
     pub rest : List ℕ
-    pub here : drop i run ≡ bytes values l left ++ (0 ∷ rest)
+    pub here : drop i run ≡ itemsBytes values l left ++ (0 ∷ rest)
     pub fine : Each Fine left
 
   module _ (so : Sound t pool) (run : List ℕ) where
@@ -100,12 +100,12 @@ module _ (t pool : List ℕ) where
       pub is-root : w .content ≡ node 1 kids end
       is-root = rooted l (so .well) (w .content) (w .meets) .is
 
-      pub body-is : drop from run ≡ 1 ∷ (bytes values l (items kids) ++ (0 ∷ w .rest))
+      pub body-is : drop from run ≡ 1 ∷ (itemsBytes values l (items kids) ++ (0 ∷ w .rest))
       body-is =
           w .at ∙ ap (λ (c : Content Value). body values l c ++ w .rest) is-root
-          ∙ ap (λ (k : Kind). (((1 ∷ valueBytes values l k none) ++ bytes values l (items kids ++ [])) ++ (0 ∷ [])) ++ w .rest) (so .well .root .1)
-          ∙ ap (λ (is : List (Item values)). 1 ∷ ((bytes values l is ++ (0 ∷ [])) ++ w .rest)) (append-nil (items kids))
-          ∙ ap (λ (u : List ℕ). 1 ∷ u) (append-assoc (bytes values l (items kids)) (0 ∷ []) (w .rest))
+          ∙ ap (λ (k : Kind). (((1 ∷ valueBytes values l k none) ++ itemsBytes values l (items kids ++ [])) ++ (0 ∷ [])) ++ w .rest) (so .well .root .1)
+          ∙ ap (λ (is : List (Item values)). 1 ∷ ((itemsBytes values l is ++ (0 ∷ [])) ++ w .rest)) (append-nil (items kids))
+          ∙ ap (λ (u : List ℕ). 1 ∷ u) (append-assoc (itemsBytes values l (items kids)) (0 ∷ []) (w .rest))
 
       abbrev pub stand-first : Standing run (from + 1)
       stand-first =
@@ -113,20 +113,20 @@ module _ (t pool : List ℕ) where
           record {
             left = items kids;
             rest = w .rest;
-            here = rest-there run from 1 (bytes values l (items kids) ++ (0 ∷ w .rest)) body-is;
+            here = rest-there run from 1 (itemsBytes values l (items kids) ++ (0 ∷ w .rest)) body-is;
             fine = fine-in kids 1 (g .0 .1 .theirs) (g .1);
           }
 
       pub stand-start : from < length run
-      stand-start = inside run from 1 (bytes values l (items kids) ++ (0 ∷ w .rest)) body-is
+      stand-start = inside run from 1 (itemsBytes values l (items kids) ++ (0 ∷ w .rest)) body-is
 
     -- ---- a turn
 
     module _ (i : ℕ) (w : Standing run i) where
       -- some byte stands there
-      some-byte : (is : List (Item values)) (u : List ℕ) → (y : ℕ) × (r : List ℕ) × (bytes values l is ++ (0 ∷ u) ≡ y ∷ r)
+      some-byte : (is : List (Item values)) (u : List ℕ) → (y : ℕ) × (r : List ℕ) × (itemsBytes values l is ++ (0 ∷ u) ≡ y ∷ r)
       some-byte [] u = (0, u, refl)
-      some-byte (j ∷ is) u = (j .0, (valueBytes values l (rowAt l (j .0) .kind) (j .1) ++ bytes values l is) ++ (0 ∷ u), refl)
+      some-byte (j ∷ is) u = (j .0, (valueBytes values l (rowAt l (j .0) .kind) (j .1) ++ itemsBytes values l is) ++ (0 ∷ u), refl)
 
       pub stand-in : i < length run
       stand-in = let b = some-byte (w .left) (w .rest) in inside run i (b .0) (b .1) (w .here ∙ b .2)
@@ -139,7 +139,7 @@ module _ (t pool : List ℕ) where
           go [] e = refl
           go (j ∷ is) e =
               let f : Fine j × Each Fine is = subst (Each Fine) e (w .fine) in
-              let b = byte-there run i (j .0) _ (w .here ∙ ap (λ (is : List (Item values)). bytes values l is ++ (0 ∷ w .rest)) e) in
+              let b = byte-there run i (j .0) _ (w .here ∙ ap (λ (is : List (Item values)). itemsBytes values l is ++ (0 ∷ w .rest)) e) in
               absurd (omega (arith, f .0 .0))
 
       -- an item: its row, its value, and what stands behind its row byte
@@ -149,25 +149,25 @@ module _ (t pool : List ℕ) where
         pub is : w .left ≡ (x, val) ∷ more
         pub its : Fine (x, val)
         pub fines : Each Fine more
-        pub behind : drop (i + 1) run ≡ valueBytes values l (rowAt l x .kind) val ++ (bytes values l more ++ (0 ∷ w .rest))
+        pub behind : drop (i + 1) run ≡ valueBytes values l (rowAt l x .kind) val ++ (itemsBytes values l more ++ (0 ∷ w .rest))
 
       pub ahead : (x : ℕ) → x ≡ getD run i 0 → x ≢ 0 → Ahead x
       ahead x ex n = go (w .left) refl
         where
           go : (is : List (Item values)) → w .left ≡ is → Ahead x
-          go [] e = absurd (n (ex ∙ byte-there run i 0 (w .rest) (w .here ∙ ap (λ (is : List (Item values)). bytes values l is ++ (0 ∷ w .rest)) e)))
+          go [] e = absurd (n (ex ∙ byte-there run i 0 (w .rest) (w .here ∙ ap (λ (is : List (Item values)). itemsBytes values l is ++ (0 ∷ w .rest)) e)))
           go (j ∷ is) e =
-              let h : drop i run ≡ j .0 ∷ ((valueBytes values l (rowAt l (j .0) .kind) (j .1) ++ bytes values l is) ++ (0 ∷ w .rest)) = w .here ∙ ap (λ (is : List (Item values)). bytes values l is ++ (0 ∷ w .rest)) e in
+              let h : drop i run ≡ j .0 ∷ ((valueBytes values l (rowAt l (j .0) .kind) (j .1) ++ itemsBytes values l is) ++ (0 ∷ w .rest)) = w .here ∙ ap (λ (is : List (Item values)). itemsBytes values l is ++ (0 ∷ w .rest)) e in
               let b : x ≡ j .0 = ex ∙ byte-there run i (j .0) _ h in
               let f : Fine j × Each Fine is = subst (Each Fine) e (w .fine) in
-              let r = rest-there run i (j .0) _ h ∙ append-assoc (valueBytes values l (rowAt l (j .0) .kind) (j .1)) (bytes values l is) (0 ∷ w .rest) in
+              let r = rest-there run i (j .0) _ h ∙ append-assoc (valueBytes values l (rowAt l (j .0) .kind) (j .1)) (itemsBytes values l is) (0 ∷ w .rest) in
               record {
                 val = j .1;
                 more = is;
                 is = e ∙ ap (λ (z : ℕ). (z, j .1) ∷ is) (sym b);
                 its = subst (λ (z : ℕ). Fine (z, j .1)) (sym b) (f .0);
                 fines = f .1;
-                behind = r ∙ ap (λ (z : ℕ). valueBytes values l (rowAt l z .kind) (j .1) ++ (bytes values l is ++ (0 ∷ w .rest))) (sym b);
+                behind = r ∙ ap (λ (z : ℕ). valueBytes values l (rowAt l z .kind) (j .1) ++ (itemsBytes values l is ++ (0 ∷ w .rest))) (sym b);
               }
 
       module _ (x : ℕ) (ex : x ≡ getD run i 0) (n : x ≢ 0) where
@@ -197,7 +197,7 @@ module _ (t pool : List ℕ) where
             group-after = record {
               left = h .more;
               rest = w .rest;
-              here = h .behind ∙ ap (λ (u : List ℕ). u ++ (bytes values l (h .more) ++ (0 ∷ w .rest))) (group-none .1);
+              here = h .behind ∙ ap (λ (u : List ℕ). u ++ (itemsBytes values l (h .more) ++ (0 ∷ w .rest))) (group-none .1);
               fine = h .fines;
             }
 
@@ -222,14 +222,14 @@ module _ (t pool : List ℕ) where
             counted : cell t x 15 ≡ wordCount (leaf f)
             counted = so .derived x (h .its .1) .words ∙ ap wordCount (leafed .kind)
 
-            value-here : drop (i + 1) run ≡ valued u ++ (bytes values l (h .more) ++ (0 ∷ w .rest))
-            value-here = h .behind ∙ ap₂ (λ (k : Kind) (v : Option Value). valueBytes values l k v ++ (bytes values l (h .more) ++ (0 ∷ w .rest))) (leafed .kind) (leafed .some′)
+            value-here : drop (i + 1) run ≡ valued u ++ (itemsBytes values l (h .more) ++ (0 ∷ w .rest))
+            value-here = h .behind ∙ ap₂ (λ (k : Kind) (v : Option Value). valueBytes values l k v ++ (itemsBytes values l (h .more) ++ (0 ∷ w .rest))) (leafed .kind) (leafed .some′)
 
             pub value-at : ValueAt t pool run x (i + 1) f u
-            value-at = record { kind = leaf-kind; ok = leaf-ok; is = leafed .is; behind = bytes values l (h .more) ++ (0 ∷ w .rest); holds = value-here }
+            value-at = record { kind = leaf-kind; ok = leaf-ok; is = leafed .is; behind = itemsBytes values l (h .more) ++ (0 ∷ w .rest); holds = value-here }
 
-            pub behind-value : drop (i + 1 + length (valued u)) run ≡ bytes values l (h .more) ++ (0 ∷ w .rest)
-            behind-value = sym (drop-drop (length (valued u)) (i + 1) run) ∙ ap (drop (length (valued u))) value-here ∙ drop-at (valued u) (bytes values l (h .more) ++ (0 ∷ w .rest)) (length (valued u)) refl
+            pub behind-value : drop (i + 1 + length (valued u)) run ≡ itemsBytes values l (h .more) ++ (0 ∷ w .rest)
+            behind-value = sym (drop-drop (length (valued u)) (i + 1) run) ∙ ap (drop (length (valued u))) value-here ∙ drop-at (valued u) (itemsBytes values l (h .more) ++ (0 ∷ w .rest)) (length (valued u)) refl
 
             module _ (e : ℕ) (ee : e ≡ valueEnd (cell t x 2) (cell t x 3) (cell t x 15) run (i + 1)) where
               pub end-is : e ≡ i + 1 + length (valued u)

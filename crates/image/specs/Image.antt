@@ -49,13 +49,13 @@ module _ (vs : Values) where
     abbrev pub itemBytes : Item → List ℕ
     itemBytes i = i .0 ∷ valueBytes (rowAt l (i .0) .kind) (i .1)
 
-    abbrev pub bytes : List Item → List ℕ
-    bytes [] = []
-    bytes (i ∷ is) = itemBytes i ++ bytes is
+    abbrev pub itemsBytes : List Item → List ℕ
+    itemsBytes [] = []
+    itemsBytes (i ∷ is) = itemBytes i ++ itemsBytes is
 
     -- "one item per element in document order, one byte 0"
     abbrev pub body : Content (vs .Value) → List ℕ
-    body c = bytes (items c) ++ (0 ∷ [])
+    body c = itemsBytes (items c) ++ (0 ∷ [])
 
     -- "Image: `KTO`, version 1 in 16 bits, one item per element in document order, one byte 0"
     unfoldable pub image : Content (vs .Value) → List ℕ

@@ -12,7 +12,7 @@ use Rattle.answer.specs.Table.{limit, picked, noSuchLeaf}
 use Rattle.list.specs.Words.{times}
 use Rattle.list.specs.Listing.{Leaf, leaf, Listing, rowAt, isGroup}
 use Rattle.list.specs.Content.{Content, items}
-use Rattle.image.specs.Image.{Values, Item, bytes}
+use Rattle.image.specs.Image.{Values, Item, itemsBytes}
 use Rattle.image.specs.Place.{Accepts, Reads}
 
 -- "that part of the lent image itself": s lies p bytes behind the start of the run, in the same memory (a pointer is a block and an offset)
@@ -35,7 +35,7 @@ module _ (vs : Values) where
       pub behind : List (Item vs)
       pub at : items c ≡ before ++ ((r, some value) ∷ behind)
       pub nth : times r (rowsOf before) ≡ n
-      pub starts : place ≡ from + length (bytes vs l before) + 1 + vs .head type
+      pub starts : place ≡ from + length (itemsBytes vs l before) + 1 + vs .head type
       pub holds : part ≡ drop (vs .head type) (vs .bytes type value)
 
     -- "if the row is no leaf or has no such item"
@@ -58,7 +58,7 @@ module _ (vs : Values) where
       found : length run ≤ limit → (k : ℕ) (w : Accepts vs ls run k) → (place : ℕ) → Picked (w .list) (length (w .head)) (w .holds .content) r n place part → a ≡ picked r place → Picks run r n a part
 
     -- the same, of the call that gives the answer: there is a part to it
-    pub record Answers (run : List ℕ) (r n : ℕ) (a : Answer) : Type 0 where
+    pub record PickAnswers (run : List ℕ) (r n : ℕ) (a : Answer) : Type 0 where
       pub part : List ℕ
       pub picks : Picks run r n a part
 

@@ -10,7 +10,7 @@ use Rattle.text.specs.Bytes.{ascii}
 use Rattle.list.specs.Listing.{Listing}
 use Rattle.list.specs.Content.{Content, items, Meets}
 pub use Rattle.list.specs.Within.{Among}
-use Rattle.image.specs.Image.{Values, Item, versioned, header, bytes, body}
+use Rattle.image.specs.Image.{Values, Item, versioned, header, itemsBytes, body}
 
 -- ---- behind the header: items and the closing 0
 
@@ -24,7 +24,7 @@ module _ (vs : Values) (l : Listing) where
     pub long : n ≡ length (body vs l content)
 
   -- some content that meets the list begins with these items
-  pub record Begins (is : List (Item vs)) : Type 0 where
+  pub record BeginsContent (is : List (Item vs)) : Type 0 where
     pub content : Content (vs .Value)
     pub meets : Meets (vs .Is) l content
     pub rest : List (Item vs)
@@ -34,10 +34,10 @@ module _ (vs : Values) (l : Listing) where
   pub record Most (s : List ℕ) (n : ℕ) : Type 0 where
     pub whole : List (Item vs)
     pub rest : List ℕ
-    pub at : s ≡ bytes vs l whole ++ rest
-    pub begins : Begins whole
-    pub long : n ≡ length (bytes vs l whole)
-    pub most : (is : List (Item vs)) (u : List ℕ) → s ≡ bytes vs l is ++ u → Begins is → length is ≤ length whole
+    pub at : s ≡ itemsBytes vs l whole ++ rest
+    pub begins : BeginsContent whole
+    pub long : n ≡ length (itemsBytes vs l whole)
+    pub most : (is : List (Item vs)) (u : List ℕ) → s ≡ itemsBytes vs l is ++ u → BeginsContent is → length is ≤ length whole
 
   -- s begins with no such body, and n bytes of it are the most whole items
   pub record Breaks (s : List ℕ) (n : ℕ) : Type 0 where
@@ -53,7 +53,7 @@ module _ (vs : Values) (l : Listing) where
 
 -- an image of a content of the list begins with h
 pub data Front (l : Listing) (h : List ℕ) : Type 0 where
-  now : h ≡ header l → Front l h
+  current : h ≡ header l → Front l h
 
 -- what one run begins with is of one list, and ends at one place
 pub record Apart (ls : List Listing) : Type 0 where
@@ -83,4 +83,4 @@ module _ (vs : Values) (ls : List Listing) where
     -- "17 no image of a rule-meeting content begins here, place 5 plus the bytes of the most whole items that begin some image"
     broken : length run ≤ limit → (l : Listing) → Among l ls → (h : List ℕ) → Front l h → (s : List ℕ) → run ≡ h ++ s → (n : ℕ) → Breaks vs l s n → a ≡ brokenImage (length h + n) → Reads run a
     -- "it gives the length of the first image"
-    whole : length run ≤ limit → (n : ℕ) → Accepts run n → a ≡ accepted n → Reads run a
+    wholeImage : length run ≤ limit → (n : ℕ) → Accepts run n → a ≡ accepted n → Reads run a

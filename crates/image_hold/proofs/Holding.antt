@@ -16,7 +16,7 @@ use Rattle.list.specs.Content.{Content, Meets}
 use Rattle.value.specs.Value.{Value, IsValue}
 use Rattle.image.specs.Image.{image, images}
 use Rattle.image.specs.Kinds.{values}
-use Rattle.image.specs.Place.{foreign, whole}
+use Rattle.image.specs.Place.{foreign, wholeImage}
 use Rattle.image.specs.Pick.{Lies, refused}
 use Rattle.image_hold.specs.Held.{left, Moves, Steps, HeldPicked, Next, Calls, rested, called}
 use Rattle.image_hold.specs.declared.held.Held.{Held}
@@ -83,7 +83,7 @@ next-past h a p past x = next-end h a p (drop-of-length-le (now (h .run)) past) 
 pub next-takes : (h : Held) (a : Answer) (p : Held) (c : Content Value) (u : List ℕ) → Meets IsValue kept c → length (left h) ≤ limit → left h ≡ image values kept c ++ u → Next h a p
     → (a ≡ accepted (length (image values kept c))) × (left p ≡ u)
 next-takes h a p c u m short at x =
-    let e : a ≡ accepted (length (image values kept c)) = house-reads-one (left h) a (accepted (length (image values kept c))) (x .reads) (whole short (length (image values kept c)) (subst (λ (s : List ℕ). HouseAccepts s (length (image values kept c))) (sym at) (image-begins values stored kept (inl refl) c m u)) refl) in
+    let e : a ≡ accepted (length (image values kept c)) = house-reads-one (left h) a (accepted (length (image values kept c))) (x .reads) (wholeImage short (length (image values kept c)) (subst (λ (s : List ℕ). HouseAccepts s (length (image values kept c))) (sym at) (image-begins values stored kept (inl refl) c m u)) refl) in
     let f : p .at ≡ h .at + length (image values kept c) = x .moves .on (ap (λ (y : Answer). y .code) e) ∙ ap (λ (y : Answer). h .at + y .place) e in
     (e, behind f)
   where

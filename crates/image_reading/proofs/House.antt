@@ -25,7 +25,7 @@ use Rattle.list_house.proofs.Lists.{kept-is, kept-sound, kept-well}
 use Rattle.value.specs.Value.{Value, IsValue}
 use Rattle.image.specs.Image.{versioned, header, body, image}
 use Rattle.image.specs.Kinds.{values}
-use Rattle.image.specs.Place.{Holds, Tells, held, broke, Front, now, Among, Apart, over, foreign, version, broken, whole}
+use Rattle.image.specs.Place.{Holds, Tells, held, broke, Front, current, Among, Apart, over, foreign, version, broken, wholeImage}
 use Rattle.image.specs.Pick.{Selects, none-such, one-such, refused, missing, found}
 use Rattle.image.specs.mirror.Ends.{itemEnd}
 use Rattle.image.specs.mirror.Run.{Behind, Chooses, Answered, Handed}
@@ -60,7 +60,7 @@ module _ (f : ℕ) (l : Listing) (h : List ℕ) where
   formed-among (first e i b) = inl i
 
   formed-front : Formed f l h → Front l h
-  formed-front (first e i b) = now b
+  formed-front (first e i b) = current b
 
 formed-one : (f g : ℕ) (l m : Listing) (h i : List ℕ) → Formed f l h → Formed g m i → f ≡ g
 formed-one f g l m h i (first e x y) (first d u v) = e ∙ sym d
@@ -124,7 +124,7 @@ module _ (run : List ℕ) where
     accepting-here n w = record { list = l; among = formed-among f l h k; head = h; front = formed-front f l h k; behind = s; at = at; size = n; holds = w; long = refl }
 
     tells-reads : (a : Answer) → Tells values l s (length h) a → HouseReads run a
-    tells-reads a (held n w d) = whole lim (length h + n) (accepting-here n w) d
+    tells-reads a (held n w d) = wholeImage lim (length h + n) (accepting-here n w) d
     tells-reads a (broke n w d) = broken lim l (formed-among f l h k) h (formed-front f l h k) s at n w d
 
     tells-begun : (a : Answer) → Tells values l s (length h) a → a .code ≡ 0 → Begun run (record { answer = a; form = f; from = from })
@@ -157,7 +157,7 @@ module _ (run : List ℕ) where
 
   pub begun-reads : (x : Reading) → Begun run x → HouseReads run (x .answer)
   begun-reads x (refuses h n f g) = h
-  begun-reads x (accepts lim n w e f g) = whole lim n w e
+  begun-reads x (accepts lim n w e f g) = wholeImage lim n w e
 
 -- ---- picking
 
@@ -236,7 +236,7 @@ module _ (run : List ℕ) where
       its = only (w .list) (w .among)
 
       headed : Front (w .list) (w .head) → w .head ≡ header (w .list)
-      headed (now e) = e
+      headed (current e) = e
 
       is : w .head ++ b ≡ header kept ++ body values kept c
       is = ap (λ (z : List ℕ). z ++ b) (headed (w .front)) ∙ ap (λ (l : Listing). header l ++ body values l c) its

@@ -7,7 +7,7 @@ use Rattle.answer.specs.declared.Answer.{Answer}
 pub use Rattle.list_house.specs.Lists.{stored}
 use Rattle.image.specs.Kinds.{values}
 use Rattle.image.specs.Place.{Accepts, Reads}
-use Rattle.image.specs.Pick.{Lies, Picks, Answers, Hands}
+use Rattle.image.specs.Pick.{Lies, Picks, PickAnswers, Hands}
 
 -- the run begins with an image, n bytes long
 abbrev pub HouseAccepts : List ℕ → ℕ → Type 0
@@ -22,7 +22,7 @@ abbrev pub HousePicks : List ℕ → ℕ → ℕ → Answer → List ℕ → Typ
 HousePicks run r n a part = Picks values stored run r n a part
 
 abbrev pub HouseAnswers : List ℕ → ℕ → ℕ → Answer → Type 0
-HouseAnswers run r n a = Answers values stored run r n a
+HouseAnswers run r n a = PickAnswers values stored run r n a
 
 abbrev pub HouseHands : List ℕ → ℕ → ℕ → List ℕ → Type 0
 HouseHands run r n part = Hands values stored run r n part

@@ -19,9 +19,9 @@ use Rattle.program_line.specs.Line.{refusal}
 use Rattle.program_line.proofs.Lines.{counts}
 use Rattle.list.specs.Content.{items}
 use Rattle.list.specs.Listing.{Listing}
-use Rattle.image.specs.Image.{header, bytes}
+use Rattle.image.specs.Image.{header, itemsBytes}
 use Rattle.image.specs.Kinds.{values}
-use Rattle.image.specs.Place.{Front, now}
+use Rattle.image.specs.Place.{Front, current}
 use Rattle.image.proofs.answers.One.{accepting, accepts-in}
 use Rattle.image_reading.specs.Reads.{stored, HouseReads}
 use Rattle.image_reading.proofs.House.{house-reads-one}
@@ -65,12 +65,12 @@ module _ (place size : ℕ) where
 
 header-long : (l : Listing) (h : List ℕ) → Front l h → length h ≡ 5
 unfolding header
-header-long l h (now e) = let f : length h ≡ suc (suc (suc (length (bigEndian 2 1)))) = ap length e in omega (arith, f, big-length 2 1)
+header-long l h (current e) = let f : length h ≡ suc (suc (suc (length (bigEndian 2 1)))) = ap length e in omega (arith, f, big-length 2 1)
 
 pub image-least : (s : List ℕ) (a : Answer) → HouseReads s a → a .code ≡ 0 → 6 ≤ a .place
 image-least s a r z =
     let w = accepting values stored s a r z .1 in
-    omega (arith, w .long, header-long (w .list) (w .head) (w .front), w .holds .long, length-append (bytes values (w .list) (items (w .holds .content))) (0 ∷ []))
+    omega (arith, w .long, header-long (w .list) (w .head) (w .front), w .holds .long, length-append (itemsBytes values (w .list) (items (w .holds .content))) (0 ∷ []))
 
 -- ---- a loop that has written what stands before a place
 

@@ -13,7 +13,7 @@ use Rattle.program_line.proofs.Lines.{line-taken, counts}
 use Rattle.image_reading.specs.Reads.{HouseReads}
 use Rattle.file.specs.Checks.{Checks}
 use Rattle.unit.proofs.Programs.{place-fits, reads-back, rooms-alike}
-use Rattle.kto.specs.Says.{most, Says, longer, refused, written}
+use Rattle.kto.specs.Says.{most, Says, longer, refusedInput, written}
 use Rattle.kto.specs.Answered.{Answered, over, within}
 
 module _ (input d : List ℕ) where
@@ -27,7 +27,7 @@ module _ (input d : List ℕ) where
     -- longer input, or a refusal
     pub says-refused : Answered input d a d′ → a .code ≢ 0 → (x : List ℕ) (r : ℕ) → r ≡ length (refusal a) → r ≤ length d′ → x ≡ pasted d′ 0 (refusal a) → Says input (take r x)
     says-refused (over h e) z x r f g k = longer h (line-taken a d′ x r g k f ∙ ap refusal e)
-    says-refused (within h p b) z x r f g k = refused h a d d′ n p z (line-taken a d′ x r g k f)
+    says-refused (within h p b) z x r f g k = refusedInput h a d d′ n p z (line-taken a d′ x r g k f)
 
     -- an image
     pub says-written : Answered input d a d′ → a .code ≡ 0 → Says input (take (a .place) d′)
@@ -41,15 +41,15 @@ module _ (input d : List ℕ) where
 -- only one output fits
 pub says-one : (input u v : List ℕ) → Says input u → Says input v → u ≡ v
 says-one input u v (longer h e) (longer k f) = e ∙ sym f
-says-one input u v (longer h e) (refused k b d d′ n q w f) = absurd (omega arith)
+says-one input u v (longer h e) (refusedInput k b d d′ n q w f) = absurd (omega arith)
 says-one input u v (longer h e) (written k b d d′ n q w f r) = absurd (omega arith)
-says-one input u v (refused h a c c′ m p z e) (longer k f) = absurd (omega arith)
-says-one input u v (refused h a c c′ m p z e) (refused k b d d′ n q w f) =
+says-one input u v (refusedInput h a c c′ m p z e) (longer k f) = absurd (omega arith)
+says-one input u v (refusedInput h a c c′ m p z e) (refusedInput k b d d′ n q w f) =
     e ∙ ap refusal (rooms-alike input c d (m ∙ sym n) a b c′ d′ p q .0) ∙ sym f
-says-one input u v (refused h a c c′ m p z e) (written k b d d′ n q w f r) =
+says-one input u v (refusedInput h a c c′ m p z e) (written k b d d′ n q w f r) =
     absurd (z (ap (λ (x : Answer). x .code) (rooms-alike input c d (m ∙ sym n) a b c′ d′ p q .0) ∙ w))
 says-one input u v (written h a c c′ m p z e o) (longer k f) = absurd (omega arith)
-says-one input u v (written h a c c′ m p z e o) (refused k b d d′ n q w f) =
+says-one input u v (written h a c c′ m p z e o) (refusedInput k b d d′ n q w f) =
     absurd (w (sym (ap (λ (x : Answer). x .code) (rooms-alike input c d (m ∙ sym n) a b c′ d′ p q .0)) ∙ z))
 says-one input u v (written h a c c′ m p z e o) (written k b d d′ n q w f r) =
     e ∙ rooms-alike input c d (m ∙ sym n) a b c′ d′ p q .1 z ∙ sym f

@@ -18,6 +18,6 @@ most = 65536
 pub data Says (input said : List ℕ) : Type 0 where
   -- "Longer input gives `refused 1 0 65536` and LF"
   longer : most < length input → said ≡ refusal (answer 1 0 most) → Says input said
-  refused : length input ≤ most → (a : Answer) (d d′ : List ℕ) → length d ≡ most → Checks input d a d′ → a .code ≢ 0 → said ≡ refusal a → Says input said
+  refusedInput : length input ≤ most → (a : Answer) (d d′ : List ℕ) → length d ≡ most → Checks input d a d′ → a .code ≢ 0 → said ≡ refusal a → Says input said
   -- the image, which the reader takes for one of the same length
   written : length input ≤ most → (a : Answer) (d d′ : List ℕ) → length d ≡ most → Checks input d a d′ → a .code ≡ 0 → said ≡ take (a .place) d′ → HouseReads said a → Says input said

@@ -28,12 +28,12 @@ items (value r v k) = (r, some v) ∷ items k
 items (node r c k) = (r, none) ∷ (items c ++ items k)
 
 -- how often a row may stand in its parent
-abbrev pub Counts : Count → ℕ → Type 0
-Counts one n = n ≡ 1
-Counts optional n = n ≤ 1
-Counts Count.some n = 1 ≤ n
-Counts any n = Unit {0}
-Counts alternative n = n ≤ 1
+abbrev pub CountOk : Count → ℕ → Type 0
+CountOk one n = n ≡ 1
+CountOk optional n = n ≤ 1
+CountOk Count.several n = 1 ≤ n
+CountOk any n = Unit {0}
+CountOk alternative n = n ≤ 1
 
 -- "rows 47 and 48 are both present or both absent"
 abbrev pub Keeps : ℕ → List ℕ → Rule → Type 0
@@ -46,7 +46,7 @@ pub record Children (l : Listing) (p : ℕ) (rs : List ℕ) : Type 0 where
   pub theirs : Each (Child l p) rs
   -- "Siblings come in row order"
   pub order : Ordered rs
-  pub counts : (r : ℕ) → Child l p r → Counts (rowAt l r .count) (times r rs)
+  pub counts : (r : ℕ) → Child l p r → CountOk (rowAt l r .count) (times r rs)
   -- "a choice of exactly one child"
   pub single : rowAt l p .kind ≡ choice → length rs ≡ 1
   pub rules : Each (Keeps p rs) (l .rules)

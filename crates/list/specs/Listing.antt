@@ -21,7 +21,7 @@ pub data Kind : Type 0 where
 
 -- 1..1, 0..1, 1..n, 0..n ("n is no limit"), and no count, as within a choice
 pub data Count : Type 0 where
-  one optional some any alternative : Count
+  one optional several any alternative : Count
 
 -- "Row, name, parent row, count, kind"; the root's parent is 0
 pub record Row : Type 0 where
@@ -70,18 +70,18 @@ isChoice choice = true
 isChoice (leaf k) = false
 
 -- at most once
-abbrev pub single : Count → Bool
-single one = true
-single optional = true
-single some = false
-single any = false
-single alternative = false
+abbrev pub atMostOnce : Count → Bool
+atMostOnce one = true
+atMostOnce optional = true
+atMostOnce several = false
+atMostOnce any = false
+atMostOnce alternative = false
 
 -- at least once
 abbrev pub required : Count → Bool
 required one = true
 required optional = false
-required some = true
+required several = true
 required any = false
 required alternative = false
 

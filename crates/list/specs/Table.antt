@@ -16,7 +16,7 @@ use lib.Dec.{eqb, leb}
 use lib.ListN.{getD}
 use lib.Seq.{slice}
 use Rattle.text.specs.Lists.{same}
-use Rattle.list.specs.Listing.{ref, iban, ccy, bool, num, amt, date, dtm, txt, enum, Kind, group, choice, leaf, Count, one, optional, some, any, alternative, Row, Rule, both, Listing}
+use Rattle.list.specs.Listing.{ref, iban, ccy, bool, num, amt, date, dtm, txt, enum, Kind, group, choice, leaf, Count, one, optional, several, any, alternative, Row, Rule, both, Listing}
 
 -- column j of row r; 0 in a row above 255, in a column above 15, and past the table's end
 unfoldable pub cell : List ℕ → ℕ → ℕ → ℕ
@@ -46,7 +46,7 @@ byteOf n = cond (leb n 255) n 0
 
 -- counts and kinds in the order of their numbers
 abbrev pub counts : List Count
-counts = one ∷ optional ∷ some ∷ any ∷ []
+counts = one ∷ optional ∷ several ∷ any ∷ []
 
 abbrev pub kinds : ℕ → List (List ℕ) → List Kind
 kinds k ws =

@@ -7,7 +7,7 @@ use lib.ListN.{length}
 use Rattle.text.specs.Bytes.{inRange, isCapital, isNameStart, isNamePart, isUnmarked}
 use Rattle.text.specs.Lists.{same}
 use Rattle.list.specs.Words.{firstFrom}
-use Rattle.list.specs.Listing.{Leaf, ref, iban, ccy, bool, num, amt, date, dtm, txt, enum, Kind, group, choice, leaf, Count, one, optional, some, any, alternative, Rule, both, Listing, size, rowAt, isGroup, nextDue, up}
+use Rattle.list.specs.Listing.{Leaf, ref, iban, ccy, bool, num, amt, date, dtm, txt, enum, Kind, group, choice, leaf, Count, one, optional, several, any, alternative, Rule, both, Listing, size, rowAt, isGroup, nextDue, up}
 use Rattle.list.specs.Table.{cell, listOf}
 use Rattle.list.specs.Sound.{nextChild, firstOf, secondOf, levelIn, wordCount}
 
@@ -62,21 +62,21 @@ isSequence (leaf k) = false
 abbrev pub isAlternative : Count → Bool
 isAlternative one = false
 isAlternative optional = false
-isAlternative some = false
+isAlternative several = false
 isAlternative any = false
 isAlternative alternative = true
 
 abbrev pub isOne : Count → Bool
 isOne one = true
 isOne optional = false
-isOne some = false
+isOne several = false
 isOne any = false
 isOne alternative = false
 
 abbrev pub isOptional : Count → Bool
 isOptional one = false
 isOptional optional = true
-isOptional some = false
+isOptional several = false
 isOptional any = false
 isOptional alternative = false
 

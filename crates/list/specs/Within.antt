@@ -4,7 +4,7 @@ use mathlib.Core.Logic.{_⊎_}
 use mathlib.Core.List.{List, [], _∷_}
 use Prim.Native.Nat.{ℕ}
 use Rattle.list.specs.Listing.{Listing, size, rowAt}
-use Rattle.list.specs.Content.{Counts}
+use Rattle.list.specs.Content.{CountOk}
 
 -- l is one of the lists
 abbrev pub Among : Listing → List Listing → Type 0
@@ -17,7 +17,7 @@ pub record Within (l m : Listing) : Type 0 where
   pub many : size l ≡ size m
   pub parents : (r : ℕ) → rowAt l r .parent ≡ rowAt m r .parent
   pub kinds : (r : ℕ) → rowAt l r .kind ≡ rowAt m r .kind
-  pub counts : (r n : ℕ) → Counts (rowAt l r .count) n → Counts (rowAt m r .count) n
+  pub counts : (r n : ℕ) → CountOk (rowAt l r .count) n → CountOk (rowAt m r .count) n
   pub rules : l .rules ≡ m .rules
 
 -- l lies within one of the lists

@@ -4,20 +4,20 @@ use mathlib.Core.List.{List, [], _∷_}
 use Prim.Native.Nat.{ℕ}
 use Prim.Native.String.{String}
 use Rattle.text.specs.Bytes.{ascii}
-use Rattle.list.specs.Listing.{ref, iban, ccy, bool, num, amt, date, dtm, txt, enum, Kind, group, choice, leaf, Count, one, optional, some, any, alternative, Row, both, Listing}
+use Rattle.list.specs.Listing.{ref, iban, ccy, bool, num, amt, date, dtm, txt, enum, Kind, group, choice, leaf, Count, one, optional, several, any, alternative, Row, both, Listing}
 
 -- "name, parent row, count, kind"
 abbrev row : String → ℕ → Count → Kind → Row
 row n p c k = record { name = ascii n; parent = p; count = c; kind = k }
 
-unfoldable listed : List Row
-listed =
+unfoldable rowsListed : List Row
+rowsListed =
     row "Document" 0 one group ∷  -- 1
     row "BkToCstmrStmt" 1 one group ∷  -- 2
     row "GrpHdr" 2 one group ∷  -- 3
     row "MsgId" 3 one (leaf ref) ∷  -- 4
     row "CreDtTm" 3 one (leaf dtm) ∷  -- 5
-    row "Stmt" 2 some group ∷  -- 6
+    row "Stmt" 2 several group ∷  -- 6
     row "Id" 6 one (leaf ref) ∷  -- 7
     row "ElctrncSeqNb" 6 optional (leaf num) ∷  -- 8
     row "Acct" 6 one group ∷  -- 9
@@ -26,7 +26,7 @@ listed =
     row "Othr" 10 alternative group ∷  -- 12
     row "Id" 12 one (leaf (txt 34)) ∷  -- 13
     row "Ccy" 9 optional (leaf ccy) ∷  -- 14
-    row "Bal" 6 some group ∷  -- 15
+    row "Bal" 6 several group ∷  -- 15
     row "Tp" 15 one group ∷  -- 16
     row "CdOrPrtry" 16 one group ∷  -- 17
     row "Cd" 17 one (leaf (enum (ascii "OPBD" ∷ ascii "CLBD" ∷ ascii "PRCD" ∷ []))) ∷  -- 18
@@ -73,5 +73,5 @@ listed =
 
 -- "Rule on row 43 (..): rows 47 and 48 are both present or both absent"
 unfoldable pub house : Listing
-unfolding listed
-house = record { rows = listed; rules = both 43 47 48 ∷ []; space = ascii "urn:iso:std:iso:20022:tech:xsd:camt.053.001.08" }
+unfolding rowsListed
+house = record { rows = rowsListed; rules = both 43 47 48 ∷ []; space = ascii "urn:iso:std:iso:20022:tech:xsd:camt.053.001.08" }

@@ -6,7 +6,7 @@ use lib.ListN.{length}
 use lib.Seq.{slice}
 use Rattle.answer.specs.declared.Answer.{Answer}
 use Rattle.answer.specs.Table.{answer}
-use Rattle.image.specs.Place.{over, foreign, version, broken, whole}
+use Rattle.image.specs.Place.{over, foreign, version, broken, wholeImage}
 use Rattle.image_reading.specs.Reads.{HouseReads, HousePicks, HouseAnswers, HouseHands}
 use Rattle.image_reading.proofs.House.{house-picks-one}
 use Rattle.unit.specs.Exports.{PicksAt}
@@ -18,7 +18,7 @@ read-row run a (over h e) = ap (λ (z : Answer). z .row) e
 read-row run a (foreign h f e) = ap (λ (z : Answer). z .row) e
 read-row run a (version h l k v e) = ap (λ (z : Answer). z .row) e
 read-row run a (broken h l i k f s q n r e) = ap (λ (z : Answer). z .row) e
-read-row run a (whole h n w e) = ap (λ (z : Answer). z .row) e
+read-row run a (wholeImage h n w e) = ap (λ (z : Answer). z .row) e
 
 module _ (run : List ℕ) (r n : ℕ) where
   pub picks-at : (a : Answer) (part : List ℕ) → HouseAnswers run r n a → HouseHands run r n part → PicksAt run r n (a .code) (a .place) (length part)

@@ -14,7 +14,7 @@ use Rattle.image_reading.specs.Reads.{HouseReads}
 use Rattle.image_reading.proofs.House.{house-reads-one}
 use Rattle.file.specs.Instance.{houseKinds}
 use Rattle.file.specs.File.{imageOf}
-use Rattle.file.specs.Checks.{long, bytes, markup, violation, room, image, Checks}
+use Rattle.file.specs.Checks.{long, badBytes, markup, violation, room, imaged, Checks}
 use Rattle.file.proofs.House.{checks-one, accepted-exactly, accepted-image, read-back}
 
 module _ (s d : List ℕ) (a : Answer) (d′ : List ℕ) where
@@ -32,11 +32,11 @@ module _ (s d : List ℕ) (a : Answer) (d′ : List ℕ) where
 module _ (s d e : List ℕ) (n : length d ≡ length e) where
   moved : (a : Answer) (d′ : List ℕ) → Checks s d a d′ → (x : List ℕ) × Checks s e a x
   moved a d′ (long h q r) = (e, long h q refl)
-  moved a d′ (bytes h u k l q r) = (e, bytes h u k l q refl)
+  moved a d′ (badBytes h u k l q r) = (e, badBytes h u k l q refl)
   moved a d′ (markup h u x k l q r) = (e, markup h u x k l q refl)
   moved a d′ (violation w f r) = (e, violation w f refl)
   moved a d′ (room c f h q r) = (e, room c f (omega (arith, n)) q refl)
-  moved a d′ (image c f h q r) = (imageOf houseKinds house c ++ drop (length (imageOf houseKinds house c)) e, image c f (omega (arith, n)) q refl)
+  moved a d′ (imaged c f h q r) = (imageOf houseKinds house c ++ drop (length (imageOf houseKinds house c)) e, imaged c f (omega (arith, n)) q refl)
 
   begun : (c : Content Value) (a : Answer) (d″ x : List ℕ) → a ≡ accepted (length (imageOf houseKinds house c)) → x ≡ imageOf houseKinds house c ++ d″ → take (a .place) x ≡ imageOf houseKinds house c
   begun c a d″ x p q =

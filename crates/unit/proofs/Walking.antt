@@ -13,7 +13,7 @@ use Rattle.list.specs.Content.{items, Meets}
 use Rattle.list_house.specs.Lists.{kept}
 use Rattle.list_house.proofs.Lists.{kept-well}
 use Rattle.value.specs.Value.{Value, IsValue, bytes}
-use Rattle.image.specs.Image.{Item, valueBytes, itemBytes, bytes as bytesOf, body}
+use Rattle.image.specs.Image.{Item, valueBytes, itemBytes, itemsBytes as bytesOf, body}
 use Rattle.image.specs.Kinds.{lengthBytes, values}
 use Rattle.image.specs.mirror.Follow.{OfKind, ItemOk, Trail, Whole}
 use Rattle.image.proofs.content.Rows.{is-group, next-in, well}

@@ -7,7 +7,7 @@ use native.Mathlib.Omega.{arith}
 use native.Mathlib.Decide.{decLt}
 use Rattle.list.specs.Listing.{Leaf, ref, iban, ccy, bool, num, amt, date, dtm, txt, enum}
 use Rattle.value.specs.Day.{Real, dayText, nextDay}
-use Rattle.value.specs.Moment.{DateRule, former, present, clockText, absent, decimals, fractionText, Zone, ahead, behind, ZoneOk, zoneText, offset, Parts, ordinary, midnight}
+use Rattle.value.specs.Moment.{DateRule, former, present, clockText, noFraction, decimals, fractionText, Zone, ahead, behind, ZoneOk, zoneText, offset, Parts, ordinary, midnight}
 use Rattle.value.specs.Value.{Value, moment, IsValue, Form, Spelt}
 use Rattle.value.specs.Rules.{Timeless, FormBy, SpeltBy, InThousandths}
 use Rattle.value.proofs.dates.Dates.{few, moment-parts}
@@ -21,7 +21,7 @@ module _ (y m d y′ m′ d′ : ℕ) (r : Real y m d) (r′ : Real y′ m′ d�
       × Form dtm w (dayText y′ m′ d′ (84 ∷ clockText 0 0 0 (zoneText z []))) (moment y′ m′ d′ 0 0 0 0 (offset z))
   midnight-is = (
     Form.timed (midnight refl (record { year = y; month = m; date = d; day = r; next = e; real = r′; zone = z; good = ok; is = refl; clock = (refl, refl, refl); parts = (refl, refl) })),
-    Form.timed {h = 0} {mi = 0} {s = 0} (ordinary (record { day = r′; clock = record { hour = omega arith; minute = omega arith; second = omega arith }; fraction = absent; zone = z; good = (tt, ok); is = refl; parts = (refl, refl) })),
+    Form.timed {h = 0} {mi = 0} {s = 0} (ordinary (record { day = r′; clock = record { hour = omega arith; minute = omega arith; second = omega arith }; fraction = noFraction; zone = z; good = (tt, ok); is = refl; parts = (refl, refl) })),
   )
 
 -- "on 9999-12-31 it is refused"

@@ -8,24 +8,24 @@ use Rattle.text.specs.Lists.{All}
 use Rattle.value.specs.Plain.{decimal}
 
 pub data Sign : Type 0 where
-  none plus minus : Sign
+  unsigned plus minus : Sign
 
 abbrev pub signText : Sign → List ℕ
-signText none = []
+signText unsigned = []
 signText plus = ascii "+"
 signText minus = ascii "-"
 
 -- a point or none, and the digits behind it
 pub data Places : Type 0 where
-  absent : Places
+  noPoint : Places
   point : List ℕ → Places
 
 abbrev pub placesOf : Places → List ℕ
-placesOf absent = []
+placesOf noPoint = []
 placesOf (point ds) = ds
 
 abbrev pub placesText : Places → List ℕ
-placesText absent = []
+placesText noPoint = []
 placesText (point ds) = 46 ∷ ds
 
 -- "optional sign, digits with an optional point, at least one digit"

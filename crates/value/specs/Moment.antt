@@ -20,7 +20,7 @@ clockText h m s t = pair h (58 ∷ pair m (58 ∷ pair s t))
 
 -- none, or a point and the last k digits of n
 pub data Fraction : Type 0 where
-  absent : Fraction
+  noFraction : Fraction
   decimals : (k n : ℕ) → Fraction
 
 -- the last k digits of n, then t
@@ -29,18 +29,18 @@ figures zero n t = t
 figures (suc k) n t = figures k (n / 10) ((48 + n % 10) ∷ t)
 
 abbrev pub fractionText : Fraction → List ℕ → List ℕ
-fractionText absent t = t
+fractionText noFraction t = t
 fractionText (decimals k n) t = 46 ∷ figures k n t
 
 -- "optionally a point and three or six digits"; "now a point and one to three digits, the last not zero"
 abbrev pub FractionOk : DateRule → Fraction → Type 0
-FractionOk r absent = Unit {0}
+FractionOk r noFraction = Unit {0}
 FractionOk former (decimals k n) = ((k ≡ 3) ⊎ (k ≡ 6)) × (n < 10 ^ k)
 FractionOk present (decimals k n) = ((1 ≤ k) × (k ≤ 3)) × (n < 10 ^ k) × (n % 10 ≢ 0)
 
 -- "fractions count in microseconds, an absent one as 0"
 abbrev pub micros : Fraction → ℕ
-micros absent = 0
+micros noFraction = 0
 micros (decimals k n) = n * 10 ^ (6 - k)
 
 -- "then `Z` or sign `hh:mm`"

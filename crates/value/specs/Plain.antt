@@ -16,9 +16,9 @@ pub record Trimmed (cs t : List ℕ) : Type 0 where
   pub is : cs ≡ lead ++ (t ++ tail)
 
 -- "BOOL: `true`, `1`, `false`, `0`"
-abbrev pub Says : List ℕ → Bool → Type 0
-Says t true = (t ≡ ascii "true") ⊎ (t ≡ ascii "1")
-Says t false = (t ≡ ascii "false") ⊎ (t ≡ ascii "0")
+abbrev pub SaysTruth : List ℕ → Bool → Type 0
+SaysTruth t true = (t ≡ ascii "true") ⊎ (t ≡ ascii "1")
+SaysTruth t false = (t ≡ ascii "false") ⊎ (t ≡ ascii "0")
 
 -- the number that digits write behind a
 unfoldable pub decimalFrom : ℕ → List ℕ → ℕ

@@ -11,7 +11,7 @@ use Rattle.list.specs.Listing.{Leaf, ref, iban, ccy, bool, num, amt, date, dtm,
 pub use Rattle.list.specs.Table.{placeFrom, placeIn}
 use Rattle.value.specs.Plain.{decimal}
 use Rattle.value.specs.Day.{isReal, dayText, nextDay}
-use Rattle.value.specs.Moment.{clockText, Fraction, absent, decimals, figures, fractionText, micros, Zone, zulu, ahead, behind, zoneText, offset}
+use Rattle.value.specs.Moment.{clockText, Fraction, noFraction, decimals, figures, fractionText, micros, Zone, zulu, ahead, behind, zoneText, offset}
 use Rattle.value.specs.mirror.Texts.{textOf}
 use Rattle.value.specs.mirror.Layout.{ibanAt}
 use Rattle.value.specs.mirror.Reading.{readOf, answer}
@@ -101,14 +101,14 @@ unfoldable pub fractionOf : List ℕ → Fraction
 fractionOf l =
     cond (eqb (getD l 0 0) 46)
     (cond (isDigit (getD l 2 0)) (cond (isDigit (getD l 3 0)) (decimals 3 (threeAt 1 l)) (decimals 2 (twoAt 1 l))) (decimals 1 (getD l 1 0 - 48)))
-    absent
+    noFraction
 
 abbrev pub fractionLength : Fraction → ℕ
-fractionLength absent = 0
+fractionLength noFraction = 0
 fractionLength (decimals k n) = 1 + k
 
 abbrev pub isFraction : Fraction → Bool
-isFraction absent = true
+isFraction noFraction = true
 isFraction (decimals k n) = inRange 1 3 k && (ltb n (10 ^ k) && not (eqb (n % 10) 0))
 
 unfoldable pub zoneOf : List ℕ → Zone

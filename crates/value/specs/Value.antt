@@ -9,7 +9,7 @@ use Rattle.text_characters.specs.Utf8.{encodeAll}
 use Rattle.list.specs.Listing.{Leaf, ref, iban, ccy, bool, num, amt, date, dtm, txt, enum}
 use Rattle.value.specs.Text.{Ref, Txt}
 use Rattle.value.specs.Code.{Iban, Ccy, WordAt}
-use Rattle.value.specs.Plain.{Trimmed, Says, Num}
+use Rattle.value.specs.Plain.{Trimmed, SaysTruth, Num}
 use Rattle.value.specs.Amount.{Bounded, Amount}
 use Rattle.value.specs.Day.{Real, dayText}
 use Rattle.value.specs.Moment.{Parts, present, MomentText}
@@ -44,7 +44,7 @@ pub data Form : Leaf → List ℕ → List ℕ → Value → Type 0 where
   account : {w cs : List ℕ} → Iban cs → Form iban w cs (text cs)
   currency : {w cs : List ℕ} → Ccy cs → Form ccy w cs (text cs)
   listed : {ws : List (List ℕ)} {n : ℕ} {w cs : List ℕ} → WordAt ws n cs → Form (enum ws) w cs (place n)
-  either : {b : Bool} {w cs : List ℕ} → Says cs b → Form bool w cs (truth b)
+  either : {b : Bool} {w cs : List ℕ} → SaysTruth cs b → Form bool w cs (truth b)
   count : {n : ℕ} {w cs : List ℕ} → Num cs n → Form num w cs (natural n)
   money : {w cs : List ℕ} {k c : ℕ} → Ccy w → Amount cs c k → Form amt w cs (amount w k c)
   dated : {y m d : ℕ} {w cs : List ℕ} → Real y m d → cs ≡ dayText y m d [] → Form date w cs (day y m d)

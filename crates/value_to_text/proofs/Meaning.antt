@@ -28,7 +28,7 @@ use Rattle.list.specs.WellFormed.{LeafOk}
 use Rattle.value.specs.Kind.{code}
 use Rattle.value.specs.Code.{Ccy}
 use Rattle.value.specs.Day.{Real, pair, dayText}
-use Rattle.value.specs.Moment.{Parts, Fraction, absent, decimals, figures, clockText, fractionText, zoneText}
+use Rattle.value.specs.Moment.{Parts, Fraction, noFraction, decimals, figures, clockText, fractionText, zoneText}
 use Rattle.value.specs.Value.{Value, text, place, truth, natural, amount, day, moment, IsValue, bytes}
 use Rattle.value.proofs.classes.Classes.{Solid}
 use Rattle.value.proofs.dates.Dates.{month-most}
@@ -137,7 +137,7 @@ three-clock h m s t a b c =
     ∙ two h (58 ∷ pair m (58 ∷ pair s t)) a
 
 places-raw : (x : Fraction) (t : List ℕ) → placesRaw x ++ t ≡ fractionText x t
-places-raw absent t = refl
+places-raw noFraction t = refl
 places-raw (decimals k n) t = ap (λ (l : List ℕ). 46 ∷ l) (all-of k n t)
 
 fraction-raw : (u : ℕ) (t : List ℕ) → fractionRaw u ++ t ≡ fractionText (fractionOf u) t

@@ -16,7 +16,7 @@ use Rattle.text.specs.Puts.{Puts}
 use Rattle.text.proofs.Digits.{length-padded}
 use Rattle.text.proofs.Pasting.{length-pasted, slice-pasted, pasted-none}
 use Rattle.text.proofs.Puts.{puts-then}
-use Rattle.value.specs.Moment.{absent, decimals}
+use Rattle.value.specs.Moment.{noFraction, decimals}
 use Rattle.value_to_text.specs.Script.{fractionOf}
 use Rattle.value_to_text.specs.mirror.Stored.{threeRaw, placesRaw, fractionRaw, offsetRaw, zoneRaw, dayIn, clockIn, momentIn}
 
@@ -72,7 +72,7 @@ module _ (sign : List ℕ) (one : length sign ≡ 1) where
         p₁ .is (omega (arith, offset-long))
 
 -- a fraction: which one it is, by the tests
-pub none-of : (u : ℕ) → u ≡ 0 → fractionOf u ≡ absent
+pub none-of : (u : ℕ) → u ≡ 0 → fractionOf u ≡ noFraction
 unfolding fractionOf
 none-of u e = ap fractionOf e
 

@@ -15,10 +15,10 @@ use Rattle.text.specs.Lists.{All}
 use Rattle.text.specs.Digits.{digits as figuresIn, inDigits, padded}
 use Rattle.text.proofs.Digits.{digits-one, digits-more, length-some, length-most, length-padded, tenths}
 use Rattle.list.specs.Listing.{Leaf, ref, iban, ccy, bool, num, amt, date, dtm, txt, enum}
-use Rattle.value.specs.Plain.{decimalFrom, decimal, Num, Says, Trimmed}
-use Rattle.value.specs.Amount.{Decimal, Bounded, Amount, absent as whole, point}
+use Rattle.value.specs.Plain.{decimalFrom, decimal, Num, SaysTruth, Trimmed}
+use Rattle.value.specs.Amount.{Decimal, Bounded, Amount, noPoint as whole, point}
 use Rattle.value.specs.Amount as A
-use Rattle.value.specs.Moment.{former, present, Fraction, absent, decimals, FractionOk, micros, Zone, zulu, ahead, behind, ZoneOk, offset, Parts, MomentText, ordinary}
+use Rattle.value.specs.Moment.{former, present, Fraction, noFraction, decimals, FractionOk, micros, Zone, zulu, ahead, behind, ZoneOk, offset, Parts, MomentText, ordinary}
 use Rattle.value.specs.Value.{Value, text, day, moment, IsValue, Form, Left, Spelt}
 use Rattle.value.specs.Rules.{InThousandths}
 use Rattle.value.proofs.classes.Classes.{digit-yes}
@@ -112,13 +112,13 @@ joined (suc k) c =
     ∙ ap (λ (w : ℕ). w * 10 + c % 10) (joined k (c / 10)) ∙ i
 
 -- without a sign
-unsigned : {t : List ℕ} {c k : ℕ} (d : Decimal t c k) → d .text .sign ≡ A.none → Bounded c k → Amount t c k
-unsigned d n b = record { spells = d; bounds = b; sign = λ e. let q : A.none ≡ A.minus = sym n ∙ e in absurd (let z : _≡_ {A = ℕ} 0 1 = cc in omega arith) }
+unsigned : {t : List ℕ} {c k : ℕ} (d : Decimal t c k) → d .text .sign ≡ A.unsigned → Bounded c k → Amount t c k
+unsigned d n b = record { spells = d; bounds = b; sign = λ e. let q : A.unsigned ≡ A.minus = sym n ∙ e in absurd (let z : _≡_ {A = ℕ} 0 1 = cc in omega arith) }
 
 pub amount-spelt : (k c : ℕ) → Bounded c k → Amount (amountText k c) c k
 amount-spelt zero c b =
     unsigned (record {
-      text = record { sign = A.none; whole = inDigits c; places = whole; is = sym (append-nil (inDigits c)); digits = (figures c .digits, tt); some = omega (arith, length-some c, ap length (append-nil (inDigits c))) };
+      text = record { sign = A.unsigned; whole = inDigits c; places = whole; is = sym (append-nil (inDigits c)); digits = (figures c .digits, tt); some = omega (arith, length-some c, ap length (append-nil (inDigits c))) };
       same = ap (λ (w : ℕ). w * 10 ^ 0) (ap decimal (append-nil (inDigits c)) ∙ figures c .is);
       least = b .least;
     }) refl b
@@ -126,7 +126,7 @@ amount-spelt (suc k) c b =
     let n = c / 10 ^ suc k in
     unsigned (record {
       text = record {
-        sign = A.none;
+        sign = A.unsigned;
         whole = inDigits n;
         places = point (padded (suc k) c);
         is = refl;
@@ -169,7 +169,7 @@ nought = refl
 
 -- the fraction that is written, and why it is that one
 data Chosen (u : ℕ) : Fraction → Type 0 where
-  none : u ≡ 0 → Chosen u absent
+  none : u ≡ 0 → Chosen u noFraction
   one : u ≢ 0 → u % 100000 ≡ 0 → Chosen u (decimals 1 (u / 100000))
   two : u % 100000 ≢ 0 → u % 10000 ≡ 0 → Chosen u (decimals 2 (u / 10000))
   three : u % 10000 ≢ 0 → u % 1000 ≡ 0 → Chosen u (decimals 3 (u / 1000))
@@ -205,7 +205,7 @@ tens n w e = omega arith
 
 -- the shortest: the present rule has no other fraction of so many microseconds
 pub only-fraction : (x : Fraction) → FractionOk present x → (u : ℕ) → u ≡ micros x → fractionOf u ≡ x
-only-fraction absent g u e = none-of u e
+only-fraction noFraction g u e = none-of u e
 only-fraction (decimals zero n) g u e = absurd (omega (arith, g .0 .0))
 only-fraction (decimals (suc zero) n) g u e =
     let q : u / 100000 ≡ n = omega arith in
@@ -249,7 +249,7 @@ moment-firm {y} {mo} {d} {h} {mi} {s} {u} {z} p =
 
 -- ---- all kinds
 
-says : (b : Bool) → Says (truthText b) b
+says : (b : Bool) → SaysTruth (truthText b) b
 says true = inl refl
 says false = inl refl
 

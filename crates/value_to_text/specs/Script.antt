@@ -8,7 +8,7 @@ use Rattle.text.specs.Bytes.{ascii}
 use Rattle.text.specs.Digits.{inDigits, pointed}
 use Rattle.list.specs.Listing.{Leaf, ref, iban, ccy, bool, num, amt, date, dtm, txt, enum}
 use Rattle.value.specs.Day.{dayText}
-use Rattle.value.specs.Moment.{Fraction, absent, decimals, fractionText, Zone, zulu, ahead, behind, zoneText, clockText}
+use Rattle.value.specs.Moment.{Fraction, noFraction, decimals, fractionText, Zone, zulu, ahead, behind, zoneText, clockText}
 use Rattle.value.specs.Value.{Value, text, place, truth, natural, amount, day, moment}
 
 -- "amounts with their smallest scale and digits written most significant first (as `0.5` and `7`)"
@@ -23,7 +23,7 @@ truthText false = ascii "false"
 -- "The writer of §1 writes the shortest fraction": of so many microseconds. What is finer than thousandths has a text by the former rule alone, its six digits
 unfoldable pub fractionOf : ℕ → Fraction
 fractionOf u =
-    cond (eqb u 0) absent (cond (eqb (u % 100000) 0) (decimals 1 (u / 100000)) (cond (eqb (u % 10000) 0) (decimals 2 (u / 10000)) (cond (eqb (u % 1000) 0) (decimals 3 (u / 1000)) (decimals 6 u))))
+    cond (eqb u 0) noFraction (cond (eqb (u % 100000) 0) (decimals 1 (u / 100000)) (cond (eqb (u % 10000) 0) (decimals 2 (u / 10000)) (cond (eqb (u % 1000) 0) (decimals 3 (u / 1000)) (decimals 6 u))))
 
 -- "offset zero as `Z`"
 abbrev pub zoneOf : ℕ → Zone

@@ -15,7 +15,7 @@ use Rattle.text_characters.specs.Pieces as pieces
 use Rattle.text_characters.specs.Utf8.{Scalar, encode, encodeAll, Utf8}
 use Rattle.text_characters.proofs.Decoding.{encode1}
 use Rattle.text_characters.proofs.Resolving.{xml-scalar}
-use Rattle.xml.specs.House.{Blanks, Quote, mark, GoodValue, Attr, attr, attrs, GoodAttr, GoodAttrs, Tag, tag, GoodTag, render, Good, declaration, Tree, whole, GoodTree, HouseXml}
+use Rattle.xml.specs.House.{Blanks, Quote, mark, GoodValue, Attr, attr, attrs, GoodAttr, GoodAttrs, Tag, tag, GoodTag, render, GoodMarkup, declaration, Tree, whole, GoodTree, HouseXml}
 use Rattle.xml.specs.House as X
 use Rattle.xml.proofs.Basics.{isFullPart, name-full, full-name}
 
@@ -98,7 +98,7 @@ utf8-value q [] h = utf8-none
 utf8-value q (p ∷ ps) h = utf8-append (utf8-piece p (h .0)) (utf8-value q ps (h .2))
 
 mark-low : (q : Quote) → mark q < 128
-mark-low X.single = omega arith
+mark-low X.singleQuote = omega arith
 mark-low X.double = omega arith
 
 utf8-attr : (a : Attr) → GoodAttr a → Utf8 (attr a)
@@ -114,11 +114,11 @@ utf8-attrs (suc n) seen (a ∷ more) h = utf8-append (utf8-attr a (h .0)) (utf8-
 utf8-tag : (t : Tag) → GoodTag t → Utf8 (tag t)
 utf8-tag t g = utf8-append (utf8-name (t .name) (name-full (t .name) (g .name))) (utf8-append (utf8-attrs 4 [] (t .attributes) (g .attributes)) (utf8-blanks (t .gap) (g .gap)))
 
-utf8-content : (d : ℕ) (x : X.Content) → Good d x → Utf8 (render x)
-utf8-content d X.end h = utf8-none
+utf8-content : (d : ℕ) (x : X.Markup) → GoodMarkup d x → Utf8 (render x)
+utf8-content d X.noMore h = utf8-none
 utf8-content d (X.piece p x) h = utf8-append (utf8-piece p (h .0)) (utf8-content d x (h .2))
-utf8-content zero (X.empty t x) h = absurd h
-utf8-content (suc d) (X.empty t x) h = utf8-ascii less (omega arith) (utf8-append (utf8-tag t (h .0)) (utf8-ascii solidus (omega arith) (utf8-ascii greater (omega arith) (utf8-content (suc d) x (h .1)))))
+utf8-content zero (X.emptyTag t x) h = absurd h
+utf8-content (suc d) (X.emptyTag t x) h = utf8-ascii less (omega arith) (utf8-append (utf8-tag t (h .0)) (utf8-ascii solidus (omega arith) (utf8-ascii greater (omega arith) (utf8-content (suc d) x (h .1)))))
 utf8-content zero (X.full t i g x) h = absurd h
 utf8-content (suc d) (X.full t i g x) h =
     utf8-ascii less (omega arith) (utf8-append (utf8-tag t (h .0)) (utf8-ascii greater (omega arith) (utf8-append (utf8-content d i (h .1)) (utf8-ascii less (omega arith) (utf8-ascii solidus (omega arith)

@@ -10,7 +10,7 @@ use borrow.Author.Tests.{eq-eqb, ne-eqb}
 use Rattle.text.specs.Bytes.{isBlank, isNameStart, isNamePart}
 use Rattle.text.specs.Lists.{All}
 use Rattle.text_characters.specs.Pieces.{Piece, char, spell}
-use Rattle.xml.specs.House.{Blanks, SomeBlanks, IsName, IsAttrName, Quote, single, double, mark, GoodValue, Attr, GoodAttr, Fresh, GoodAttrs, Tag, GoodTag, Content, end, piece, empty, full, OneElement, declaration}
+use Rattle.xml.specs.House.{Blanks, SomeBlanks, IsName, IsAttrName, Quote, singleQuote, double, mark, GoodValue, Attr, GoodAttr, Fresh, GoodAttrs, Tag, GoodTag, Markup, noMore, piece, emptyTag, full, OneElement, declaration}
 use Rattle.xml.proofs.Runs.{cuts, brackets, GoodAfter}
 use Rattle.xml.specs.mirror.Auto.{Part, Read, bad, all, more, lead, go-on, takes, At, done, start, first, before, root, name, tail, gap, attr, Mode, early, colon, late, grows, goesTo, mayStop, equals, quote, value, within, slash, content, part, less, close, St, at, member, after, endStep, valueNext, contentNext, next, step, run}
 use Rattle.xml.proofs.Basics.{by-blank, blank-no-rest, blank-no-start, no-colon, fresh-member}
@@ -167,7 +167,7 @@ module _ (q : Quote) (k : ℕ) (ss : List (List ℕ)) (d : ℕ) (n : List ℕ) (
 
   mark-lead : lead (mark q) ≡ all
   unfolding lead
-  mark-lead = elim q [ single ↦ refl | double ↦ refl ]
+  mark-lead = elim q [ singleQuote ↦ refl | double ↦ refl ]
 
   value-piece : (p : Piece) (w : List ℕ) → p ≢ char (mark q) → Seen p → run (at (value q k ss d n ns)) (spell p ++ w) ≡ run (at (value q k ss d n ns)) w
   unfolding next
@@ -208,7 +208,7 @@ module _ (d : ℕ) (n : List ℕ) (ns : List (List ℕ)) where
 
   quote-mark : (k : ℕ) (ss : List (List ℕ)) (q : Quote) → next (quote k ss d n ns) (mark q) ≡ at (value q k ss d n ns)
   unfolding next isBlank
-  quote-mark k ss single = refl
+  quote-mark k ss singleQuote = refl
   quote-mark k ss double = refl
 
   quote-run : (k : ℕ) (ss : List (List ℕ)) (q : Quote) (g u : List ℕ) → Blanks g → run (at (quote k ss d n ns)) (g ++ (mark q ∷ u)) ≡ run (at (value q k ss d n ns)) u
@@ -279,12 +279,12 @@ less-name : (d : ℕ) (n : List ℕ) (ns : List (List ℕ)) (x : ℕ) → isName
 unfolding next
 less-name d n ns x e = rw e refl
 
-pub content-run : (c : Content) (r d : ℕ) (n : List ℕ) (ns : List (List ℕ)) (g u : List ℕ) → GoodAfter d r c → Blanks g → run (at (content r d n ns)) (on c (endOn n g u)) ≡ run (at (after (suc d) ns)) u
+pub content-run : (c : Markup) (r d : ℕ) (n : List ℕ) (ns : List (List ℕ)) (g u : List ℕ) → GoodAfter d r c → Blanks g → run (at (content r d n ns)) (on c (endOn n g u)) ≡ run (at (after (suc d) ns)) u
 unfolding next isNameStart isBlank isNamePart
-content-run end r d n ns g u h b = go (content r d n ns) 60 _ refl ∙ go (less d n ns) 47 _ refl ∙ close-run n (suc d) ns g u b
+content-run noMore r d n ns g u h b = go (content r d n ns) 60 _ refl ∙ go (less d n ns) 47 _ refl ∙ close-run n (suc d) ns g u b
 content-run (piece p k) r d n ns g u h b = content-piece d n ns r p (on k (endOn n g u)) (h .1) (seen p (h .0)) ∙ content-run k (brackets r p) d n ns g u (h .2) b
-content-run (empty t k) r zero n ns g u h b = absurd h
-content-run (empty t k) r (suc d) n ns g u h b =
+content-run (emptyTag t k) r zero n ns g u h b = absurd h
+content-run (emptyTag t k) r (suc d) n ns g u h b =
     go (content r (suc d) n ns) 60 _ refl
     ∙ tag-run (less (suc d) n ns) d (n ∷ ns) (less-name d n ns) t 47 _ (h .0) refl refl refl
     ∙ go (slash d (n ∷ ns)) 62 _ refl
@@ -302,31 +302,31 @@ unfolding next run
 done-run a b = ap (run (at done)) (sym (append-nil a)) ∙ loop done (λ x e. rw e refl) a [] b
 
 -- what an element is rendered to behind its `<`
-abbrev pub inner : Content → List ℕ → List ℕ
-inner end a = []
+abbrev pub inner : Markup → List ℕ → List ℕ
+inner noMore a = []
 inner (piece p k) a = []
-inner (empty t k) a = tagOn t (47 ∷ 62 ∷ on k a)
+inner (emptyTag t k) a = tagOn t (47 ∷ 62 ∷ on k a)
 inner (full t i g k) a = tagOn t (62 ∷ on i (endOn (t .name) g (on k a)))
 
-root-run : (s : At) → ((x : ℕ) → isNameStart x ≡ true → next s x ≡ at (name 15 (x ∷ []) [])) → (c : Content) (a : List ℕ) → OneElement c → GoodAfter 16 0 c → Blanks a → run (at s) (inner c a) ≡ at done
+root-run : (s : At) → ((x : ℕ) → isNameStart x ≡ true → next s x ≡ at (name 15 (x ∷ []) [])) → (c : Markup) (a : List ℕ) → OneElement c → GoodAfter 16 0 c → Blanks a → run (at s) (inner c a) ≡ at done
 unfolding next isNameStart isBlank isNamePart
-root-run s f end a o h b = absurd o
+root-run s f noMore a o h b = absurd o
 root-run s f (piece p k) a o h b = absurd o
-root-run s f (empty t k) a o h b =
-    ap (λ (z : Content). run (at s) (tagOn t (47 ∷ 62 ∷ on z a))) o
+root-run s f (emptyTag t k) a o h b =
+    ap (λ (z : Markup). run (at s) (tagOn t (47 ∷ 62 ∷ on z a))) o
     ∙ tag-run s 15 [] f t 47 _ (h .0) refl refl refl
     ∙ go (slash 15 []) 62 _ refl
     ∙ done-run a b
 root-run s f (full t i g k) a o h b =
-    ap (λ (z : Content). run (at s) (tagOn t (62 ∷ on i (endOn (t .name) g (on z a))))) o
+    ap (λ (z : Markup). run (at s) (tagOn t (62 ∷ on i (endOn (t .name) g (on z a))))) o
     ∙ tag-run s 15 [] f t 62 _ (h .0) refl refl refl
     ∙ content-run i 0 15 (t .name) [] g a (h .1) (h .2)
     ∙ done-run a b
 
-inner-is : (c : Content) (a : List ℕ) → OneElement c → on c a ≡ 60 ∷ inner c a
-inner-is end a o = absurd o
+inner-is : (c : Markup) (a : List ℕ) → OneElement c → on c a ≡ 60 ∷ inner c a
+inner-is noMore a o = absurd o
 inner-is (piece p k) a o = absurd o
-inner-is (empty t k) a o = refl
+inner-is (emptyTag t k) a o = refl
 inner-is (full t i g k) a o = refl
 
 root-name : (x : ℕ) → isNameStart x ≡ true → next root x ≡ at (name 15 (x ∷ []) [])
@@ -337,7 +337,7 @@ first-name : (x : ℕ) → isNameStart x ≡ true → next first x ≡ at (name 
 unfolding next
 first-name x e = rw e refl
 
-before-run : (g : List ℕ) (c : Content) (a : List ℕ) → Blanks g → OneElement c → GoodAfter 16 0 c → Blanks a → run (at before) (g ++ on c a) ≡ at done
+before-run : (g : List ℕ) (c : Markup) (a : List ℕ) → Blanks g → OneElement c → GoodAfter 16 0 c → Blanks a → run (at before) (g ++ on c a) ≡ at done
 unfolding next isBlank
 before-run g c a bg o h b =
     loop before (λ x e. rw e refl) g (on c a) bg
@@ -345,7 +345,7 @@ before-run g c a bg o h b =
     ∙ go before 60 _ refl
     ∙ root-run root root-name c a o h b
 
-pub start-run : (q : Bool) (g : List ℕ) (c : Content) (a : List ℕ) → Blanks g → OneElement c → GoodAfter 16 0 c → Blanks a → run (at start) (declaration q ++ (g ++ on c a)) ≡ at done
+pub start-run : (q : Bool) (g : List ℕ) (c : Markup) (a : List ℕ) → Blanks g → OneElement c → GoodAfter 16 0 c → Blanks a → run (at start) (declaration q ++ (g ++ on c a)) ≡ at done
 unfolding next run step isBlank isNameStart
 start-run true g c a bg o h b = before-run g c a bg o h b
 start-run false [] c a bg o h b =

@@ -11,7 +11,7 @@ use Rattle.text.specs.Bytes.{ascii, isBlank, isNameStart, isNamePart}
 use Rattle.text_characters.specs.Utf8.{encode}
 use Rattle.text.specs.Lists.{All, Begins}
 use Rattle.text_characters.specs.Pieces.{Piece, char, spell}
-use Rattle.xml.specs.House.{Blanks, Quote, single, double, mark, GoodValue, IsAttrName, Attr, Fresh, GoodAttrs, Tag, GoodTag, Content, end, piece, empty, full, declaration}
+use Rattle.xml.specs.House.{Blanks, Quote, singleQuote, double, mark, GoodValue, IsAttrName, Attr, Fresh, GoodAttrs, Tag, GoodTag, Markup, noMore, piece, emptyTag, full, declaration}
 use Rattle.xml.proofs.Runs.{cuts, brackets, GoodAfter}
 use Rattle.xml.specs.mirror.Auto.{Part, one, two, three, e0, ed, ef, efbf, f0, f4, ampersand, ampersandA, rest, Read, bad, all, more, toWord, lead, go-on, takes, At, done, start, first, before, root, declare, name, tail, gap, attr, Mode, early, colon, late, grows, goesTo, mayStop, equals, quote, value, within, slash, content, part, less, close, St, dead, at, member, after, tailStep, endStep, gapStep, equalsStep, valueNext, contentNext, push, closeStep, declareNext, next}
 use Rattle.xml.proofs.Basics.{member-fresh, size, many, grown}
@@ -35,15 +35,15 @@ tagOn t u = t .name ++ attrsOn (t .attributes) (t .gap ++ u)
 abbrev pub endOn : List ℕ → List ℕ → List ℕ → List ℕ
 endOn n g u = 60 ∷ 47 ∷ (n ++ (g ++ (62 ∷ u)))
 
-abbrev pub on : Content → List ℕ → List ℕ
-on end u = u
+abbrev pub on : Markup → List ℕ → List ℕ
+on noMore u = u
 on (piece p k) u = spell p ++ on k u
-on (empty t k) u = 60 ∷ tagOn t (47 ∷ 62 ∷ on k u)
+on (emptyTag t k) u = 60 ∷ tagOn t (47 ∷ 62 ∷ on k u)
 on (full t i g k) u = 60 ∷ tagOn t (62 ∷ on i (endOn (t .name) g (on k u)))
 
 -- content of n, good with d levels left and after r brackets, n's end tag, and then what R takes
 pub record ContentL (d r : ℕ) (n : List ℕ) (R : List ℕ → Type 0) (t : List ℕ) : Type 0 where
-  pub tree : Content
+  pub tree : Markup
   pub good : GoodAfter d r tree
   pub gap : List ℕ
   pub blanks : Blanks gap
@@ -323,7 +323,7 @@ quote-back k ss d n ns x t h =
     pick (isBlank x) h
     (λ e g. let o = g .is in record { gap = x ∷ o .gap; blanks = (e, o .blanks); quote = o .quote; rest = o .rest; is = put x (o .is); then = o .then })
     (λ _ g. pick (eqb x 39) g
-    (λ e g. record { gap = []; blanks = tt; quote = single; rest = t; is = put′ (eqb-true x 39 e) refl; then = g .is })
+    (λ e g. record { gap = []; blanks = tt; quote = singleQuote; rest = t; is = put′ (eqb-true x 39 e) refl; then = g .is })
     (λ _ g. only x 34 g (λ e g. record { gap = []; blanks = tt; quote = double; rest = t; is = put′ e refl; then = g .is })))
 
 -- a piece by its bytes, in front of what follows
@@ -337,7 +337,7 @@ part-back p P x t (more q) e h = record { bytes = x ∷ h .bytes; ok = ap (takes
 
 -- values
 mark-low : (q : Quote) → mark q < 128
-mark-low single = omega arith
+mark-low singleQuote = omega arith
 mark-low double = omega arith
 
 value-next : (r : Read) (q : Quote) (k : ℕ) (ss : List (List ℕ)) (d : ℕ) (n : List ℕ) (ns : List (List ℕ)) (t : List ℕ) → LS (valueNext r q k ss d n ns) t → ReadL r (ValueL q k ss (EndL d n ns)) (ValueL q k ss (EndL d n ns)) t
@@ -381,7 +381,7 @@ content-lead r d n R x t cut (more p) e h =
 -- an element, and then what stands behind it
 pub data ElementL (d : ℕ) (R : List ℕ → Type 0) (t : List ℕ) : Type 0 where
   e-empty : (g : Tag) → GoodTag g → (u : List ℕ) → t ≡ 60 ∷ tagOn g (47 ∷ 62 ∷ u) → R u → ElementL d R t
-  e-full : (g : Tag) → GoodTag g → (i : Content) → GoodAfter d 0 i → (b : List ℕ) → Blanks b → (u : List ℕ) → t ≡ 60 ∷ tagOn g (62 ∷ on i (endOn (g .name) b u)) → R u → ElementL d R t
+  e-full : (g : Tag) → GoodTag g → (i : Markup) → GoodAfter d 0 i → (b : List ℕ) → Blanks b → (u : List ℕ) → t ≡ 60 ∷ tagOn g (62 ∷ on i (endOn (g .name) b u)) → R u → ElementL d R t
 
 pub element : (d : ℕ) (ns : List (List ℕ)) (x : ℕ) (t : List ℕ) → isNameStart x ≡ true → NameL d (x ∷ []) ns t → ElementL d (Rest (suc d) ns) (60 ∷ x ∷ t)
 element d ns x t e o = go (o .then .then)
@@ -400,12 +400,12 @@ element d ns x t e o = go (o .then .then)
     go (shuts u eu r) = e-empty g good u (cc (o .is, ta .is, eu)) r
 
 element-in : (d r : ℕ) (n : List ℕ) (R : List ℕ → Type 0) (t : List ℕ) → ElementL d (ContentL (suc d) 0 n R) t → ContentL (suc d) r n R t
-element-in d r n R t (e-empty g good u et c) = record { tree = empty g (c .tree); good = (good, c .good); gap = c .gap; blanks = c .blanks; rest = c .rest; is = cc (et, c .is); then = c .then }
+element-in d r n R t (e-empty g good u et c) = record { tree = emptyTag g (c .tree); good = (good, c .good); gap = c .gap; blanks = c .blanks; rest = c .rest; is = cc (et, c .is); then = c .then }
 element-in d r n R t (e-full g good i gi b bs u et c) = record { tree = full g i b (c .tree); good = (good, gi, bs, c .good); gap = c .gap; blanks = c .blanks; rest = c .rest; is = cc (et, c .is); then = c .then }
 
 less-in : (r d : ℕ) (n : List ℕ) (ns : List (List ℕ)) (t : List ℕ) → LessL d n ns t → ContentL d r n (Rest (suc d) ns) (60 ∷ t)
 less-in r d n ns t (l-el d′ ek x e u et o) = rw (ek, et) (element-in d′ r n (Rest (suc (suc d′)) ns) (60 ∷ x ∷ u) (element d′ (n ∷ ns) x u e o))
-less-in r d n ns t (l-close u et o) = record { tree = end; good = tt; gap = o .gap; blanks = o .blanks; rest = o .rest; is = cc (et, o .is); then = o .then }
+less-in r d n ns t (l-close u et o) = record { tree = noMore; good = tt; gap = o .gap; blanks = o .blanks; rest = o .rest; is = cc (et, o .is); then = o .then }
 
 content-back : (r d : ℕ) (n : List ℕ) (ns : List (List ℕ)) (x : ℕ) (t : List ℕ) → LS (next (content r d n ns) x) t → ContentL d r n (Rest (suc d) ns) (x ∷ t)
 unfolding next
@@ -495,10 +495,10 @@ back (close q d ns) x t h = close-back q d ns x t h
 -- every state takes something
 rest-live : (d : ℕ) (ns : List (List ℕ)) → (u : List ℕ) × Rest d ns u
 rest-live d [] = ([], tt)
-rest-live d (n ∷ ns) = let w = rest-live (suc d) ns in (endOn n [] (w .0), record { tree = end; good = tt; gap = []; blanks = tt; rest = w .0; is = refl; then = w .1 })
+rest-live d (n ∷ ns) = let w = rest-live (suc d) ns in (endOn n [] (w .0), record { tree = noMore; good = tt; gap = []; blanks = tt; rest = w .0; is = refl; then = w .1 })
 
 content-live : (r d : ℕ) (n : List ℕ) (ns : List (List ℕ)) → (u : List ℕ) × ContentL d r n (Rest (suc d) ns) u
-content-live r d n ns = let w = rest-live (suc d) ns in (endOn n [] (w .0), record { tree = end; good = tt; gap = []; blanks = tt; rest = w .0; is = refl; then = w .1 })
+content-live r d n ns = let w = rest-live (suc d) ns in (endOn n [] (w .0), record { tree = noMore; good = tt; gap = []; blanks = tt; rest = w .0; is = refl; then = w .1 })
 
 end-live : (d : ℕ) (n : List ℕ) (ns : List (List ℕ)) → (u : List ℕ) × EndL d n ns u
 end-live d n ns = let w = rest-live (suc d) ns in (47 ∷ 62 ∷ w .0, shuts (w .0) refl (w .1))

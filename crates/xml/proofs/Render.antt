@@ -3,7 +3,7 @@ use mathlib.Core.Path.{_≡_, refl, _∙_, ap}
 use mathlib.Core.List.{List, [], _∷_, _++_, append-assoc}
 use Prim.Native.Nat.{ℕ}
 use Rattle.text_characters.specs.Pieces.{Piece, spell, spells}
-use Rattle.xml.specs.House.{mark, Attr, attr, attrs, Tag, tag, Content, end, piece, empty, full, render}
+use Rattle.xml.specs.House.{mark, Attr, attr, attrs, Tag, tag, Markup, noMore, piece, emptyTag, full, render}
 use Rattle.xml.proofs.Lang.{spellsOn, attrOn, attrsOn, tagOn, endOn, on}
 
 spells-on : (ps : List Piece) (u : List ℕ) → spells ps ++ u ≡ spellsOn ps u
@@ -30,10 +30,10 @@ tag-on t u =
 full-shape : (t i n g k u : List ℕ) → (60 ∷ (t ++ (62 ∷ (i ++ (60 ∷ 47 ∷ (n ++ (g ++ (62 ∷ k)))))))) ++ u ≡ 60 ∷ (t ++ (62 ∷ (i ++ (60 ∷ 47 ∷ (n ++ (g ++ (62 ∷ (k ++ u))))))))
 full-shape t i n g k u = simp append-assoc
 
-pub render-on : (c : Content) (u : List ℕ) → render c ++ u ≡ on c u
-render-on end u = refl
+pub render-on : (c : Markup) (u : List ℕ) → render c ++ u ≡ on c u
+render-on noMore u = refl
 render-on (piece p k) u = append-assoc (spell p) (render k) u ∙ ap (λ (l : List ℕ). spell p ++ l) (render-on k u)
-render-on (empty t k) u =
+render-on (emptyTag t k) u =
     ap (λ (l : List ℕ). 60 ∷ l) (append-assoc (tag t) (47 ∷ 62 ∷ render k) u ∙ ap (λ (l : List ℕ). tag t ++ (47 ∷ 62 ∷ l)) (render-on k u) ∙ tag-on t (47 ∷ 62 ∷ on k u))
 render-on (full t i g k) u =
     full-shape (tag t) (render i) (t .name) g (render k) u

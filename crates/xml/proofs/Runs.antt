@@ -7,7 +7,7 @@ use lib.Dec.{leb, eqb}
 use borrow.Author.Tests.{eqb-true, ne-eqb, le-leb, lt-leb, leb-true, leb-false}
 use Rattle.text_characters.specs.Pieces.{Piece, char, entity, GoodPiece}
 use Rattle.text.proofs.Classes.{or-not}
-use Rattle.xml.specs.House.{Blanks, GoodTag, Content, end, piece, empty, full, begins, behind, cut, Good}
+use Rattle.xml.specs.House.{Blanks, GoodTag, Markup, noMore, piece, emptyTag, full, begins, following, cut, GoodMarkup}
 
 abbrev pub cuts : ℕ → Piece → Bool
 cuts r (char c) = eqb c 62 && leb 2 r
@@ -18,17 +18,17 @@ brackets r (char c) = cond (eqb c 93) (suc r) 0
 brackets r (entity e) = 0
 
 -- good with d levels left, after r brackets
-abbrev pub GoodAfter : ℕ → ℕ → Content → Type 0
-GoodAfter d r end = Unit {0}
+abbrev pub GoodAfter : ℕ → ℕ → Markup → Type 0
+GoodAfter d r noMore = Unit {0}
 GoodAfter d r (piece p k) = GoodPiece p × (cuts r p ≡ false) × GoodAfter d (brackets r p) k
-GoodAfter zero r (empty t k) = ⊥
-GoodAfter (suc d) r (empty t k) = GoodTag t × GoodAfter (suc d) 0 k
+GoodAfter zero r (emptyTag t k) = ⊥
+GoodAfter (suc d) r (emptyTag t k) = GoodTag t × GoodAfter (suc d) 0 k
 GoodAfter zero r (full t i g k) = ⊥
 GoodAfter (suc d) r (full t i g k) = GoodTag t × GoodAfter d 0 i × Blanks g × GoodAfter (suc d) 0 k
 
 -- `]]>` begins at one of the r brackets before
-abbrev ends : ℕ → Content → Bool
-ends r c = (leb 2 r && begins 62 c) || (leb 1 r && (begins 93 c && begins 62 (behind c)))
+abbrev ends : ℕ → Markup → Bool
+ends r c = (leb 2 r && begins 62 c) || (leb 1 r && (begins 93 c && begins 62 (following c)))
 
 leb-suc : (r : ℕ) → leb 2 (suc r) ≡ leb 1 r
 leb-suc r = go (leb 1 r) refl
@@ -64,12 +64,12 @@ none true false = refl
 none false true = refl
 none false false = refl
 
-turn : (r : ℕ) (p : Piece) (k : Content) → (cut (piece p k) || ends r (piece p k)) ≡ (cuts r p || ends (brackets r p) k)
+turn : (r : ℕ) (p : Piece) (k : Markup) → (cut (piece p k) || ends r (piece p k)) ≡ (cuts r p || ends (brackets r p) k)
 turn r (entity e) k = none (leb 2 r) (leb 1 r)
 turn r (char c) k = go (eqb c 93) refl
   where
     x : Bool
-    x = begins 93 k && begins 62 (behind k)
+    x = begins 93 k && begins 62 (following k)
 
     go : (b : Bool) → eqb c 93 ≡ b
         → ((b && x) || ((leb 2 r && eqb c 62) || (leb 1 r && (b && begins 62 k)))) ≡ ((eqb c 62 && leb 2 r) || ends (cond b (suc r) 0) k)
@@ -81,30 +81,30 @@ turn r (char c) k = go (eqb c 93) refl
 or-in : (a b : Bool) → a ≡ false → b ≡ false → (a || b) ≡ false
 or-in a b e f = rw (e, f) refl
 
-after-good : (c : Content) (d r : ℕ) → Good d c → ends r c ≡ false → GoodAfter d r c
-after-good end d r g e = tt
+after-good : (c : Markup) (d r : ℕ) → GoodMarkup d c → ends r c ≡ false → GoodAfter d r c
+after-good noMore d r g e = tt
 after-good (piece p k) d r g e =
     let w = or-not (cuts r p) (ends (brackets r p) k) (sym (turn r p k) ∙ or-in (cut (piece p k)) (ends r (piece p k)) (g .1) e) in
     (g .0, w .0, after-good k d (brackets r p) (g .2) (w .1))
-after-good (empty t k) zero r g e = absurd g
-after-good (empty t k) (suc d) r g e = (g .0, after-good k (suc d) 0 (g .1) refl)
+after-good (emptyTag t k) zero r g e = absurd g
+after-good (emptyTag t k) (suc d) r g e = (g .0, after-good k (suc d) 0 (g .1) refl)
 after-good (full t i b k) zero r g e = absurd g
 after-good (full t i b k) (suc d) r g e = (g .0, after-good i d 0 (g .1) refl, g .2, after-good k (suc d) 0 (g .3) refl)
 
-good-after : (c : Content) (d r : ℕ) → GoodAfter d r c → Good d c × (ends r c ≡ false)
-good-after end d r g = (tt, none (leb 2 r) (leb 1 r))
+good-after : (c : Markup) (d r : ℕ) → GoodAfter d r c → GoodMarkup d c × (ends r c ≡ false)
+good-after noMore d r g = (tt, none (leb 2 r) (leb 1 r))
 good-after (piece p k) d r g =
     let ih = good-after k d (brackets r p) (g .2) in
     let w = or-not (cut (piece p k)) (ends r (piece p k)) (turn r p k ∙ or-in (cuts r p) (ends (brackets r p) k) (g .1) (ih .1)) in
     ((g .0, w .0, ih .0), w .1)
-good-after (empty t k) zero r g = absurd g
-good-after (empty t k) (suc d) r g = ((g .0, good-after k (suc d) 0 (g .1) .0), none (leb 2 r) (leb 1 r))
+good-after (emptyTag t k) zero r g = absurd g
+good-after (emptyTag t k) (suc d) r g = ((g .0, good-after k (suc d) 0 (g .1) .0), none (leb 2 r) (leb 1 r))
 good-after (full t i b k) zero r g = absurd g
 good-after (full t i b k) (suc d) r g = ((g .0, good-after i d 0 (g .1) .0, g .2, good-after k (suc d) 0 (g .3) .0), none (leb 2 r) (leb 1 r))
 
 -- the two ways of saying it agree
-pub to-after : (c : Content) (d : ℕ) → Good d c → GoodAfter d 0 c
+pub to-after : (c : Markup) (d : ℕ) → GoodMarkup d c → GoodAfter d 0 c
 to-after c d g = after-good c d 0 g refl
 
-pub from-after : (c : Content) (d : ℕ) → GoodAfter d 0 c → Good d c
+pub from-after : (c : Markup) (d : ℕ) → GoodAfter d 0 c → GoodMarkup d c
 from-after c d g = good-after c d 0 g .0

@@ -6,7 +6,7 @@ use Prim.Native.Nat.{ℕ, zero, suc, _≤_, zero-le, suc-le-suc}
 use native.Mathlib.Nat.{le-of-suc-le-suc}
 use native.Mathlib.Omega.{arith}
 use lib.ListN.{length, take}
-use Rattle.xml.specs.House.{end, empty, full, render, declaration, HouseXml, Viable, Longest}
+use Rattle.xml.specs.House.{noMore, emptyTag, full, render, declaration, HouseXml, Viable, Longest}
 use Rattle.xml.specs.mirror.Auto.{done, start, St, dead, at, step, run, isDead, liveLen}
 use Rattle.xml.proofs.Runs.{to-after, from-after}
 use Rattle.xml.proofs.Lang.{on, Rest, StartL, BeforeL, RootL, ElementL, e-empty, e-full, element, LS, back, live}
@@ -25,15 +25,15 @@ house s o = go (element 15 [] (ro .head) (ro .rest) (ro .starts) (ro .then))
     go : ElementL 15 (Rest 16 []) (60 ∷ ro .head ∷ ro .rest) → HouseXml s
     go (e-empty g good u et h) =
         record {
-          tree = record { declared = o .declared; before = be .gap; root = empty g end; after = u };
-          good = record { before = be .blanks; one = refl; root = from-after (empty g end) 16 (good, tt); after = h };
-          is = o .is ∙ ap (λ (l : List ℕ). declaration (o .declared) ++ l) (be .is ∙ ap (λ (l : List ℕ). be .gap ++ l) (ap (λ (l : List ℕ). 60 ∷ l) (ro .is) ∙ et ∙ sym (render-on (empty g end) u)));
+          tree = record { declared = o .declared; before = be .gap; root = emptyTag g noMore; after = u };
+          good = record { before = be .blanks; one = refl; root = from-after (emptyTag g noMore) 16 (good, tt); after = h };
+          is = o .is ∙ ap (λ (l : List ℕ). declaration (o .declared) ++ l) (be .is ∙ ap (λ (l : List ℕ). be .gap ++ l) (ap (λ (l : List ℕ). 60 ∷ l) (ro .is) ∙ et ∙ sym (render-on (emptyTag g noMore) u)));
         }
     go (e-full g good i gi b bs u et h) =
         record {
-          tree = record { declared = o .declared; before = be .gap; root = full g i b end; after = u };
-          good = record { before = be .blanks; one = refl; root = from-after (full g i b end) 16 (good, gi, bs, tt); after = h };
-          is = o .is ∙ ap (λ (l : List ℕ). declaration (o .declared) ++ l) (be .is ∙ ap (λ (l : List ℕ). be .gap ++ l) (ap (λ (l : List ℕ). 60 ∷ l) (ro .is) ∙ et ∙ sym (render-on (full g i b end) u)));
+          tree = record { declared = o .declared; before = be .gap; root = full g i b noMore; after = u };
+          good = record { before = be .blanks; one = refl; root = from-after (full g i b noMore) 16 (good, gi, bs, tt); after = h };
+          is = o .is ∙ ap (λ (l : List ℕ). declaration (o .declared) ++ l) (be .is ∙ ap (λ (l : List ℕ). be .gap ++ l) (ap (λ (l : List ℕ). 60 ∷ l) (ro .is) ∙ et ∙ sym (render-on (full g i b noMore) u)));
         }
 
 back-step : (st : St) (x : ℕ) (t : List ℕ) → LS (step st x) t → LS st (x ∷ t)

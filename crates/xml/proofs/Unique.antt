@@ -13,7 +13,7 @@ use Rattle.text_characters.specs.Pieces.{XmlChar, tab, line, return, low, middl
 use Rattle.text_characters.specs.Utf8.{encode}
 use Rattle.text.specs.Lists.{All, Begins}
 use Rattle.text_characters.specs.Pieces.{Entity, amp, lt, gt, quot, apos, word, Piece, char, entity, spell, GoodPiece}
-use Rattle.xml.specs.House.{Blanks, SomeBlanks, Quote, single, double, mark, GoodValue, Attr, GoodAttr, GoodAttrs, Tag, GoodTag, Content, end, piece, empty, full, OneElement, declaration, Tree, GoodTree, whole}
+use Rattle.xml.specs.House.{Blanks, SomeBlanks, Quote, singleQuote, double, mark, GoodValue, Attr, GoodAttr, GoodAttrs, Tag, GoodTag, Markup, noMore, piece, emptyTag, full, OneElement, declaration, Tree, GoodTree, whole}
 use Rattle.xml.proofs.Runs.{brackets, GoodAfter, to-after}
 use Rattle.xml.specs.mirror.Auto.{Part, Read, bad, all, more, lead, go-on, takes}
 use Rattle.xml.proofs.Basics.{blank-no-rest, blank-no-start, isFullPart, blank-no-full, full-name}
@@ -148,7 +148,7 @@ piece-one p q u v g h e = let s = pieces-end p q u v g h e in record { first = s
 -- values
 mark-lead : (q : Quote) → lead (mark q) ≡ all
 unfolding lead
-mark-lead single = refl
+mark-lead singleQuote = refl
 mark-lead double = refl
 
 more-all : {Q : Type 0} {p : Part} → more p ≡ all → Q
@@ -207,7 +207,7 @@ stop-name p (x ∷ m) w i = record { byte = x; others = m ++ w; is = refl; ends 
 
 stop-mark : (q : Quote) (w : List ℕ) → Stop isBlank (mark q ∷ w)
 unfolding isBlank
-stop-mark single w = record { byte = 39; others = w; is = refl; ends = refl }
+stop-mark singleQuote w = record { byte = 39; others = w; is = refl; ends = refl }
 stop-mark double w = record { byte = 34; others = w; is = refl; ends = refl }
 
 stop-at : (p : ℕ → Bool) (x : ℕ) (w : List ℕ) → p x ≡ false → Stop p (x ∷ w)
@@ -239,9 +239,9 @@ no-name p z u [] w f i e = i
 no-name p z u (x ∷ m) w f i e = true≢false (sym (i .0) ∙ ap isNameStart (sym (head-eq-of-cons-eq e)) ∙ f)
 
 mark-one : (q r : Quote) → mark q ≡ mark r → q ≡ r
-mark-one single single e = refl
-mark-one single double e = absurd (omega arith)
-mark-one double single e = absurd (omega arith)
+mark-one singleQuote singleQuote e = refl
+mark-one singleQuote double e = absurd (omega arith)
+mark-one double singleQuote e = absurd (omega arith)
 mark-one double double e = refl
 
 -- attributes
@@ -312,54 +312,54 @@ no-tag : (z : ℕ) (u : List ℕ) (t : Tag) (w : List ℕ) → isNameStart z ≡
 no-tag z u t w f g e = no-name isNamePart z u (t .name) _ f (g .name) e
 
 -- content up to the end tag
-pub record Both (a b : Content) (g h u v : List ℕ) : Type 0 where
+pub record Both (a b : Markup) (g h u v : List ℕ) : Type 0 where
   pub tree : a ≡ b
   pub gap : g ≡ h
   pub rest : u ≡ v
 
-close-one : (n g h u v : List ℕ) → Blanks g → Blanks h → endOn n g u ≡ endOn n h v → Both end end g h u v
+close-one : (n g h u v : List ℕ) → Blanks g → Blanks h → endOn n g u ≡ endOn n h v → Both noMore noMore g h u v
 unfolding isBlank
 close-one n g h u v b c e =
     let f = cancel n (g ++ (62 ∷ u)) (h ++ (62 ∷ v)) (tail-eq-of-cons-eq (tail-eq-of-cons-eq e)) in
     let s = spans isBlank g h (62 ∷ u) (62 ∷ v) b c (stop-at isBlank 62 u refl) (stop-at isBlank 62 v refl) f in
     record { tree = refl; gap = s .first; rest = tail-eq-of-cons-eq (s .rest) }
 
-full-is : {t s : Tag} {i j : Content} {b c : List ℕ} {k l : Content} → t ≡ s → i ≡ j → b ≡ c → k ≡ l → full t i b k ≡ full s j c l
+full-is : {t s : Tag} {i j : Markup} {b c : List ℕ} {k l : Markup} → t ≡ s → i ≡ j → b ≡ c → k ≡ l → full t i b k ≡ full s j c l
 full-is {t} {s} {i} {j} {b} {c} {k} {l} e f g h = cc
 
-pub content-one : (a b : Content) (d r d′ r′ : ℕ) (n g h u v : List ℕ) → GoodAfter d r a → GoodAfter d′ r′ b → Blanks g → Blanks h → on a (endOn n g u) ≡ on b (endOn n h v) → Both a b g h u v
+pub content-one : (a b : Markup) (d r d′ r′ : ℕ) (n g h u v : List ℕ) → GoodAfter d r a → GoodAfter d′ r′ b → Blanks g → Blanks h → on a (endOn n g u) ≡ on b (endOn n h v) → Both a b g h u v
 unfolding isNameStart
-content-one end end d r d′ r′ n g h u v p q b c e = close-one n g h u v b c e
-content-one end (piece x k) d r d′ r′ n g h u v p q b c e = absurd (no-less x _ _ (q .0) e)
-content-one end (empty t k) d r zero r′ n g h u v p q b c e = absurd q
-content-one end (empty t k) d r (suc d′) r′ n g h u v p q b c e = absurd (no-tag 47 _ t _ refl (q .0) (tail-eq-of-cons-eq e))
-content-one end (full t i m k) d r zero r′ n g h u v p q b c e = absurd q
-content-one end (full t i m k) d r (suc d′) r′ n g h u v p q b c e = absurd (no-tag 47 _ t _ refl (q .0) (tail-eq-of-cons-eq e))
-content-one (piece x k) end d r d′ r′ n g h u v p q b c e = absurd (no-less x _ _ (p .0) (sym e))
+content-one noMore noMore d r d′ r′ n g h u v p q b c e = close-one n g h u v b c e
+content-one noMore (piece x k) d r d′ r′ n g h u v p q b c e = absurd (no-less x _ _ (q .0) e)
+content-one noMore (emptyTag t k) d r zero r′ n g h u v p q b c e = absurd q
+content-one noMore (emptyTag t k) d r (suc d′) r′ n g h u v p q b c e = absurd (no-tag 47 _ t _ refl (q .0) (tail-eq-of-cons-eq e))
+content-one noMore (full t i m k) d r zero r′ n g h u v p q b c e = absurd q
+content-one noMore (full t i m k) d r (suc d′) r′ n g h u v p q b c e = absurd (no-tag 47 _ t _ refl (q .0) (tail-eq-of-cons-eq e))
+content-one (piece x k) noMore d r d′ r′ n g h u v p q b c e = absurd (no-less x _ _ (p .0) (sym e))
 content-one (piece x k) (piece y l) d r d′ r′ n g h u v p q b c e =
     let s = piece-one x y (on k (endOn n g u)) (on l (endOn n h v)) (p .0) (q .0) e in
     let t = content-one k l d (brackets r x) d′ (brackets r′ y) n g h u v (p .2) (q .2) b c (s .rest) in
     record { tree = ap₂ piece (s .first) (t .tree); gap = t .gap; rest = t .rest }
-content-one (piece x k) (empty t l) d r d′ r′ n g h u v p q b c e = absurd (no-less x _ _ (p .0) (sym e))
+content-one (piece x k) (emptyTag t l) d r d′ r′ n g h u v p q b c e = absurd (no-less x _ _ (p .0) (sym e))
 content-one (piece x k) (full t i m l) d r d′ r′ n g h u v p q b c e = absurd (no-less x _ _ (p .0) (sym e))
-content-one (empty t k) end zero r d′ r′ n g h u v p q b c e = absurd p
-content-one (empty t k) end (suc d) r d′ r′ n g h u v p q b c e = absurd (no-tag 47 _ t _ refl (p .0) (tail-eq-of-cons-eq (sym e)))
-content-one (empty t k) (piece y l) d r d′ r′ n g h u v p q b c e = absurd (no-less y _ _ (q .0) e)
-content-one (empty t k) (empty s l) zero r d′ r′ n g h u v p q b c e = absurd p
-content-one (empty t k) (empty s l) (suc d) r zero r′ n g h u v p q b c e = absurd q
-content-one (empty t k) (empty s l) (suc d) r (suc d′) r′ n g h u v p q b c e =
+content-one (emptyTag t k) noMore zero r d′ r′ n g h u v p q b c e = absurd p
+content-one (emptyTag t k) noMore (suc d) r d′ r′ n g h u v p q b c e = absurd (no-tag 47 _ t _ refl (p .0) (tail-eq-of-cons-eq (sym e)))
+content-one (emptyTag t k) (piece y l) d r d′ r′ n g h u v p q b c e = absurd (no-less y _ _ (q .0) e)
+content-one (emptyTag t k) (emptyTag s l) zero r d′ r′ n g h u v p q b c e = absurd p
+content-one (emptyTag t k) (emptyTag s l) (suc d) r zero r′ n g h u v p q b c e = absurd q
+content-one (emptyTag t k) (emptyTag s l) (suc d) r (suc d′) r′ n g h u v p q b c e =
     let o = slash-slash t s (62 ∷ on k (endOn n g u)) (62 ∷ on l (endOn n h v)) (p .0) (q .0) (tail-eq-of-cons-eq e) in
     let w = content-one k l (suc d) 0 (suc d′) 0 n g h u v (p .1) (q .1) b c (tail-eq-of-cons-eq (tail-eq-of-cons-eq (o .rest))) in
-    record { tree = ap₂ empty (o .first) (w .tree); gap = w .gap; rest = w .rest }
-content-one (empty t k) (full s j m l) zero r d′ r′ n g h u v p q b c e = absurd p
-content-one (empty t k) (full s j m l) (suc d) r zero r′ n g h u v p q b c e = absurd q
-content-one (empty t k) (full s j m l) (suc d) r (suc d′) r′ n g h u v p q b c e = absurd (slash-open t s _ _ (p .0) (q .0) (tail-eq-of-cons-eq e))
-content-one (full t i m k) end zero r d′ r′ n g h u v p q b c e = absurd p
-content-one (full t i m k) end (suc d) r d′ r′ n g h u v p q b c e = absurd (no-tag 47 _ t _ refl (p .0) (tail-eq-of-cons-eq (sym e)))
+    record { tree = ap₂ emptyTag (o .first) (w .tree); gap = w .gap; rest = w .rest }
+content-one (emptyTag t k) (full s j m l) zero r d′ r′ n g h u v p q b c e = absurd p
+content-one (emptyTag t k) (full s j m l) (suc d) r zero r′ n g h u v p q b c e = absurd q
+content-one (emptyTag t k) (full s j m l) (suc d) r (suc d′) r′ n g h u v p q b c e = absurd (slash-open t s _ _ (p .0) (q .0) (tail-eq-of-cons-eq e))
+content-one (full t i m k) noMore zero r d′ r′ n g h u v p q b c e = absurd p
+content-one (full t i m k) noMore (suc d) r d′ r′ n g h u v p q b c e = absurd (no-tag 47 _ t _ refl (p .0) (tail-eq-of-cons-eq (sym e)))
 content-one (full t i m k) (piece y l) d r d′ r′ n g h u v p q b c e = absurd (no-less y _ _ (q .0) e)
-content-one (full t i m k) (empty s l) zero r d′ r′ n g h u v p q b c e = absurd p
-content-one (full t i m k) (empty s l) (suc d) r zero r′ n g h u v p q b c e = absurd q
-content-one (full t i m k) (empty s l) (suc d) r (suc d′) r′ n g h u v p q b c e = absurd (slash-open s t _ _ (q .0) (p .0) (tail-eq-of-cons-eq (sym e)))
+content-one (full t i m k) (emptyTag s l) zero r d′ r′ n g h u v p q b c e = absurd p
+content-one (full t i m k) (emptyTag s l) (suc d) r zero r′ n g h u v p q b c e = absurd q
+content-one (full t i m k) (emptyTag s l) (suc d) r (suc d′) r′ n g h u v p q b c e = absurd (slash-open s t _ _ (q .0) (p .0) (tail-eq-of-cons-eq (sym e)))
 content-one (full t i m k) (full s j o l) zero r d′ r′ n g h u v p q b c e = absurd p
 content-one (full t i m k) (full s j o l) (suc d) r zero r′ n g h u v p q b c e = absurd q
 content-one (full t i m k) (full s j o l) (suc d) r (suc d′) r′ n g h u v p q b c e =
@@ -371,54 +371,54 @@ content-one (full t i m k) (full s j o l) (suc d) r (suc d′) r′ n g h u v p 
     record { tree = full-is (w .first) (z .tree) (z .gap) (f .tree); gap = f .gap; rest = f .rest }
 
 -- the root
-root-one : (a b : Content) (u v : List ℕ) → OneElement a → OneElement b → GoodAfter 16 0 a → GoodAfter 16 0 b → on a u ≡ on b v → Same a b u v
-root-one end b u v o p g h e = absurd o
+root-one : (a b : Markup) (u v : List ℕ) → OneElement a → OneElement b → GoodAfter 16 0 a → GoodAfter 16 0 b → on a u ≡ on b v → Same a b u v
+root-one noMore b u v o p g h e = absurd o
 root-one (piece x k) b u v o p g h e = absurd o
-root-one (empty t k) end u v o p g h e = absurd p
-root-one (empty t k) (piece x l) u v o p g h e = absurd p
-root-one (empty t k) (empty s l) u v o p g h e =
+root-one (emptyTag t k) noMore u v o p g h e = absurd p
+root-one (emptyTag t k) (piece x l) u v o p g h e = absurd p
+root-one (emptyTag t k) (emptyTag s l) u v o p g h e =
     let w = slash-slash t s (62 ∷ on k u) (62 ∷ on l v) (g .0) (h .0) (tail-eq-of-cons-eq e) in
-    record { first = ap₂ empty (w .first) (o ∙ sym p); rest = ap (λ (c : Content). on c u) (sym o) ∙ tail-eq-of-cons-eq (tail-eq-of-cons-eq (w .rest)) ∙ ap (λ (c : Content). on c v) p }
-root-one (empty t k) (full s j m l) u v o p g h e = absurd (slash-open t s _ _ (g .0) (h .0) (tail-eq-of-cons-eq e))
-root-one (full t i m k) end u v o p g h e = absurd p
+    record { first = ap₂ emptyTag (w .first) (o ∙ sym p); rest = ap (λ (c : Markup). on c u) (sym o) ∙ tail-eq-of-cons-eq (tail-eq-of-cons-eq (w .rest)) ∙ ap (λ (c : Markup). on c v) p }
+root-one (emptyTag t k) (full s j m l) u v o p g h e = absurd (slash-open t s _ _ (g .0) (h .0) (tail-eq-of-cons-eq e))
+root-one (full t i m k) noMore u v o p g h e = absurd p
 root-one (full t i m k) (piece x l) u v o p g h e = absurd p
-root-one (full t i m k) (empty s l) u v o p g h e = absurd (slash-open s t _ _ (h .0) (g .0) (tail-eq-of-cons-eq (sym e)))
+root-one (full t i m k) (emptyTag s l) u v o p g h e = absurd (slash-open s t _ _ (h .0) (g .0) (tail-eq-of-cons-eq (sym e)))
 root-one (full t i m k) (full s j n l) u v o p g h e =
     let w = open-open t s (on i (endOn (t .name) m (on k u))) (on j (endOn (s .name) n (on l v))) (g .0) (h .0) (tail-eq-of-cons-eq e) in
     let z = content-one i j 15 0 15 0 (t .name) m n (on k u) (on l v) (g .1) (h .1) (g .2) (h .2) (tail-eq-of-cons-eq (w .rest) ∙ ap (λ (f : Tag). on j (endOn (f .name) n (on l v))) (sym (w .first))) in
-    record { first = full-is (w .first) (z .tree) (z .gap) (o ∙ sym p); rest = ap (λ (c : Content). on c u) (sym o) ∙ z .rest ∙ ap (λ (c : Content). on c v) p }
+    record { first = full-is (w .first) (z .tree) (z .gap) (o ∙ sym p); rest = ap (λ (c : Markup). on c u) (sym o) ∙ z .rest ∙ ap (λ (c : Markup). on c v) p }
 
 -- what an element begins with
-stop-root : (a : Content) (u : List ℕ) → OneElement a → Stop isBlank (on a u)
+stop-root : (a : Markup) (u : List ℕ) → OneElement a → Stop isBlank (on a u)
 unfolding isBlank
-stop-root end u o = absurd o
+stop-root noMore u o = absurd o
 stop-root (piece x k) u o = absurd o
-stop-root (empty t k) u o = record { byte = 60; others = _; is = refl; ends = refl }
+stop-root (emptyTag t k) u o = record { byte = 60; others = _; is = refl; ends = refl }
 stop-root (full t i m k) u o = record { byte = 60; others = _; is = refl; ends = refl }
 
 -- no element, nor blanks before one, begins as the declaration does
-no-question : (a : Content) (u w : List ℕ) → OneElement a → GoodAfter 16 0 a → on a u ≡ 60 ∷ 63 ∷ w → ⊥
+no-question : (a : Markup) (u w : List ℕ) → OneElement a → GoodAfter 16 0 a → on a u ≡ 60 ∷ 63 ∷ w → ⊥
 unfolding isNameStart
-no-question end u w o g e = o
+no-question noMore u w o g e = o
 no-question (piece x k) u w o g e = o
-no-question (empty t k) u w o g e = no-tag 63 w t _ refl (g .0) (tail-eq-of-cons-eq (sym e))
+no-question (emptyTag t k) u w o g e = no-tag 63 w t _ refl (g .0) (tail-eq-of-cons-eq (sym e))
 no-question (full t i m k) u w o g e = no-tag 63 w t _ refl (g .0) (tail-eq-of-cons-eq (sym e))
 
-no-declaration : (b : List ℕ) (a : Content) (u w : List ℕ) → Blanks b → OneElement a → GoodAfter 16 0 a → b ++ on a u ≡ 60 ∷ 63 ∷ w → ⊥
+no-declaration : (b : List ℕ) (a : Markup) (u w : List ℕ) → Blanks b → OneElement a → GoodAfter 16 0 a → b ++ on a u ≡ 60 ∷ 63 ∷ w → ⊥
 unfolding isBlank
 no-declaration [] a u w c o g e = no-question a u w o g e
 no-declaration (x ∷ b) a u w c o g e = true≢false (sym (c .0) ∙ ap isBlank (head-eq-of-cons-eq e))
 
-tree-is : {a b : Bool} {c d : List ℕ} {f g : Content} {h i : List ℕ} → a ≡ b → c ≡ d → f ≡ g → h ≡ i → _≡_ {A = Tree} (record { declared = a; before = c; root = f; after = h }) (record { declared = b; before = d; root = g; after = i })
+tree-is : {a b : Bool} {c d : List ℕ} {f g : Markup} {h i : List ℕ} → a ≡ b → c ≡ d → f ≡ g → h ≡ i → _≡_ {A = Tree} (record { declared = a; before = c; root = f; after = h }) (record { declared = b; before = d; root = g; after = i })
 tree-is {a} {b} {c} {d} {f} {g} {h} {i} e1 e2 e3 e4 = rw (e1, e2, e3, e4) refl
 
-rest-one : (d : Bool) (b c : List ℕ) (x y : Content) (u v : List ℕ) → Blanks b → Blanks c → OneElement x → OneElement y → GoodAfter 16 0 x → GoodAfter 16 0 y → b ++ on x u ≡ c ++ on y v → _≡_ {A = Tree} (record { declared = d; before = b; root = x; after = u }) (record { declared = d; before = c; root = y; after = v })
+rest-one : (d : Bool) (b c : List ℕ) (x y : Markup) (u v : List ℕ) → Blanks b → Blanks c → OneElement x → OneElement y → GoodAfter 16 0 x → GoodAfter 16 0 y → b ++ on x u ≡ c ++ on y v → _≡_ {A = Tree} (record { declared = d; before = b; root = x; after = u }) (record { declared = d; before = c; root = y; after = v })
 rest-one d b c x y u v p q o r g h e =
     let s = spans isBlank b c (on x u) (on y v) p q (stop-root x u o) (stop-root y v r) e in
     let t = root-one x y u v o r g h (s .rest) in
     tree-is refl (s .first) (t .first) (t .rest)
 
-trees-one : (d f : Bool) (b c : List ℕ) (x y : Content) (u v : List ℕ) → Blanks b → Blanks c → OneElement x → OneElement y → GoodAfter 16 0 x → GoodAfter 16 0 y → declaration d ++ (b ++ on x u) ≡ declaration f ++ (c ++ on y v) → _≡_ {A = Tree} (record { declared = d; before = b; root = x; after = u }) (record { declared = f; before = c; root = y; after = v })
+trees-one : (d f : Bool) (b c : List ℕ) (x y : Markup) (u v : List ℕ) → Blanks b → Blanks c → OneElement x → OneElement y → GoodAfter 16 0 x → GoodAfter 16 0 y → declaration d ++ (b ++ on x u) ≡ declaration f ++ (c ++ on y v) → _≡_ {A = Tree} (record { declared = d; before = b; root = x; after = u }) (record { declared = f; before = c; root = y; after = v })
 trees-one true true b c x y u v p q o r g h e = rest-one true b c x y u v p q o r g h (cancel (declaration true) (b ++ on x u) (c ++ on y v) e)
 trees-one true false b c x y u v p q o r g h e = absurd (no-declaration c y v _ q r h (sym e))
 trees-one false true b c x y u v p q o r g h e = absurd (no-declaration b x u _ p o g e)

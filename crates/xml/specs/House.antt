@@ -27,10 +27,10 @@ pub data IsAttrName (n : List ℕ) : Type 0 where
 
 -- "either quote"
 pub data Quote : Type 0 where
-  single double : Quote
+  singleQuote double : Quote
 
 abbrev pub mark : Quote → ℕ
-mark single = apostrophe
+mark singleQuote = apostrophe
 mark double = quotation
 
 -- "their values are XML 1.0 characters without the quote used"
@@ -87,16 +87,16 @@ pub record GoodTag (t : Tag) : Type 0 where
   pub gap : Blanks (t .gap)
 
 -- what stands between an element's tags: nothing more; or a piece of text, `<a/>`, or `<a>`, what it holds, `</a` blanks `>`; and what follows it
-pub data Content : Type 0 where
-  end : Content
-  piece : Piece → Content → Content
-  empty : Tag → Content → Content
-  full : Tag → Content → List ℕ → Content → Content
+pub data Markup : Type 0 where
+  noMore : Markup
+  piece : Piece → Markup → Markup
+  emptyTag : Tag → Markup → Markup
+  full : Tag → Markup → List ℕ → Markup → Markup
 
-abbrev pub render : Content → List ℕ
-render end = []
+abbrev pub render : Markup → List ℕ
+render noMore = []
 render (piece p k) = spell p ++ render k
-render (empty t k) = less ∷ (tag t ++ (solidus ∷ greater ∷ render k))
+render (emptyTag t k) = less ∷ (tag t ++ (solidus ∷ greater ∷ render k))
 render (full t i g k) = less ∷ (tag t ++ (greater ∷ (render i ++ (less ∷ solidus ∷ (t .name ++ (g ++ (greater ∷ render k)))))))
 
 -- the next piece is this character
@@ -104,37 +104,37 @@ abbrev pub isChar : ℕ → Piece → Bool
 isChar x (char c) = eqb c x
 isChar x (entity e) = false
 
-abbrev pub begins : ℕ → Content → Bool
-begins x end = false
+abbrev pub begins : ℕ → Markup → Bool
+begins x noMore = false
 begins x (piece p k) = isChar x p
-begins x (empty t k) = false
+begins x (emptyTag t k) = false
 begins x (full t i g k) = false
 
-abbrev pub behind : Content → Content
-behind end = end
-behind (piece p k) = k
-behind (empty t k) = end
-behind (full t i g k) = end
+abbrev pub following : Markup → Markup
+following noMore = noMore
+following (piece p k) = k
+following (emptyTag t k) = noMore
+following (full t i g k) = noMore
 
 -- "Text is XML 1.0 characters without .. `]]>`": the next three pieces are `]`, `]` and `>` as they stand
-abbrev pub cut : Content → Bool
-cut c = begins bracket c && (begins bracket (behind c) && begins greater (behind (behind c)))
+abbrev pub cut : Markup → Bool
+cut c = begins bracket c && (begins bracket (following c) && begins greater (following (following c)))
 
 -- good, where elements may nest d deep
-abbrev pub Good : ℕ → Content → Type 0
-Good d end = Unit {0}
-Good d (piece p k) = GoodPiece p × (cut (piece p k) ≡ false) × Good d k
-Good zero (empty t k) = ⊥
-Good (suc d) (empty t k) = GoodTag t × Good (suc d) k
-Good zero (full t i g k) = ⊥
-Good (suc d) (full t i g k) = GoodTag t × Good d i × Blanks g × Good (suc d) k
+abbrev pub GoodMarkup : ℕ → Markup → Type 0
+GoodMarkup d noMore = Unit {0}
+GoodMarkup d (piece p k) = GoodPiece p × (cut (piece p k) ≡ false) × GoodMarkup d k
+GoodMarkup zero (emptyTag t k) = ⊥
+GoodMarkup (suc d) (emptyTag t k) = GoodTag t × GoodMarkup (suc d) k
+GoodMarkup zero (full t i g k) = ⊥
+GoodMarkup (suc d) (full t i g k) = GoodTag t × GoodMarkup d i × Blanks g × GoodMarkup (suc d) k
 
 -- exactly one element
-abbrev pub OneElement : Content → Type 0
-OneElement end = ⊥
+abbrev pub OneElement : Markup → Type 0
+OneElement noMore = ⊥
 OneElement (piece p k) = ⊥
-OneElement (empty t k) = k ≡ end
-OneElement (full t i g k) = k ≡ end
+OneElement (emptyTag t k) = k ≡ noMore
+OneElement (full t i g k) = k ≡ noMore
 
 -- "Optionally exactly `<?xml version="1.0" encoding="UTF-8"?>` at byte 0"
 abbrev pub declaration : Bool → List ℕ
@@ -145,7 +145,7 @@ declaration false = []
 pub record Tree : Type 0 where
   pub declared : Bool
   pub before : List ℕ
-  pub root : Content
+  pub root : Markup
   pub after : List ℕ
 
 abbrev pub whole : Tree → List ℕ
@@ -155,7 +155,7 @@ whole t = declaration (t .declared) ++ (t .before ++ (render (t .root) ++ t .aft
 pub record GoodTree (t : Tree) : Type 0 where
   pub before : Blanks (t .before)
   pub one : OneElement (t .root)
-  pub root : Good 16 (t .root)
+  pub root : GoodMarkup 16 (t .root)
   pub after : Blanks (t .after)
 
 pub record HouseXml (s : List ℕ) : Type 0 where

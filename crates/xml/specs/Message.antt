@@ -4,36 +4,36 @@ use mathlib.Core.List.{List, [], _∷_}
 use Prim.Native.Nat.{ℕ, _+_}
 use lib.ListN.{length}
 use Rattle.text_characters.specs.Pieces.{spell, resolved, resolvedAll}
-use Rattle.xml.specs.House.{Attr, tag, Content, end, piece, empty, full, render, declaration, Tree}
+use Rattle.xml.specs.House.{Attr, tag, Markup, noMore, piece, emptyTag, full, render, declaration, Tree}
 
 -- attributes in order: the name, and the characters of the value "after entities are resolved"
 abbrev pub Attrs : Type 0
 Attrs = List (List ℕ × List ℕ)
 
 -- what stands in an element, in document order
-pub data Parts : Type 0 where
-  none : Parts
+pub data Inside : Type 0 where
+  nothingInside : Inside
   -- a character, its first byte at a place, and what follows it
-  char : ℕ → ℕ → Parts → Parts
+  character : ℕ → ℕ → Inside → Inside
   -- an element, its `<` at a place: its name, its attributes, what stands in it, and what follows it
-  element : ℕ → List ℕ → Attrs → Parts → Parts → Parts
+  element : ℕ → List ℕ → Attrs → Inside → Inside → Inside
 
 abbrev pub attrsOf : List Attr → Attrs
 attrsOf [] = []
 attrsOf (a ∷ more) = (a .name, resolvedAll (a .value)) ∷ attrsOf more
 
 -- the parts of a content whose first byte is at place o
-abbrev pub partsOf : ℕ → Content → Parts
-partsOf o end = none
-partsOf o (piece p k) = char o (resolved p) (partsOf (o + length (spell p)) k)
-partsOf o (empty t k) = element o (t .name) (attrsOf (t .attributes)) none (partsOf (o + length (render (empty t end))) k)
+abbrev pub partsOf : ℕ → Markup → Inside
+partsOf o noMore = nothingInside
+partsOf o (piece p k) = character o (resolved p) (partsOf (o + length (spell p)) k)
+partsOf o (emptyTag t k) = element o (t .name) (attrsOf (t .attributes)) nothingInside (partsOf (o + length (render (emptyTag t noMore))) k)
 partsOf o (full t i g k) =
-    element o (t .name) (attrsOf (t .attributes)) (partsOf (o + (length (tag t) + 2)) i) (partsOf (o + length (render (full t i g end))) k)
+    element o (t .name) (attrsOf (t .attributes)) (partsOf (o + (length (tag t) + 2)) i) (partsOf (o + length (render (full t i g noMore))) k)
 
 -- where the one element of a text begins
 abbrev pub rootAt : Tree → ℕ
 rootAt t = length (declaration (t .declared)) + length (t .before)
 
 -- the message of a tree: its one element
-abbrev pub messageOf : Tree → Parts
+abbrev pub messageOf : Tree → Inside
 messageOf t = partsOf (rootAt t) (t .root)

@@ -11,7 +11,7 @@ use lib.ListN.{length, getD, drop}
 use borrow.Author.Tests.{eq-eqb, ne-eqb}
 use Rattle.text.specs.Bytes.{isBlank}
 use Rattle.text.specs.Lists.{span}
-use Rattle.xml.specs.House.{Quote, single, double, mark}
+use Rattle.xml.specs.House.{Quote, singleQuote, double, mark}
 use Rattle.xml.specs.mirror.Auto.{Read, bad, all, more, lead, go-on, tail, equals, quote, value, within, dead, at, valueNext, next}
 use Rattle.xml_scan.specs.mirror.Goes.{fate, Goes, Marked, GoesValue, GoesEquals}
 use Rattle.xml_pieces.specs.Over.{Over}
@@ -24,7 +24,7 @@ use Rattle.xml_scan.proofs.Goes.{goes-after, goes-byte, goes-stop}
 
 -- either quote
 pub a-mark : (x : ℕ) → OneOf (34 ∷ 39 ∷ []) x → Marked x
-a-mark x w = ⊎-elim (λ e. record { quote = double; is = sym e }) (λ e. record { quote = single; is = sym e }) w
+a-mark x w = ⊎-elim (λ e. record { quote = double; is = sym e }) (λ e. record { quote = singleQuote; is = sym e }) w
 
 -- ---- the automaton at a byte of a value, before it, before `=`
 
@@ -65,7 +65,7 @@ module _ (k : ℕ) (ss : List (List ℕ)) (d : ℕ) (n : List ℕ) (ns : List (L
 
   quote-mark : (q : Quote) (x : ℕ) → x ≡ mark q → next (quote k ss d n ns) x ≡ at (value q k ss d n ns)
   unfolding next isBlank
-  quote-mark single x e = rw e refl
+  quote-mark singleQuote x e = rw e refl
   quote-mark double x e = rw e refl
 
   quote-dead : (x : ℕ) → isBlank x ≡ false → x ≢ 39 → x ≢ 34 → next (quote k ss d n ns) x ≡ dead

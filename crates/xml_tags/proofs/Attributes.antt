@@ -13,7 +13,7 @@ use Rattle.text.specs.Lists.{All, Begins, span}
 use Rattle.text_characters.specs.Pieces.{Piece, spells}
 use Rattle.text.proofs.Classes.{not-so}
 use Rattle.text.proofs.Spans.{span-le, span-of}
-use Rattle.xml.specs.House.{Blanks, SomeBlanks, Quote, single, double, mark, GoodValue, Attr, attr, attrs, GoodAttr, GoodAttrs}
+use Rattle.xml.specs.House.{Blanks, SomeBlanks, Quote, singleQuote, double, mark, GoodValue, Attr, attr, attrs, GoodAttr, GoodAttrs}
 use Rattle.xml.proofs.Basics.{by-blank, blank-no-start, all-append, all-weaken, isFullPart, start-full, full-name}
 use Rattle.xml_tags.specs.declared.attribute.Attribute.{Attribute}
 use Rattle.xml_tags.specs.declared.attribute.Passed.{Passed}
@@ -177,7 +177,7 @@ blank-no-quote x e = by-blank (λ (y : ℕ). noQuote y ≡ true) x e refl refl r
 
 mark-quote : (q : Quote) → noQuote (mark q) ≡ false
 unfolding noQuote
-mark-quote single = refl
+mark-quote singleQuote = refl
 mark-quote double = refl
 
 equals-all : (b a : List ℕ) → Blanks b → Blanks a → All noQuote (b ++ (61 ∷ a))

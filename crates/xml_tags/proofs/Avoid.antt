@@ -10,7 +10,7 @@ use Rattle.text_characters.specs.Utf8.{encode}
 use Rattle.text_characters.specs.Pieces.{less, Entity, amp, lt, gt, quot, apos, word, Piece, char, entity, spell, spells, GoodPiece}
 use Rattle.text.proofs.Classes.{and-is}
 use Rattle.text_characters.proofs.Decoding.{by-length}
-use Rattle.xml.specs.House.{Quote, single, double, mark, GoodValue}
+use Rattle.xml.specs.House.{Quote, singleQuote, double, mark, GoodValue}
 use Rattle.xml.proofs.Basics.{all-append}
 use Rattle.xml_tags.specs.Marks.{but}
 use Rattle.xml_tags.proofs.Passing.{but-other}
@@ -47,7 +47,7 @@ less-apart : Apart less
 less-apart = record { ascii = omega arith; words = λ e. elim e [ amp ↦ refl | lt ↦ refl | gt ↦ refl | quot ↦ refl | apos ↦ refl ] }
 
 mark-apart : (q : Quote) → Apart (mark q)
-mark-apart single = record { ascii = omega arith; words = λ e. elim e [ amp ↦ refl | lt ↦ refl | gt ↦ refl | quot ↦ refl | apos ↦ refl ] }
+mark-apart singleQuote = record { ascii = omega arith; words = λ e. elim e [ amp ↦ refl | lt ↦ refl | gt ↦ refl | quot ↦ refl | apos ↦ refl ] }
 mark-apart double = record { ascii = omega arith; words = λ e. elim e [ amp ↦ refl | lt ↦ refl | gt ↦ refl | quot ↦ refl | apos ↦ refl ] }
 
 no-less : (p : Piece) → GoodPiece p → p ≢ char less

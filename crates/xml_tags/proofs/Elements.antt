@@ -8,7 +8,7 @@ use lib.Seq.{slice}
 use Rattle.text.specs.Bytes.{isBlank}
 use Rattle.text.specs.Lists.{Each, span}
 use Rattle.text_characters.specs.Pieces.{Piece, spell, spells, resolvedAll, GoodPiece, Spells}
-use Rattle.xml.specs.House.{Blanks, IsName, Quote, mark, GoodValue, Attr, attr, attrs, GoodAttrs, Tag, tag, GoodTag, Content, end, piece, empty, full, render}
+use Rattle.xml.specs.House.{Blanks, IsName, Quote, mark, GoodValue, Attr, attr, attrs, GoodAttrs, Tag, tag, GoodTag, Markup, noMore, piece, emptyTag, full, render}
 use Rattle.xml.specs.Message.{attrsOf}
 use Rattle.xml.proofs.Lang.{endOn}
 use Rattle.xml_tags.specs.declared.attribute.Attribute.{Attribute}
@@ -106,21 +106,21 @@ module _ (s : List ℕ) where
   -- ---- `<a ../>`
 
   pub record EmptyAt (o : ℕ) (t : Tag) (w : List ℕ) : Type 0 where
-    pub token : tokenIn s o ≡ tagOf Empty o t (o + length (render (empty t end)))
-    pub tagged : Tagged s (tagOf Empty o t (o + length (render (empty t end)))) (t .name) (attrsOf (t .attributes))
-    pub behind : drop (o + length (render (empty t end))) s ≡ w
+    pub token : tokenIn s o ≡ tagOf Empty o t (o + length (render (emptyTag t noMore)))
+    pub tagged : Tagged s (tagOf Empty o t (o + length (render (emptyTag t noMore)))) (t .name) (attrsOf (t .attributes))
+    pub behind : drop (o + length (render (emptyTag t noMore))) s ≡ w
 
   pub empty-at : (o : ℕ) (t : Tag) (w : List ℕ) → GoodTag t → drop o s ≡ 60 ∷ (tag t ++ (47 ∷ 62 ∷ w)) → EmptyAt o t w
   unfolding isBlank inName
   empty-at o t w g e =
       let n = length-append (tag t) (47 ∷ 62 ∷ []) in
-      let m : o + (length (tag t) + 3) ≡ o + length (render (empty t end)) = omega arith in
+      let m : o + (length (tag t) + 3) ≡ o + length (render (emptyTag t noMore)) = omega arith in
       let r = ap (tokenAt o) e ∙ token-empty o t w g ∙ ap (tagOf Empty o t) m in
       record {
         token = r;
         tagged = tag-at Empty o t _ (47 ∷ 62 ∷ w) g (stops isBlank 47 (62 ∷ w) refl) (stops inName 47 (62 ∷ w) refl) e;
         behind =
-            drop-is o _ s (render (empty t end)) w (e ∙ ap (λ (l : List ℕ). 60 ∷ l) (sym (append-assoc (tag t) (47 ∷ 62 ∷ []) w))) refl;
+            drop-is o _ s (render (emptyTag t noMore)) w (e ∙ ap (λ (l : List ℕ). 60 ∷ l) (sym (append-assoc (tag t) (47 ∷ 62 ∷ []) w))) refl;
       }
 
   -- ---- `<a ..>` and `</a>`
@@ -158,17 +158,17 @@ module _ (s : List ℕ) where
 
 -- ---- content, spread out: what stands at an element's tags
 
-pub piece-shape : (p : Piece) (k : Content) (u : List ℕ) → render (piece p k) ++ u ≡ spell p ++ (render k ++ u)
+pub piece-shape : (p : Piece) (k : Markup) (u : List ℕ) → render (piece p k) ++ u ≡ spell p ++ (render k ++ u)
 piece-shape p k u = append-assoc (spell p) (render k) u
 
-pub empty-shape : (t : Tag) (k : Content) (u : List ℕ) → render (empty t k) ++ u ≡ 60 ∷ (tag t ++ (47 ∷ 62 ∷ (render k ++ u)))
+pub empty-shape : (t : Tag) (k : Markup) (u : List ℕ) → render (emptyTag t k) ++ u ≡ 60 ∷ (tag t ++ (47 ∷ 62 ∷ (render k ++ u)))
 empty-shape t k u = ap (λ (l : List ℕ). 60 ∷ l) (append-assoc (tag t) (47 ∷ 62 ∷ render k) u)
 
 spread : (t i n g k u : List ℕ)
     → (60 ∷ (t ++ (62 ∷ (i ++ (60 ∷ 47 ∷ (n ++ (g ++ (62 ∷ k)))))))) ++ u ≡ 60 ∷ (t ++ (62 ∷ (i ++ endOn n g (k ++ u))))
 spread t i n g k u = simp append-assoc
 
-pub full-shape : (t : Tag) (i : Content) (g : List ℕ) (k : Content) (u : List ℕ)
+pub full-shape : (t : Tag) (i : Markup) (g : List ℕ) (k : Markup) (u : List ℕ)
     → render (full t i g k) ++ u ≡ 60 ∷ (tag t ++ (62 ∷ (render i ++ endOn (t .name) g (render k ++ u))))
 full-shape t i g k u = spread (tag t) (render i) (t .name) g (render k) u
 
@@ -177,9 +177,9 @@ full-lengths : (t i n g k : List ℕ)
 full-lengths t i n g k = simp length-append (omega arith)
 
 -- how long an element and what follows it is
-pub full-length : (t : Tag) (i : Content) (g : List ℕ) (k : Content)
+pub full-length : (t : Tag) (i : Markup) (g : List ℕ) (k : Markup)
     → length (render (full t i g k)) ≡ length (tag t) + 2 + length (render i) + (length (t .name) + length g + 3) + length (render k)
 full-length t i g k = full-lengths (tag t) (render i) (t .name) g (render k)
 
-pub empty-length : (t : Tag) (k : Content) → length (render (empty t k)) ≡ length (tag t) + 3 + length (render k)
+pub empty-length : (t : Tag) (k : Markup) → length (render (emptyTag t k)) ≡ length (tag t) + 3 + length (render k)
 empty-length t k = omega (arith, length-append (tag t) (47 ∷ 62 ∷ render k))

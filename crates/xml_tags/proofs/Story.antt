@@ -8,7 +8,7 @@ use lib.Seq.{drop-append-seam}
 use Rattle.text.specs.Bytes.{isBlank, isNameStart}
 use Rattle.text.specs.Lists.{Each}
 use Rattle.text_characters.specs.Pieces.{less, Piece, spell, spells, resolved, GoodPiece}
-use Rattle.xml.specs.House.{Blanks, IsName, attrs, Tag, tag, GoodTag, Content, end, piece, empty, full, render, Good, OneElement, declaration, Tree, whole, GoodTree}
+use Rattle.xml.specs.House.{Blanks, IsName, attrs, Tag, tag, GoodTag, Markup, noMore, piece, emptyTag, full, render, GoodMarkup, OneElement, declaration, Tree, whole, GoodTree}
 use Rattle.xml.specs.Message.{Attrs, attrsOf, partsOf, rootAt, messageOf}
 use Rattle.xml.proofs.Basics.{all-weaken}
 use Rattle.xml.proofs.Lang.{endOn}
@@ -70,7 +70,7 @@ module _ (s : List ℕ) where
 
   module _ (a o : ℕ) (ps : List Piece) (h : Each GoodPiece ps) (at : o ≡ a + length (spells ps)) where
     empty-told : (t : Tag) (w : List ℕ) (more : List Event) → GoodTag t → drop a s ≡ spells ps ++ (60 ∷ (tag t ++ (47 ∷ 62 ∷ w)))
-        → Tells s (o + length (render (empty t end))) more
+        → Tells s (o + length (render (emptyTag t noMore))) more
         → Tells s a (chars a ps (enter o (t .name) (attrsOf (t .attributes)) ∷ leave ∷ more))
     empty-told t w more g e k =
         let x = text-at s a o ps _ h e at in
@@ -95,37 +95,37 @@ module _ (s : List ℕ) where
 
   -- ---- content with its end tag, behind a text
 
-  content-told : (c : Content) (d a o z : ℕ) (ps : List Piece) (n g u : List ℕ) (more : List Event)
-      → Good d c → Each GoodPiece ps → IsName n → Blanks g
+  content-told : (c : Markup) (d a o z : ℕ) (ps : List Piece) (n g u : List ℕ) (more : List Event)
+      → GoodMarkup d c → Each GoodPiece ps → IsName n → Blanks g
       → o ≡ a + length (spells ps) → z ≡ o + length (render c) + (length n + length g + 3)
       → drop a s ≡ spells ps ++ (render c ++ endOn n g u)
       → Tells s z more
       → Tells s a (chars a ps (events (partsOf o c) (leave ∷ more)))
-  content-told end d a o z ps n g u more h ok i b at to e k =
+  content-told noMore d a o z ps n g u more h ok i b at to e k =
       close-told a o ps ok at n g u more i b e (subst (λ (x : ℕ). Tells s x more) (omega arith) k)
   content-told (piece p c) d a o z ps n g u more h ok i b at to e k =
       subst (λ (l : List Event). Tells s a l) (chars-snoc ps p a o (events (partsOf (o + length (spell p)) c) (leave ∷ more)) at)
       (content-told c d a (o + length (spell p)) z (ps ++ (p ∷ [])) n g u more (h .2) (good-snoc ps p ok (h .0)) i b
       (omega (arith, snoc-length ps p)) (omega (arith, length-append (spell p) (render c)))
       (e ∙ ap (λ (l : List ℕ). spells ps ++ l) (piece-shape p c (endOn n g u)) ∙ spells-snoc ps p (render c ++ endOn n g u)) k)
-  content-told (empty t c) zero a o z ps n g u more h ok i b at to e k = absurd h
-  content-told (empty t c) (suc d) a o z ps n g u more h ok i b at to e k =
+  content-told (emptyTag t c) zero a o z ps n g u more h ok i b at to e k = absurd h
+  content-told (emptyTag t c) (suc d) a o z ps n g u more h ok i b at to e k =
       let f = e ∙ ap (λ (l : List ℕ). spells ps ++ l) (empty-shape t c (endOn n g u)) in
       let w = empty-at s o t _ (h .0) (text-at s a o ps _ ok f at .behind) .behind in
       empty-told a o ps ok at t (render c ++ endOn n g u) _ (h .0) f
-      (content-told c (suc d) (o + length (render (empty t end))) (o + length (render (empty t end))) z [] n g u more (h .1) tt i b
-      (omega arith) (omega (arith, empty-length t c, empty-length t end)) w k)
+      (content-told c (suc d) (o + length (render (emptyTag t noMore))) (o + length (render (emptyTag t noMore))) z [] n g u more (h .1) tt i b
+      (omega arith) (omega (arith, empty-length t c, empty-length t noMore)) w k)
   content-told (full t j q c) zero a o z ps n g u more h ok i b at to e k = absurd h
   content-told (full t j q c) (suc d) a o z ps n g u more h ok i b at to e k =
       let f = e ∙ ap (λ (l : List ℕ). spells ps ++ l) (full-shape t j q c (endOn n g u)) in
       let v = open-at s o t _ (h .0) (text-at s a o ps _ ok f at .behind) .behind in
       let x = o + (length (tag t) + 2) in
-      let y = o + length (render (full t j q end)) in
-      let w = drop-is o y s (render (full t j q end)) (render c ++ endOn n g u) (text-at s a o ps _ ok f at .behind ∙ sym (full-shape t j q end _)) refl in
+      let y = o + length (render (full t j q noMore)) in
+      let w = drop-is o y s (render (full t j q noMore)) (render c ++ endOn n g u) (text-at s a o ps _ ok f at .behind ∙ sym (full-shape t j q noMore _)) refl in
       open-told a o ps ok at t _ _ (h .0) f
       (content-told j d x x y [] (t .name) q (render c ++ endOn n g u) _ (h .1) tt (h .0 .name) (h .2)
-      (omega arith) (omega (arith, full-length t j q end)) v
-      (content-told c (suc d) y y z [] n g u more (h .3) tt i b (omega arith) (omega (arith, full-length t j q end, full-length t j q c)) w k))
+      (omega arith) (omega (arith, full-length t j q noMore)) v
+      (content-told c (suc d) y y z [] n g u more (h .3) tt i b (omega arith) (omega (arith, full-length t j q noMore, full-length t j q c)) w k))
 
   -- ---- the root, and blanks behind it
 
@@ -134,33 +134,33 @@ module _ (s : List ℕ) where
   blanks-told o l b e =
       ends (ap (λ (w : List ℕ). tokenAt o w .kind) e ∙ ap (λ (t : Token). t .kind) (token-end o l (all-weaken isBlank (but less) (but-by isBlank less refl) l b)))
 
-  root-told : (c : Content) (o : ℕ) (u : List ℕ) → OneElement c → Good 16 c → Blanks u → drop o s ≡ render c ++ u
+  root-told : (c : Markup) (o : ℕ) (u : List ℕ) → OneElement c → GoodMarkup 16 c → Blanks u → drop o s ≡ render c ++ u
       → Tells s o (events (partsOf o c) [])
-  root-told end o u one g b e = absurd one
+  root-told noMore o u one g b e = absurd one
   root-told (piece p c) o u one g b e = absurd one
-  root-told (empty t c) o u one g b e =
+  root-told (emptyTag t c) o u one g b e =
       let f = e ∙ empty-shape t c u in
       let w = empty-at s o t _ (g .0) f .behind in
-      let z = o + length (render (empty t end)) in
-      subst (λ (k : Content). Tells s o (events (partsOf o (empty t k)) [])) (sym one)
-      (empty-told o o [] tt (omega arith) t _ [] (g .0) f (blanks-told z u b (w ∙ ap (λ (k : Content). render k ++ u) one)))
+      let z = o + length (render (emptyTag t noMore)) in
+      subst (λ (k : Markup). Tells s o (events (partsOf o (emptyTag t k)) [])) (sym one)
+      (empty-told o o [] tt (omega arith) t _ [] (g .0) f (blanks-told z u b (w ∙ ap (λ (k : Markup). render k ++ u) one)))
   root-told (full t j q c) o u one g b e =
       let f = e ∙ full-shape t j q c u in
       let v = open-at s o t _ (g .0) f .behind in
       let x = o + (length (tag t) + 2) in
-      let y = o + length (render (full t j q end)) in
-      let w = drop-is o y s (render (full t j q end)) (render c ++ u) (f ∙ sym (full-shape t j q end _)) refl in
-      subst (λ (k : Content). Tells s o (events (partsOf o (full t j q k)) [])) (sym one)
+      let y = o + length (render (full t j q noMore)) in
+      let w = drop-is o y s (render (full t j q noMore)) (render c ++ u) (f ∙ sym (full-shape t j q noMore _)) refl in
+      subst (λ (k : Markup). Tells s o (events (partsOf o (full t j q k)) [])) (sym one)
       (open-told o o [] tt (omega arith) t _ _ (g .0) f
-      (content-told j 15 x x y [] (t .name) q (render c ++ u) [] (g .1) tt (g .0 .name) (g .2) (omega arith) (omega (arith, full-length t j q end)) v
-      (blanks-told y u b (w ∙ ap (λ (k : Content). render k ++ u) one))))
+      (content-told j 15 x x y [] (t .name) q (render c ++ u) [] (g .1) tt (g .0 .name) (g .2) (omega arith) (omega (arith, full-length t j q noMore)) v
+      (blanks-told y u b (w ∙ ap (λ (k : Markup). render k ++ u) one))))
 
 -- ---- the whole text
 
-root-shape : (c : Content) (u : List ℕ) → OneElement c → Good 16 c → (n w : List ℕ) × IsName n × (render c ++ u ≡ 60 ∷ (n ++ w))
-root-shape end u one g = absurd one
+root-shape : (c : Markup) (u : List ℕ) → OneElement c → GoodMarkup 16 c → (n w : List ℕ) × IsName n × (render c ++ u ≡ 60 ∷ (n ++ w))
+root-shape noMore u one g = absurd one
 root-shape (piece p c) u one g = absurd one
-root-shape (empty t c) u one g =
+root-shape (emptyTag t c) u one g =
     (t .name, _, g .0 .name, empty-shape t c u ∙ ap (λ (l : List ℕ). 60 ∷ l) (append-assoc (t .name) (attrs (t .attributes) ++ t .gap) _))
 root-shape (full t j q c) u one g =
     (t .name, _, g .0 .name, full-shape t j q c u ∙ ap (λ (l : List ℕ). 60 ∷ l) (append-assoc (t .name) (attrs (t .attributes) ++ t .gap) _))

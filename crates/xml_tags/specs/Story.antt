@@ -10,7 +10,7 @@ use Rattle.text.specs.Lists.{Each}
 use Rattle.text_characters.specs.Chars.{NextChar}
 use Rattle.text_characters.specs.declared.utf8.Char.{Char}
 use Rattle.text_characters.specs.Pieces.{Piece, spell, spells, resolved, GoodPiece, Spells}
-use Rattle.xml.specs.Message.{Attrs, Parts}
+use Rattle.xml.specs.Message.{Attrs, Inside}
 use Rattle.xml.specs.Message as message
 use Rattle.xml_tags.specs.declared.attribute.Attribute.{Attribute}
 use Rattle.xml_tags.specs.declared.token.Kind.the-variants.{Open, Empty, Close, End}
@@ -26,9 +26,9 @@ pub data Event : Type 0 where
   leave : Event
 
 -- the parts of a message in document order, and then more
-abbrev pub events : Parts → List Event → List Event
-events message.none more = more
-events (message.char o c k) more = char o c ∷ events k more
+abbrev pub events : Inside → List Event → List Event
+events message.nothingInside more = more
+events (message.character o c k) more = char o c ∷ events k more
 events (message.element o n ats i k) more = enter o n ats ∷ events i (leave ∷ events k more)
 
 -- the characters of a text whose first byte is at o, and then more

@@ -30,7 +30,7 @@ use Rattle.file_walk.specs.declared.level.Level.{Level}
 use Rattle.file_walk.specs.declared.found.Found.{Found}
 use Rattle.file_walk.specs.declared.found.Found.the-variants.{Fine, Violation}
 use Rattle.file_walk.specs.Types.{Judge}
-use Rattle.file_walk.specs.First.{refuse, orElse, empty, currency, kindOf}
+use Rattle.file_walk.specs.First.{refuse, orElse, isEmpty, currencyGiven, kindOf}
 use Rattle.file_walk.specs.mirror.Machine.{Speller, judgeOf, at, pop, openTest, closeTest, run}
 use Rattle.file_walk.specs.Numbers.{isGroupIn}
 use Rattle.file_walk.specs.mirror.Tables.{openingIn, groupEndIn}
@@ -41,7 +41,7 @@ use Rattle.file_walk.proofs.calls.Whole.{leaf-chars, group-chars}
 use Rattle.file_walk.proofs.bytes.Own.{Coins, own-is}
 
 -- a text has characters exactly where it has bytes
-text-empty : (ps : List Piece) → empty (resolvedAll ps) ≡ eqb (length (spells ps)) 0
+text-empty : (ps : List Piece) → isEmpty (resolvedAll ps) ≡ eqb (length (spells ps)) 0
 text-empty [] = refl
 text-empty (p ∷ ps) = sym (ne-eqb (length (spell p ++ spells ps)) 0 (omega (arith, piece-some p, length-append (spell p) (spells ps))))
 
@@ -49,7 +49,7 @@ text-empty (p ∷ ps) = sym (ne-eqb (length (spell p ++ spells ps)) 0 (omega (ar
 abbrev pub judged : Judge → Kind → ℕ → ℕ → Attrs → List ℕ → Found
 judged j group r o ats cs = Fine
 judged j choice r o ats cs = Fine
-judged j (leaf k) r o ats cs = refuse (not (j k (currency ats) cs)) (table.badValue r o)
+judged j (leaf k) r o ats cs = refuse (not (j k (currencyGiven ats) cs)) (table.badValue r o)
 
 -- the characters that are kept of a text
 abbrev pub kept : Bool → List Piece → List ℕ
@@ -80,7 +80,7 @@ module _ (T : Speller) (t pool s : List ℕ) (sd : Sound t pool) where
           ∙ sym (rw (is-group, g, i)))
           (λ g. leaf-chars T l lv below ats ps a [] more g ∙ sym (rw (is-group, g, le-ltb b b (omega arith))))
 
-      no-text : empty (resolvedAll ps) ≡ eqb b a
+      no-text : isEmpty (resolvedAll ps) ≡ eqb b a
       no-text = text-empty ps ∙ elim (ℕ-discrete b a) [
         | yes e ↦ eq-eqb (length (spells ps)) 0 (omega (arith, text-length)) ∙ sym (eq-eqb b a e)
         | no e ↦ ne-eqb (length (spells ps)) 0 (omega (arith, text-length)) ∙ sym (ne-eqb b a e)

@@ -33,7 +33,7 @@ use Rattle.file_walk.specs.declared.found.Found.the-variants.{Fine, Viol
 use Rattle.file_walk.specs.declared.step.Here.{Here}
 use Rattle.file_walk.specs.declared.step.Turn.{Turn}
 use Rattle.file_walk.specs.declared.step.Met.the-variants.{Opened, Closed}
-use Rattle.file_walk.specs.First.{refuse, orElse, firstOf, currency, attrsOk, kindOf}
+use Rattle.file_walk.specs.First.{refuse, orElse, firstOf, currencyGiven, attrsOk, kindOf}
 use Rattle.file_walk.specs.mirror.Machine.{Speller, judgeOf, State, at, pop, fresh, advance, closeTest, run, opens, closes, emits}
 use Rattle.file_walk.specs.Numbers.{isGroupIn}
 use Rattle.file_walk.specs.mirror.Tables.{freshIn, advanceIn, passedIn, againIn, openingIn, levelAt, pushed, levels}
@@ -322,7 +322,7 @@ module _ (T : Speller) (t pool s : List ℕ) (sd : Sound t pool) (m : Coins (jud
         unfolding advance
         nested-child = (its, record { low = w .placed .low; high = w .placed .high; last = inr its }, w .nested)
 
-        coined-in : kindOf l r ≡ leaf amt → (isCurrency (slice (k .first .value) (k .first .quote) s) ≡ true) × (currency new ≡ slice (k .first .value) (k .first .quote) s)
+        coined-in : kindOf l r ≡ leaf amt → (isCurrency (slice (k .first .value) (k .first .quote) s) ≡ true) × (currencyGiven new ≡ slice (k .first .value) (k .first .quote) s)
         coined-in e = coined (judgeOf T) m s k n new g (subst (λ q. attrsOk (judgeOf T) q new ≡ true) e fits)
 
         stands-in : Tells s (k .end) more → Stands T t pool s sd st′ in′ (advance l lv r ∷ below) new more

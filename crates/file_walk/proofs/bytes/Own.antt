@@ -21,7 +21,7 @@ use Rattle.xml_tags.specs.declared.attribute.Attribute.{Attribute}
 use Rattle.xml_tags.specs.declared.token.Token.{Token}
 use Rattle.xml_tags.specs.Story.{attributeIn, Finds, Tagged}
 use Rattle.file_walk.specs.Types.{Judge}
-use Rattle.file_walk.specs.First.{noAttrs, currency, oneCurrency, attrsOk}
+use Rattle.file_walk.specs.First.{noAttrs, currencyGiven, oneCurrency, attrsOk}
 use Rattle.file_walk.proofs.violation.Answers.{iff-same}
 use Rattle.file_walk.specs.mirror.Stride.{isCurrency, named, ownIn}
 
@@ -92,7 +92,7 @@ currency-unmarked cs e =
 
 -- an amount's one attribute: its raw bytes are three capitals, and its characters are those
 pub coined : (j : Judge) (m : Coins j) (s : List ℕ) (k : Token) (n : List ℕ) (ats : Attrs) → Tagged s k n ats → oneCurrency j ats ≡ true
-    → (isCurrency (slice (k .first .value) (k .first .quote) s) ≡ true) × (currency ats ≡ slice (k .first .value) (k .first .quote) s)
+    → (isCurrency (slice (k .first .value) (k .first .quote) s) ≡ true) × (currencyGiven ats ≡ slice (k .first .value) (k .first .quote) s)
 coined j m s k n [] g e = absurd (false≢true e)
 coined j m s k n (a ∷ []) g e =
     let w : Spells (slice (k .first .value) (k .first .quote) s) (a .1) =

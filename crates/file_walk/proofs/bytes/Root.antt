@@ -18,7 +18,7 @@ use Rattle.list.specs.Table.{cell, listOf}
 use Rattle.list.specs.Sound.{Sound}
 use Rattle.list.proofs.rows.Rows.{size-is, name-is}
 use Rattle.list.proofs.sound.Tests.{byCases}
-use Rattle.xml.specs.House.{Content, end, piece, empty, full, render, OneElement, declaration, Tree, whole as text, GoodTree}
+use Rattle.xml.specs.House.{Markup, noMore, piece, emptyTag, full, render, OneElement, declaration, Tree, whole as text, GoodTree}
 use Rattle.xml.specs.Message.{Attrs, partsOf, messageOf, rootAt}
 use Rattle.xml_tags.specs.declared.token.Kind.{Kind as Mark}
 use Rattle.xml_tags.specs.declared.token.Kind.the-variants.{Open, Empty, End}
@@ -48,17 +48,17 @@ use Rattle.file_walk.proofs.bytes.OneStep.{no-amount}
 
 -- ---- the message of a tree is one element
 
-pub one-element : (i : Content) (o : ℕ) → OneElement i → Single (partsOf o i)
-one-element end o h = absurd h
+pub one-element : (i : Markup) (o : ℕ) → OneElement i → Single (partsOf o i)
+one-element noMore o h = absurd h
 one-element (piece p i) o h = absurd h
-one-element (empty t i) o h = ap (partsOf _) h
+one-element (emptyTag t i) o h = ap (partsOf _) h
 one-element (full t j g i) o h = ap (partsOf _) h
 
 -- so there are events
-some-events : (i : Content) (o : ℕ) → OneElement i → 0 < length (events (partsOf o i) [])
-some-events end o h = absurd h
+some-events : (i : Markup) (o : ℕ) → OneElement i → 0 < length (events (partsOf o i) [])
+some-events noMore o h = absurd h
 some-events (piece p i) o h = absurd h
-some-events (empty t i) o h = omega arith
+some-events (emptyTag t i) o h = omega arith
 some-events (full t j g i) o h = omega arith
 
 -- what the walk over events finds is the first violation of a tree's message

@@ -8,7 +8,7 @@ use native.Mathlib.Omega.{arith}
 use lib.Dec.{eqb, ltb}
 use borrow.Author.Tests.{eq-eqb}
 use Rattle.answer.specs.Table as table
-use Rattle.list.specs.Listing.{Kind, group, choice, leaf, Listing, size, rowAt, Child, isGroup, isChoice, single}
+use Rattle.list.specs.Listing.{Kind, group, choice, leaf, Listing, size, rowAt, Child, isGroup, isChoice, atMostOnce}
 use Rattle.list.specs.Table.{cell, wordsIn, listOf}
 use Rattle.list.specs.Sound.{Sound}
 use Rattle.list.specs.Sound.{firstOf as mate, secondOf as pair}
@@ -58,10 +58,10 @@ module _ (t pool : List ℕ) (s : Sound t pool) where
   choice-in : (r : ℕ) → 0 < r → r ≤ size l → eqb (cell t r 2) 1 ≡ isChoice (rowAt l r .kind)
   choice-in r a b = sym (ap isChoice (kind-is t pool r a (row-within r b)) ∙ choice-is (cell t r 3) (wordsIn t pool r) (cell t r 2))
 
-  single-in : (r : ℕ) → 0 < r → r ≤ size l → ltb (cell t r 1) 2 ≡ single (rowAt l r .count)
-  single-in r a b = sym (ap single (count-is t pool r a (row-within r b)) ∙ single-is (cell t r 1))
+  single-in : (r : ℕ) → 0 < r → r ≤ size l → ltb (cell t r 1) 2 ≡ atMostOnce (rowAt l r .count)
+  single-in r a b = sym (ap atMostOnce (count-is t pool r a (row-within r b)) ∙ single-is (cell t r 1))
 
-  again-kind : (k : Kind) (b : Bool) (last r : ℕ) → isGroup k ≡ true → b ≡ isChoice k → cond b (not (eqb last 0)) (single (rowAt l r .count) && eqb last r) ≡ again l k last r
+  again-kind : (k : Kind) (b : Bool) (last r : ℕ) → isGroup k ≡ true → b ≡ isChoice k → cond b (not (eqb last 0)) (atMostOnce (rowAt l r .count) && eqb last r) ≡ again l k last r
   again-kind group b last r g e = rw e
   again-kind choice b last r g e = rw e
   again-kind (leaf f) b last r g e = absurd (false≢true g)

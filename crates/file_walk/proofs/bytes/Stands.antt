@@ -20,7 +20,7 @@ use Rattle.file_walk.specs.declared.step.Turn.{Turn}
 use Rattle.file_walk.specs.declared.step.Met.the-variants.{Opened, Closed, Refused}
 use Rattle.file_walk.specs.declared.found.Found.{Found}
 use Rattle.file_walk.specs.declared.found.Found.the-variants.{Fine, Violation}
-use Rattle.file_walk.specs.First.{orElse, currency, attrsOk, kindOf}
+use Rattle.file_walk.specs.First.{orElse, currencyGiven, attrsOk, kindOf}
 use Rattle.file_walk.specs.mirror.Machine.{Speller, judgeOf, before, at, advance, run, opens, closes, emits}
 use Rattle.file_walk.specs.mirror.Tables.{levels}
 use Rattle.file_walk.specs.mirror.Stride.{isCurrency}
@@ -55,7 +55,7 @@ module _ (T : Speller) (t pool s : List ℕ) (sd : Sound t pool) where
     pub closing : Closing (suc (here .depth)) es
     pub attrs : attrsOk (judgeOf T) (kindOf list (here .level .row)) ats ≡ true
     -- an amount's currency is three capitals, and stands where it is said to
-    pub coin : kindOf list (here .level .row) ≡ leaf amt → currency ats ≡ slice (here .value) (here .quote) s
+    pub coin : kindOf list (here .level .row) ≡ leaf amt → currencyGiven ats ≡ slice (here .value) (here .quote) s
     pub capitals : kindOf list (here .level .row) ≡ leaf amt → isCurrency (slice (here .value) (here .quote) s) ≡ true
 
   -- what is found and what is handed out from here on

@@ -7,11 +7,11 @@ use Prim.Native.Nat.{ℕ}
 use Rattle.list.specs.Listing.{Leaf, Kind, group, choice, leaf, Listing, child, isGroup}
 use Rattle.list.specs.WellFormed.{KindOk, WellFormed}
 use Rattle.list.specs.Content.{Content, end, value, node, items}
-use Rattle.xml.specs.Message.{Attrs, Parts, none, char, element}
+use Rattle.xml.specs.Message.{Attrs, Inside, nothingInside, character, element}
 use Rattle.xml_tags.specs.Story.{Event, char as text, leave, events}
 use Rattle.file_walk.specs.declared.level.Level.{Level}
 use Rattle.file_walk.specs.Types.{Types}
-use Rattle.file_walk.specs.First.{textOf, currency, kindOf}
+use Rattle.file_walk.specs.First.{textOf, currencyGiven, kindOf}
 use Rattle.file_walk.specs.Denotes.{plain, Spells, Denotes, Has}
 use Rattle.file_walk.specs.mirror.Machine.{Speller, spellerOf, Computes, before, at, pop, fresh, advance, opens, closes, emits}
 use Rattle.list.proofs.rows.Child.{child-is}
@@ -33,33 +33,33 @@ module _ (t : Types) (sp : Leaf → List ℕ → List ℕ → Option (t .A)) (y 
   T = spellerOf t sp
 
   -- a leaf's one item comes at its end
-  record Single (k : Kind) (r : ℕ) (ats : Attrs) (i : Parts) (v : t .A) : Type 0 where
+  record Single (k : Kind) (r : ℕ) (ats : Attrs) (i : Inside) (v : t .A) : Type 0 where
     first : opens T l k r ≡ []
     then : closes T l k r ats (textOf i) ≡ (r, Option.some v) ∷ []
     noGroup : isGroup k ≡ false
     plainly : plain i ≡ true
 
-  single : (k : Kind) (r : ℕ) (ats : Attrs) (i : Parts) (v : t .A) → KindOk k → Spells t l k ats i v → Single k r ats i v
+  single : (k : Kind) (r : ℕ) (ats : Attrs) (i : Inside) (v : t .A) → KindOk k → Spells t l k ats i v → Single k r ats i v
   single group r ats i v h s = absurd s
   single choice r ats i v h s = absurd s
-  single (leaf f) r ats i v h s = record { first = refl; then = rw (y .complete f (currency ats) (textOf i) v h (s .2)); noGroup = refl; plainly = s .0 }
+  single (leaf f) r ats i v h s = record { first = refl; then = rw (y .complete f (currencyGiven ats) (textOf i) v h (s .2)); noGroup = refl; plainly = s .0 }
 
-  leaf-emits : (i : Parts) (lv : Level) (below : List Level) (ats : Attrs) (cs : List ℕ) (rest : List Event) → isGroup (kindOf l (lv .row)) ≡ false → plain i ≡ true
+  leaf-emits : (i : Inside) (lv : Level) (below : List Level) (ats : Attrs) (cs : List ℕ) (rest : List Event) → isGroup (kindOf l (lv .row)) ≡ false → plain i ≡ true
       → emits T l (at lv below ats cs) (events i (leave ∷ rest)) ≡ closes T l (kindOf l (lv .row)) (lv .row) ats (cs ++ textOf i) ++ emits T l (pop below) rest
   unfolding emits
-  leaf-emits none lv below ats cs rest g p = rw (append-nil cs)
-  leaf-emits (char o x k) lv below ats cs rest g p =
+  leaf-emits nothingInside lv below ats cs rest g p = rw (append-nil cs)
+  leaf-emits (character o x k) lv below ats cs rest g p =
       let a : cs ++ (x ∷ []) ++ textOf k ≡ cs ++ (x ∷ textOf k) = append-assoc cs (x ∷ []) (textOf k) in
       rw g (rw a at (leaf-emits k lv below ats (cs ++ (x ∷ [])) rest g p))
   leaf-emits (element o n ats′ i k) lv below ats cs rest g p = absurd (false≢true p)
 
-  group-emits : (i : Parts) (c : Content (t .A)) (lv : Level) (below : List Level) (rest : List Event) → isGroup (kindOf l (lv .row)) ≡ true → Denotes t l (lv .row) i c
+  group-emits : (i : Inside) (c : Content (t .A)) (lv : Level) (below : List Level) (rest : List Event) → isGroup (kindOf l (lv .row)) ≡ true → Denotes t l (lv .row) i c
       → emits T l (at lv below [] []) (events i (leave ∷ rest)) ≡ items c ++ emits T l (pop below) rest
   unfolding emits fresh advance
-  group-emits none end lv below rest g d = ap (λ x. x ++ emits T l (pop below) rest) (closes-group T l (kindOf l (lv .row)) (lv .row) [] [] g)
-  group-emits none (value r v c) lv below rest g d = absurd d
-  group-emits none (node r e c) lv below rest g d = absurd d
-  group-emits (char o x k) c lv below rest g d = rw g (group-emits k c lv below rest g (d .1))
+  group-emits nothingInside end lv below rest g d = ap (λ x. x ++ emits T l (pop below) rest) (closes-group T l (kindOf l (lv .row)) (lv .row) [] [] g)
+  group-emits nothingInside (value r v c) lv below rest g d = absurd d
+  group-emits nothingInside (node r e c) lv below rest g d = absurd d
+  group-emits (character o x k) c lv below rest g d = rw g (group-emits k c lv below rest g (d .1))
   group-emits (element o n ats i k) end lv below rest g d = absurd d
   group-emits (element o n ats i k) (value r v c) lv below rest g d =
       let e : child l (lv .row) n ≡ r = child-is l (lv .row) n w r (record { its = d .0 .0; name = d .0 .1 }) in
@@ -81,10 +81,10 @@ module _ (t : Types) (sp : Leaf → List ℕ → List ℕ → Option (t .A)) (y 
       ∙ sym (append-assoc (items f) (items c) (emits T l (pop below) rest)))
 
   -- what the walk hands out over a message with a content is that content's items
-  pub items-are : (m : Parts) (c : Content (t .A)) → Has t l m c → emits T l before (events m []) ≡ items c
+  pub items-are : (m : Inside) (c : Content (t .A)) → Has t l m c → emits T l before (events m []) ≡ items c
   unfolding fresh emits
-  items-are none c h = absurd h
-  items-are (char o x k) c h = absurd h
+  items-are nothingInside c h = absurd h
+  items-are (character o x k) c h = absurd h
   items-are (element o n ats i k) c h =
       ap (λ z. (1, Option.none) ∷ emits T l (at (fresh l 1 o) [] [] []) (events i (leave ∷ events z []))) (h .alone)
       ∙ ap (λ x. (1, Option.none) ∷ x) (group-emits i (h .kids) (fresh l 1 o) [] [] (ap isGroup (w .root .1)) (h .parts))

@@ -12,17 +12,17 @@ use Rattle.answer.specs.Table as table
 use Rattle.text.specs.Bytes.{isBlank}
 use Rattle.text.specs.Lists.{Each}
 use Rattle.list.specs.Words.{times, has}
-use Rattle.list.specs.Listing.{Leaf, Kind, group, choice, leaf, Rule, both, Listing, rowAt, size, Child, child, isGroup, isChoice, single, required}
+use Rattle.list.specs.Listing.{Leaf, Kind, group, choice, leaf, Rule, both, Listing, rowAt, size, Child, child, isGroup, isChoice, atMostOnce, required}
 use Rattle.list.specs.WellFormed.{WellFormed}
 use Rattle.list.specs.Sound.{firstOf as mate, secondOf as pair}
 use Rattle.list.proofs.rows.Words.{firstFrom-ext, times-hit, times-miss, has-of, each-at, each-of}
-use Rattle.xml.specs.Message.{Attrs, Parts, none, char, element}
+use Rattle.xml.specs.Message.{Attrs, Inside, nothingInside, character, element}
 use Rattle.xml_tags.specs.Story.{Event, char as text, leave, events}
 use Rattle.file_walk.specs.declared.level.Level.{Level}
 use Rattle.file_walk.specs.declared.found.Found.{Found}
 use Rattle.file_walk.specs.declared.found.Found.the-variants.{Fine}
 use Rattle.file_walk.specs.Types.{Judge}
-use Rattle.file_walk.specs.First.{refuse, orElse, firstOf, empty, passed, breaks, textOf, attrsOk, kindOf, isRoot, over, absent, childRows, opening, closing, inside, firstViolation}
+use Rattle.file_walk.specs.First.{refuse, orElse, firstOf, isEmpty, passed, breaks, textOf, attrsOk, kindOf, isRoot, overCount, absentRow, childRows, opening, closing, inside, firstViolation}
 use Rattle.file_walk.specs.Denotes.{OneElement}
 use Rattle.file_walk.specs.mirror.Machine.{Speller, judgeOf, at, pop, fresh, advance, again, openTest, closeTest, run, walk, misses}
 use Rattle.file_walk.proofs.violation.Answers.{or-right, or-when, or-assoc, refuse-no, passed-no, no-passed, group-attrs, kinds}
@@ -51,7 +51,7 @@ times-shift q r (x ∷ a) b = elim (ℕ-discrete x q) [
   | no e ↦ rw (ne-eqb x q e) (times-shift q r a b)
 ]
 
-empty-shift : (r : ℕ) (a b : List ℕ) → empty (a ++ (r ∷ b)) ≡ false
+empty-shift : (r : ℕ) (a b : List ℕ) → isEmpty (a ++ (r ∷ b)) ≡ false
 empty-shift r [] b = refl
 empty-shift r (x ∷ a) b = refl
 
@@ -63,13 +63,13 @@ module _ (T : Speller) (l : Listing) where
   abbrev j : Judge
   j = judgeOf T
 
-  absent-same : (p : ℕ) (a b : List ℕ) → ((q : ℕ) → times q a ≡ times q b) → absent l p a ≡ absent l p b
-  unfolding absent
+  absent-same : (p : ℕ) (a b : List ℕ) → ((q : ℕ) → times q a ≡ times q b) → absentRow l p a ≡ absentRow l p b
+  unfolding absentRow
   absent-same p a b e =
       firstFrom-ext (λ r. eqb (rowAt l r .parent) p && (required (rowAt l r .count) && not (has r a))) (λ r. eqb (rowAt l r .parent) p && (required (rowAt l r .count) && not (has r b))) 1 (size l)
       (λ q h k. ap (λ n. eqb (rowAt l q .parent) p && (required (rowAt l q .count) && not (ltb 0 n))) (e q))
 
-  closing-same : (k : Kind) (r o : ℕ) (ats : Attrs) (cs a b : List ℕ) → ((q : ℕ) → times q a ≡ times q b) → empty a ≡ empty b → closing j l k r o ats a cs ≡ closing j l k r o ats b cs
+  closing-same : (k : Kind) (r o : ℕ) (ats : Attrs) (cs a b : List ℕ) → ((q : ℕ) → times q a ≡ times q b) → isEmpty a ≡ isEmpty b → closing j l k r o ats a cs ≡ closing j l k r o ats b cs
   closing-same group r o ats cs a b e f = rw (f, absent-same r a b e, breaks-same r a b (l .rules) e)
   closing-same choice r o ats cs a b e f = rw (f, absent-same r a b e, breaks-same r a b (l .rules) e)
   closing-same (leaf k) r o ats cs a b e f = refl
@@ -99,19 +99,19 @@ module _ (T : Speller) (l : Listing) where
     ])
   ]
 
-  first-latest : (p : ℕ) (seen : List ℕ) → Each (Child l p) seen → eqb (latest seen) 0 ≡ empty seen
+  first-latest : (p : ℕ) (seen : List ℕ) → Each (Child l p) seen → eqb (latest seen) 0 ≡ isEmpty seen
   first-latest p [] c = refl
   first-latest p (x ∷ s) c = ne-eqb x 0 (omega (arith, c .0 .first))
 
   -- 7 goes by the latest row once 6 has passed
-  over-latest : (k : Kind) (p r : ℕ) (seen : List ℕ) → 0 < r → Each (Child l p) seen → Each (λ x. x ≤ latest seen) seen → (not (isChoice k) && passed r seen) ≡ false → again l k (latest seen) r ≡ over l k seen r
-  over-latest group p r seen pos c a e = ap (λ b. single (rowAt l r .count) && b) (has-latest r seen pos a (passed-no r seen e))
+  over-latest : (k : Kind) (p r : ℕ) (seen : List ℕ) → 0 < r → Each (Child l p) seen → Each (λ x. x ≤ latest seen) seen → (not (isChoice k) && passed r seen) ≡ false → again l k (latest seen) r ≡ overCount l k seen r
+  over-latest group p r seen pos c a e = ap (λ b. atMostOnce (rowAt l r .count) && b) (has-latest r seen pos a (passed-no r seen e))
   over-latest choice p r seen pos c a e = ap not (first-latest p seen c)
   over-latest (leaf k) p r seen pos c a e = refl
 
   open-same : (kp kr : Kind) (p last r o : ℕ) (seen : List ℕ) (ats : Attrs) → Each (Child l p) seen → Each (λ x. x ≤ latest seen) seen → last ≡ latest seen
       → firstOf (refuse (eqb r 0) (table.notAChild p o) ∷ refuse (not (isChoice kp) && ltb r last) (table.outOfOrder r o) ∷ refuse (again l kp last r) (table.tooMany r o) ∷ refuse (not (attrsOk j kr ats)) (table.wrongAttributes r o) ∷ [])
-      ≡ firstOf (refuse (eqb r 0) (table.notAChild p o) ∷ refuse (not (isChoice kp) && passed r seen) (table.outOfOrder r o) ∷ refuse (over l kp seen r) (table.tooMany r o) ∷ refuse (not (attrsOk j kr ats)) (table.wrongAttributes r o) ∷ [])
+      ≡ firstOf (refuse (eqb r 0) (table.notAChild p o) ∷ refuse (not (isChoice kp) && passed r seen) (table.outOfOrder r o) ∷ refuse (overCount l kp seen r) (table.tooMany r o) ∷ refuse (not (attrsOk j kr ats)) (table.wrongAttributes r o) ∷ [])
   open-same kp kr p last r o seen ats c a e =
       rw (e, passed-latest r seen a)
       (or-when (refuse (eqb r 0) (table.notAChild p o)) _ _ (λ z. or-when (refuse (not (isChoice kp) && passed r seen) (table.outOfOrder r o)) _ _ (λ y.
@@ -134,7 +134,7 @@ module _ (T : Speller) (l : Listing) where
 
     record Stands (lv : Level) (seen : List ℕ) : Type 0 where
       last : lv .last ≡ latest seen
-      due : lv .due ≡ absent l (lv .row) seen
+      due : lv .due ≡ absentRow l (lv .row) seen
       oddTo : lv .odd ≡ true → Odd l w (lv .row) seen
       oddFrom : Odd l w (lv .row) seen → lv .odd ≡ true
       top : Each (λ x. x ≤ latest seen) seen
@@ -167,7 +167,7 @@ module _ (T : Speller) (l : Listing) where
     close-same k lv seen ats bts cs ds g s = go k (lv .row) (lv .place) (lv .last) (lv .due) (lv .odd) g (s .last) (s .due)
         (first-latest (lv .row) seen (s .theirs)) (odd-ends l w (lv .row) seen (s .theirs) (s .top) (lv .odd) (s .oddTo) (s .oddFrom))
       where
-        go : (k : Kind) (p o last due : ℕ) (odd : Bool) → isGroup k ≡ true → last ≡ latest seen → due ≡ absent l p seen → eqb (latest seen) 0 ≡ empty seen
+        go : (k : Kind) (p o last due : ℕ) (odd : Bool) → isGroup k ≡ true → last ≡ latest seen → due ≡ absentRow l p seen → eqb (latest seen) 0 ≡ isEmpty seen
             → (odd || not (eqb (pair (l .rules) (latest seen)) 0)) ≡ breaks p seen (l .rules)
             → closeTest T l k (record { row = p; place = o; last = last; due = due; odd = odd }) ats cs ≡ closing j l k p o bts seen ds
         go group p o last due odd g e f h i = rw (e, f, h, i)
@@ -181,14 +181,14 @@ module _ (T : Speller) (l : Listing) where
     leaf-close choice f lv ats rs cs e = absurd (true≢false (ap isGroup e))
     leaf-close (leaf g) f lv ats rs cs e = refl
 
-    leaf-run : (i : Parts) (lv : Level) (below : List Level) (ats : Attrs) (rs cs : List ℕ) (rest : List Event) (f : Leaf) → 0 < lv .row → kindOf l (lv .row) ≡ leaf f
+    leaf-run : (i : Inside) (lv : Level) (below : List Level) (ats : Attrs) (rs cs : List ℕ) (rest : List Event) (f : Leaf) → 0 < lv .row → kindOf l (lv .row) ≡ leaf f
         → run T l (at lv below ats cs) (events i (leave ∷ rest))
         ≡ orElse (inside j l (lv .row) [] i) (orElse (closing j l (kindOf l (lv .row)) (lv .row) (lv .place) ats rs (cs ++ textOf i)) (run T l (pop below) rest))
     unfolding run inside openTest
-    leaf-run none lv below ats rs cs rest f h e =
+    leaf-run nothingInside lv below ats rs cs rest f h e =
         ap (λ x. orElse x (run T l (pop below) rest)) (leaf-close (kindOf l (lv .row)) f lv ats rs cs e)
         ∙ ap (λ x. orElse (closing j l (kindOf l (lv .row)) (lv .row) (lv .place) ats rs x) (run T l (pop below) rest)) (sym (append-nil cs))
-    leaf-run (char o x k) lv below ats rs cs rest f h e =
+    leaf-run (character o x k) lv below ats rs cs rest f h e =
         let g : isGroup (kindOf l (lv .row)) ≡ false = ap isGroup e in
         let ih = leaf-run k lv below ats rs (cs ++ (x ∷ [])) rest f h e in
         let a : cs ++ (x ∷ []) ++ textOf k ≡ cs ++ (x ∷ textOf k) = append-assoc cs (x ∷ []) (textOf k) in
@@ -199,7 +199,7 @@ module _ (T : Speller) (l : Listing) where
 
     -- ---- an element that passed its opening tests: its parts, its closing tests, and what follows it
 
-    module _ (lv : Level) (below : List Level) (seen : List ℕ) (rest : List Event) (s : Stands lv seen) (o : ℕ) (ats : Attrs) (i k : Parts) (r : ℕ) (its : Child l (lv .row) r)
+    module _ (lv : Level) (below : List Level) (seen : List ℕ) (rest : List Event) (s : Stands lv seen) (o : ℕ) (ats : Attrs) (i k : Inside) (r : ℕ) (its : Child l (lv .row) r)
         (op : Opened j l (kindOf l (lv .row)) (kindOf l r) seen r ats) where
       abbrev ends : List ℕ → Found
       ends rs = orElse (closing j l (kindOf l (lv .row)) (lv .row) (lv .place) [] rs []) (run T l (pop below) rest)
@@ -228,12 +228,12 @@ module _ (T : Speller) (l : Listing) where
 
     -- ---- what stands in a group, with its closing tag
 
-    group-run : (i : Parts) (lv : Level) (below : List Level) (seen : List ℕ) (rest : List Event) → Stands lv seen → isGroup (kindOf l (lv .row)) ≡ true
+    group-run : (i : Inside) (lv : Level) (below : List Level) (seen : List ℕ) (rest : List Event) → Stands lv seen → isGroup (kindOf l (lv .row)) ≡ true
         → run T l (at lv below [] []) (events i (leave ∷ rest))
         ≡ orElse (inside j l (lv .row) seen i) (orElse (closing j l (kindOf l (lv .row)) (lv .row) (lv .place) [] (childRows l (lv .row) i ++ seen) []) (run T l (pop below) rest))
     unfolding run inside openTest childRows fresh advance
-    group-run none lv below seen rest s g = ap (λ x. orElse x (run T l (pop below) rest)) (close-same (kindOf l (lv .row)) lv seen [] [] [] [] g s)
-    group-run (char o x k) lv below seen rest s g =
+    group-run nothingInside lv below seen rest s g = ap (λ x. orElse x (run T l (pop below) rest)) (close-same (kindOf l (lv .row)) lv seen [] [] [] [] g s)
+    group-run (character o x k) lv below seen rest s g =
         let ih = group-run k lv below seen rest s g in
         let f = refuse (isGroup (kindOf l (lv .row)) && not (isBlank x)) (table.textInGroup (lv .row) o) in
         let u = inside j l (lv .row) seen k in
@@ -259,10 +259,10 @@ module _ (T : Speller) (l : Listing) where
         ∙ sym (regroup open′ (inside j l r [] i) shut (inside j l p (r ∷ seen) k) (orElse ended done))
 
     -- the walk finds the first violation of every message
-    pub walk-is : (m : Parts) → OneElement m → walk T l m ≡ firstViolation j l m
+    pub walk-is : (m : Inside) → OneElement m → walk T l m ≡ firstViolation j l m
     unfolding walk firstViolation fresh run
-    walk-is none one = absurd one
-    walk-is (char o x k) one = absurd one
+    walk-is nothingInside one = absurd one
+    walk-is (character o x k) one = absurd one
     walk-is (element o n ats i k) one =
         let g : isGroup (kindOf l 1) ≡ true = ap isGroup (w .root .1) in
         let c = childRows l 1 i in

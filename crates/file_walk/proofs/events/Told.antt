@@ -7,7 +7,7 @@ use native.Mathlib.Omega.{arith}
 use lib.ListN.{length}
 use Rattle.text_characters.specs.Pieces.{Piece, spell}
 use Rattle.list.specs.Listing.{Listing}
-use Rattle.xml.specs.Message.{Attrs, Parts, none, char, element}
+use Rattle.xml.specs.Message.{Attrs, Inside, nothingInside, character, element}
 use Rattle.xml_tags.specs.declared.token.Kind.{Kind as Mark}
 use Rattle.xml_tags.specs.declared.token.Kind.the-variants.{Open, Empty, Close, End}
 use Rattle.xml_tags.specs.Story.{Event, enter, leave, events, chars, Text, tokenIn, Tagged, Tells, enters, passes, leaves, ends}
@@ -49,9 +49,9 @@ closing-text n o [] more h = h
 closing-text n o (p ∷ ps) more h = closing-text n (o + length (spell p)) ps more h
 
 -- the parts of a message open nothing that they don't close
-pub closing-events : (p : Parts) (n : ℕ) (more : List Event) → Closing n more → Closing n (events p more)
-closing-events none n more h = h
-closing-events (char o x k) n more h = closing-events k n more h
+pub closing-events : (p : Inside) (n : ℕ) (more : List Event) → Closing n more → Closing n (events p more)
+closing-events nothingInside n more h = h
+closing-events (character o x k) n more h = closing-events k n more h
 closing-events (element o m ats i k) n more h = closing-events i (suc n) (leave ∷ events k more) (closing-events k n more h)
 
 module _ (T : Speller) (l : Listing) where

@@ -12,11 +12,11 @@ use Rattle.text.specs.Lists.{Each, same}
 use Rattle.list.specs.Listing.{Leaf, Kind, group, choice, leaf, Listing, rowAt, Child, child, isGroup}
 use Rattle.list.specs.WellFormed.{LeafOk, KindOk, WellFormed}
 use Rattle.list.specs.Content.{Content, end, value, node, rows, ValueOf, GroupOf, Good, Meets}
-use Rattle.xml.specs.Message.{Attrs, Parts, none, char, element}
+use Rattle.xml.specs.Message.{Attrs, Inside, nothingInside, character, element}
 use Rattle.file_walk.specs.declared.found.Found.{Found}
 use Rattle.file_walk.specs.declared.found.Found.the-variants.{Fine}
 use Rattle.file_walk.specs.Types.{Types, Judge, Decides, Spelling}
-use Rattle.file_walk.specs.First.{First, refuse, firstOf, empty, textOf, rootAttrs, currency, attrsOk, kindOf, isRoot, childRows, opening, leafEnd, closing, inside, firstViolation}
+use Rattle.file_walk.specs.First.{First, refuse, firstOf, isEmpty, textOf, rootAttrs, currencyGiven, attrsOk, kindOf, isRoot, childRows, opening, leafEnd, closing, inside, firstViolation}
 use Rattle.file_walk.specs.Denotes.{plain, OneElement, Spells, Denotes, Has}
 use Rattle.text.proofs.Classes.{and-is}
 use Rattle.list.proofs.sound.Tests.{clash}
@@ -45,17 +45,17 @@ module _ (t : Types) (y : Spelling t) (j : Judge) (d : Decides t j) (l : Listing
   -- ---- from no violation to a content
 
   -- in a leaf there are characters only
-  leaf-plain : (i : Parts) (p : ℕ) (seen : List ℕ) (f : Leaf) → 0 < p → kindOf l p ≡ leaf f → inside j l p seen i ≡ Fine → plain i ≡ true
+  leaf-plain : (i : Inside) (p : ℕ) (seen : List ℕ) (f : Leaf) → 0 < p → kindOf l p ≡ leaf f → inside j l p seen i ≡ Fine → plain i ≡ true
   unfolding inside
-  leaf-plain none p seen f h e z = refl
-  leaf-plain (char o x k) p seen f h e z =
+  leaf-plain nothingInside p seen f h e z = refl
+  leaf-plain (character o x k) p seen f h e z =
       leaf-plain k p seen f h e (or-fine (inside j l p seen k) Fine (or-fine (refuse (isGroup (kindOf l p) && not (isBlank x)) (table.textInGroup p o)) _ z .1) .0)
   leaf-plain (element o n ats i k) p seen f h e z =
       let a = or-fine (refuse (eqb (child l p n) 0) (table.notAChild p o)) _ (or-fine (opening j l p seen (child l p n) ats o) _ z .0) in
       clash (eqb (child l p n) 0) (eq-eqb (child l p n) 0 (no-child l p n w f h e)) (refuse-no (eqb (child l p n) 0) (table.notAChild p o) (a .0))
 
   -- what no violation among p's parts comes to
-  record Clean (p : ℕ) (seen : List ℕ) (i : Parts) : Type 0 where
+  record Clean (p : ℕ) (seen : List ℕ) (i : Inside) : Type 0 where
     content : Content (t .A)
     denotes : Denotes t l p i content
     good : Good (t .Is) l content
@@ -63,17 +63,17 @@ module _ (t : Types) (y : Spelling t) (j : Judge) (d : Decides t j) (l : Listing
     theirs : Each (Child l p) (rows content)
     rowed : childRows l p i ≡ rows content
 
-  spells : (k : Kind) (f : Leaf) (ats : Attrs) (i : Parts) (v : t .A) → k ≡ leaf f → plain i ≡ true → attrsOk j k ats ≡ true → t .Spelt f (currency ats) (textOf i) v
+  spells : (k : Kind) (f : Leaf) (ats : Attrs) (i : Inside) (v : t .A) → k ≡ leaf f → plain i ≡ true → attrsOk j k ats ≡ true → t .Spelt f (currencyGiven ats) (textOf i) v
       → Spells t l k ats i v × ValueOf (t .Is) l k v
   spells group f ats i v e a b c = absurd (true≢false (ap isGroup e))
   spells choice f ats i v e a b c = absurd (true≢false (ap isGroup e))
   spells (leaf g) f ats i v e a b c =
       let z : g ≡ f = cc in
-      let s : t .Spelt g (currency ats) (textOf i) v = subst (λ x. t .Spelt x (currency ats) (textOf i) v) (sym z) c in
-      ((a, leaf-mean t j d g ats .0 b, s), y .is g (currency ats) (textOf i) v s)
+      let s : t .Spelt g (currencyGiven ats) (textOf i) v = subst (λ x. t .Spelt x (currencyGiven ats) (textOf i) v) (sym z) c in
+      ((a, leaf-mean t j d g ats .0 b, s), y .is g (currencyGiven ats) (textOf i) v s)
 
   -- one element of row r, found good, and what follows it
-  module _ (p : ℕ) (seen : List ℕ) (o : ℕ) (n : List ℕ) (ats : Attrs) (i k : Parts) (c : Child l p (child l p n)) (nm : rowAt l (child l p n) .name ≡ n)
+  module _ (p : ℕ) (seen : List ℕ) (o : ℕ) (n : List ℕ) (ats : Attrs) (i k : Inside) (c : Child l p (child l p n)) (nm : rowAt l (child l p n) .name ≡ n)
       (op : Opened j l (kindOf l p) (kindOf l (child l p n)) seen (child l p n) ats) (after : Clean p (child l p n ∷ seen) k) where
     abbrev shut : Found
     shut = closing j l (kindOf l (child l p n)) (child l p n) o ats (childRows l (child l p n) i) (textOf i)
@@ -97,9 +97,9 @@ module _ (t : Types) (y : Spelling t) (j : Judge) (d : Decides t j) (l : Listing
     as-value f e y z =
         let r = child l p n in
         let z′ : leafEnd j l f r o ats (textOf i) ≡ Fine = subst (λ q. closing j l q r o ats (childRows l r i) (textOf i) ≡ Fine) e z in
-        let b = j f (currency ats) (textOf i) in
-        let a = or-fine (refuse (not b) (table.badValue r o)) Fine (or-fine (refuse (empty (textOf i)) (table.empty r o)) _ z′ .1) in
-        let v = d .right f (currency ats) (textOf i) .0 (not-false b (refuse-no (not b) (table.badValue r o) (a .0))) in
+        let b = j f (currencyGiven ats) (textOf i) in
+        let a = or-fine (refuse (not b) (table.badValue r o)) Fine (or-fine (refuse (isEmpty (textOf i)) (table.empty r o)) _ z′ .1) in
+        let v = d .right f (currencyGiven ats) (textOf i) .0 (not-false b (refuse-no (not b) (table.badValue r o) (a .0))) in
         let s = spells (kindOf l r) f ats i (v .0) e y (op .attrs) (v .1) in
         record {
           content = value (child l p n) (v .0) (after .content);
@@ -110,10 +110,10 @@ module _ (t : Types) (y : Spelling t) (j : Judge) (d : Decides t j) (l : Listing
           rowed = ap (λ rs. child l p n ∷ rs) (after .rowed);
         }
 
-  accepts : (i : Parts) (p : ℕ) (seen : List ℕ) → 0 < p → isGroup (kindOf l p) ≡ true → inside j l p seen i ≡ Fine → Clean p seen i
+  accepts : (i : Inside) (p : ℕ) (seen : List ℕ) → 0 < p → isGroup (kindOf l p) ≡ true → inside j l p seen i ≡ Fine → Clean p seen i
   unfolding inside childRows
-  accepts none p seen h g z = record { content = end; denotes = tt; good = tt; steps = tt; theirs = tt; rowed = refl }
-  accepts (char o x k) p seen h g z =
+  accepts nothingInside p seen h g z = record { content = end; denotes = tt; good = tt; steps = tt; theirs = tt; rowed = refl }
+  accepts (character o x k) p seen h g z =
       let a = or-fine (refuse (isGroup (kindOf l p) && not (isBlank x)) (table.textInGroup p o)) _ z in
       let f = accepts k p seen h g (or-fine (inside j l p seen k) Fine (a .1) .0) in
       let b : (isGroup (kindOf l p) && not (isBlank x)) ≡ false = refuse-no (isGroup (kindOf l p) && not (isBlank x)) (table.textInGroup p o) (a .0) in
@@ -134,34 +134,34 @@ module _ (t : Types) (y : Spelling t) (j : Judge) (d : Decides t j) (l : Listing
 
   -- ---- back: from a content to no violation
 
-  plain-leaf : (i : Parts) (p : ℕ) (seen : List ℕ) → isGroup (kindOf l p) ≡ false → plain i ≡ true → inside j l p seen i ≡ Fine
+  plain-leaf : (i : Inside) (p : ℕ) (seen : List ℕ) → isGroup (kindOf l p) ≡ false → plain i ≡ true → inside j l p seen i ≡ Fine
   unfolding inside
-  plain-leaf none p seen e z = refl
-  plain-leaf (char o x k) p seen e z = rw (e, plain-leaf k p seen e z)
+  plain-leaf nothingInside p seen e z = refl
+  plain-leaf (character o x k) p seen e z = rw (e, plain-leaf k p seen e z)
   plain-leaf (element o n ats i k) p seen e z = absurd (false≢true z)
 
-  some-text : (f : Leaf) (u cs : List ℕ) (v : t .A) → LeafOk f → t .Spelt f u cs v → empty cs ≡ false
+  some-text : (f : Leaf) (u cs : List ℕ) (v : t .A) → LeafOk f → t .Spelt f u cs v → isEmpty cs ≡ false
   some-text f u [] v h e = absurd (y .none f u v h e)
   some-text f u (x ∷ cs) v h e = refl
 
-  record Leafy (k : Kind) (r o : ℕ) (ats : Attrs) (rs : List ℕ) (i : Parts) : Type 0 where
+  record Leafy (k : Kind) (r o : ℕ) (ats : Attrs) (rs : List ℕ) (i : Inside) : Type 0 where
     attrs : attrsOk j k ats ≡ true
     plainly : plain i ≡ true
     noGroup : isGroup k ≡ false
     shuts : closing j l k r o ats rs (textOf i) ≡ Fine
 
-  leafy : (k : Kind) (r o : ℕ) (ats : Attrs) (rs : List ℕ) (i : Parts) (v : t .A) → KindOk k → Spells t l k ats i v → Leafy k r o ats rs i
+  leafy : (k : Kind) (r o : ℕ) (ats : Attrs) (rs : List ℕ) (i : Inside) (v : t .A) → KindOk k → Spells t l k ats i v → Leafy k r o ats rs i
   leafy group r o ats rs i v h s = absurd s
   leafy choice r o ats rs i v h s = absurd s
   leafy (leaf f) r o ats rs i v h s =
-      record { attrs = leaf-mean t j d f ats .1 (s .1); plainly = s .0; noGroup = refl; shuts = rw (some-text f (currency ats) (textOf i) v h (s .2), d .right f (currency ats) (textOf i) .1 (v, s .2)) }
+      record { attrs = leaf-mean t j d f ats .1 (s .1); plainly = s .0; noGroup = refl; shuts = rw (some-text f (currencyGiven ats) (textOf i) v h (s .2), d .right f (currencyGiven ats) (textOf i) .1 (v, s .2)) }
 
-  record Back (p : ℕ) (seen : List ℕ) (i : Parts) (rs : List ℕ) : Type 0 where
+  record Back (p : ℕ) (seen : List ℕ) (i : Inside) (rs : List ℕ) : Type 0 where
     passes : inside j l p seen i ≡ Fine
     rowed : childRows l p i ≡ rs
 
   -- one element of row r, its parts and what follows it found good
-  module _ (p : ℕ) (seen : List ℕ) (o : ℕ) (n : List ℕ) (ats : Attrs) (i k : Parts) (r : ℕ) (rs : List ℕ) (is : child l p n ≡ r) (pos : 0 < r) (fits : Fits l (kindOf l p) seen r)
+  module _ (p : ℕ) (seen : List ℕ) (o : ℕ) (n : List ℕ) (ats : Attrs) (i k : Inside) (r : ℕ) (rs : List ℕ) (is : child l p n ≡ r) (pos : 0 < r) (fits : Fits l (kindOf l p) seen r)
       (attrs : attrsOk j (kindOf l r) ats ≡ true) (within : inside j l r [] i ≡ Fine) (close : closing j l (kindOf l r) r o ats (childRows l r i) (textOf i) ≡ Fine) (after : Back p (r ∷ seen) k rs) where
     back-element : Back p seen (element o n ats i k) (r ∷ rs)
     unfolding inside childRows
@@ -172,12 +172,12 @@ module _ (t : Types) (y : Spelling t) (j : Judge) (d : Decides t j) (l : Listing
       rowed = ap₂ _∷_ is (after .rowed);
     }
 
-  back : (i : Parts) (p : ℕ) (seen : List ℕ) (c : Content (t .A)) → Denotes t l p i c → Good (t .Is) l c → Steps l (kindOf l p) seen (rows c) → Back p seen i (rows c)
+  back : (i : Inside) (p : ℕ) (seen : List ℕ) (c : Content (t .A)) → Denotes t l p i c → Good (t .Is) l c → Steps l (kindOf l p) seen (rows c) → Back p seen i (rows c)
   unfolding inside childRows
-  back none p seen end d g s = record { passes = refl; rowed = refl }
-  back none p seen (value r v c) d g s = absurd d
-  back none p seen (node r e c) d g s = absurd d
-  back (char o x k) p seen c d g s =
+  back nothingInside p seen end d g s = record { passes = refl; rowed = refl }
+  back nothingInside p seen (value r v c) d g s = absurd d
+  back nothingInside p seen (node r e c) d g s = absurd d
+  back (character o x k) p seen c d g s =
       let b = back k p seen c (d .1) g s in
       let z : (isGroup (kindOf l p) && not (isBlank x)) ≡ false = rw (d .0) (and-false (isGroup (kindOf l p))) in
       record { passes = rw (z, b .passes); rowed = b .rowed }
@@ -198,10 +198,10 @@ module _ (t : Types) (y : Spelling t) (j : Judge) (d : Decides t j) (l : Listing
   root-group = ap isGroup (w .root .1)
 
   -- no violation: a content that meets the list, and is the message's
-  accept-by : (m : Parts) → OneElement m → firstViolation j l m ≡ Fine → (c : Content (t .A)) × Meets (t .Is) l c × Has t l m c
+  accept-by : (m : Inside) → OneElement m → firstViolation j l m ≡ Fine → (c : Content (t .A)) × Meets (t .Is) l c × Has t l m c
   unfolding firstViolation
-  accept-by none one z = absurd one
-  accept-by (char o x k) one z = absurd one
+  accept-by nothingInside one z = absurd one
+  accept-by (character o x k) one z = absurd one
   accept-by (element o n ats i k) one z =
       let a = or-fine (refuse (not (isRoot l n ats)) (table.wrongRoot o)) _ z in
       let b = or-fine (inside j l 1 [] i) _ (a .1) in
@@ -216,10 +216,10 @@ module _ (t : Types) (y : Spelling t) (j : Judge) (d : Decides t j) (l : Listing
       )
 
   -- a content that meets the list, and is the message's: no violation
-  accepted-by : (m : Parts) (c : Content (t .A)) → Meets (t .Is) l c → Has t l m c → firstViolation j l m ≡ Fine
+  accepted-by : (m : Inside) (c : Content (t .A)) → Meets (t .Is) l c → Has t l m c → firstViolation j l m ≡ Fine
   unfolding firstViolation
-  accepted-by none c k h = absurd h
-  accepted-by (char o x k′) c k h = absurd h
+  accepted-by nothingInside c k h = absurd h
+  accepted-by (character o x k′) c k h = absurd h
   accepted-by (element o n ats i k′) c k h =
       let g : Good (t .Is) l (node 1 (h .kids) end) = subst (λ x. Good (t .Is) l x) (h .is) (k .good) in
       let z = closes j l w (kindOf l 1) 1 o ats (rows (h .kids)) (textOf i) root-group refl (g .0 .1) in
@@ -229,21 +229,21 @@ module _ (t : Types) (y : Spelling t) (j : Judge) (d : Decides t j) (l : Listing
 
 module _ (t : Types) (y : Spelling t) (l : Listing) (w : WellFormed l) where
   -- nothing is found: a content that meets the list, and is the message's
-  pub accept : (m : Parts) → OneElement m → First t l m Fine → (c : Content (t .A)) × Meets (t .Is) l c × Has t l m c
+  pub accept : (m : Inside) → OneElement m → First t l m Fine → (c : Content (t .A)) × Meets (t .Is) l c × Has t l m c
   accept m one f = accept-by t y (f .judge) (f .decides) l w m one (f .is)
 
   -- a content that meets the list, and is the message's: nothing is found
-  pub accepted : (m : Parts) (c : Content (t .A)) → Meets (t .Is) l c → Has t l m c → (f : Found) → First t l m f → f ≡ Fine
+  pub accepted : (m : Inside) (c : Content (t .A)) → Meets (t .Is) l c → Has t l m c → (f : Found) → First t l m f → f ≡ Fine
   accepted m c k h f x = sym (x .is) ∙ accepted-by t y (x .judge) (x .decides) l w m c k h
 
   -- ---- one content
 
-  spells-one : (k : Kind) (ats : Attrs) (i : Parts) (u v : t .A) → KindOk k → Spells t l k ats i u → Spells t l k ats i v → u ≡ v
+  spells-one : (k : Kind) (ats : Attrs) (i : Inside) (u v : t .A) → KindOk k → Spells t l k ats i u → Spells t l k ats i v → u ≡ v
   spells-one group ats i u v h a b = absurd a
   spells-one choice ats i u v h a b = absurd a
-  spells-one (leaf f) ats i u v h a b = y .one f (currency ats) (textOf i) u v h (a .2) (b .2)
+  spells-one (leaf f) ats i u v h a b = y .one f (currencyGiven ats) (textOf i) u v h (a .2) (b .2)
 
-  no-both : {P : Type 0} (k : Kind) (ats : Attrs) (i : Parts) (u : t .A) → Spells t l k ats i u → isGroup k ≡ true → P
+  no-both : {P : Type 0} (k : Kind) (ats : Attrs) (i : Inside) (u : t .A) → Spells t l k ats i u → isGroup k ≡ true → P
   no-both group ats i u s g = absurd s
   no-both choice ats i u s g = absurd s
   no-both (leaf f) ats i u s g = absurd (false≢true g)
@@ -251,13 +251,13 @@ module _ (t : Types) (y : Spelling t) (l : Listing) (w : WellFormed l) where
   same-row : (p r q : ℕ) (n : List ℕ) → Child l p r × (rowAt l r .name ≡ n) → Child l p q × (rowAt l q .name ≡ n) → r ≡ q
   same-row p r q n a b = w .apart p r q (a .0) (b .0) (a .1 ∙ sym (b .1))
 
-  one-content : (i : Parts) (p : ℕ) (a b : Content (t .A)) → Denotes t l p i a → Denotes t l p i b → a ≡ b
-  one-content none p end end d e = refl
-  one-content none p end (value r v b) d e = absurd e
-  one-content none p end (node r x b) d e = absurd e
-  one-content none p (value r v a) b d e = absurd d
-  one-content none p (node r x a) b d e = absurd d
-  one-content (char o x k) p a b d e = one-content k p a b (d .1) (e .1)
+  one-content : (i : Inside) (p : ℕ) (a b : Content (t .A)) → Denotes t l p i a → Denotes t l p i b → a ≡ b
+  one-content nothingInside p end end d e = refl
+  one-content nothingInside p end (value r v b) d e = absurd e
+  one-content nothingInside p end (node r x b) d e = absurd e
+  one-content nothingInside p (value r v a) b d e = absurd d
+  one-content nothingInside p (node r x a) b d e = absurd d
+  one-content (character o x k) p a b d e = one-content k p a b (d .1) (e .1)
   one-content (element o n ats i k) p end b d e = absurd d
   one-content (element o n ats i k) p (value r u a) end d e = absurd e
   one-content (element o n ats i k) p (node r x a) end d e = absurd e
@@ -275,7 +275,7 @@ module _ (t : Types) (y : Spelling t) (l : Listing) (w : WellFormed l) where
       let h = one-content k p a b (d .3) (e .3) in cc
 
   -- a message has one content
-  pub unique : (m : Parts) (a b : Content (t .A)) → Has t l m a → Has t l m b → a ≡ b
-  unique none a b h k = absurd h
-  unique (char o x k′) a b h k = absurd h
+  pub unique : (m : Inside) (a b : Content (t .A)) → Has t l m a → Has t l m b → a ≡ b
+  unique nothingInside a b h k = absurd h
+  unique (character o x k′) a b h k = absurd h
   unique (element o n ats i k′) a b h k = let z = one-content i 1 (h .kids) (k .kids) (h .parts) (k .parts) in h .is ∙ ap (λ x. node 1 x end) z ∙ sym (k .is)

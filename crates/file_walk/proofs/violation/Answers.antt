@@ -16,7 +16,7 @@ use Rattle.file_walk.specs.declared.found.Found.{Found}
 use Rattle.file_walk.specs.declared.found.Found.the-variants.{Fine, Violation}
 use Rattle.file_walk.specs.Types.{Judge}
 use Rattle.file_walk.specs.mirror.Machine.{isNone}
-use Rattle.file_walk.specs.First.{refuse, orElse, empty, passed, only, noAttrs, attrsOk}
+use Rattle.file_walk.specs.First.{refuse, orElse, isEmpty, passed, only, noAttrs, attrsOk}
 use Rattle.text.proofs.Classes.{and-is, or-not}
 use Rattle.list.proofs.rows.Words.{same-eq, same-refl}
 
@@ -60,15 +60,15 @@ iff-same false false f g = refl
 
 -- ---- lists and attributes
 
-pub empty-no : (rs : List ℕ) → empty rs ≡ false → 0 < length rs
+pub empty-no : (rs : List ℕ) → isEmpty rs ≡ false → 0 < length rs
 empty-no [] e = absurd (true≢false e)
 empty-no (r ∷ rs) e = omega arith
 
-pub no-empty : (rs : List ℕ) → 0 < length rs → empty rs ≡ false
+pub no-empty : (rs : List ℕ) → 0 < length rs → isEmpty rs ≡ false
 no-empty [] h = absurd (omega arith)
 no-empty (r ∷ rs) h = refl
 
-pub empty-yes : (rs : List ℕ) → empty rs ≡ true → rs ≡ []
+pub empty-yes : (rs : List ℕ) → isEmpty rs ≡ true → rs ≡ []
 empty-yes [] e = refl
 empty-yes (r ∷ rs) e = absurd (false≢true e)
 

@@ -15,7 +15,7 @@ use Rattle.text.proofs.Classes.{and-is}
 use Rattle.list.proofs.sound.Tests.{byCases, clash}
 use Rattle.list.proofs.rows.Words.{firstFrom-none, firstFrom-some, firstFrom-is, firstFrom-zero, firstFrom-ext, times-hit, times-miss, times-more, has-of, each-at}
 use Rattle.list.proofs.rows.Next.{next-due, none-due}
-use Rattle.file_walk.specs.First.{absent}
+use Rattle.file_walk.specs.First.{absentRow}
 use Rattle.file_walk.proofs.violation.Tests.{lack}
 
 -- a row above all others has not come
@@ -25,8 +25,8 @@ none-above r q seen a h =
     times-miss q r seen z ∙ elim (decLt 0 (times q seen)) [ yes k ↦ absurd (let y : q ≤ r = each-at (λ x. x ≤ r) seen q a k in omega arith) | no k ↦ omega arith ]
 
 module _ (l : Listing) where
-  pub due-start : (p : ℕ) → nextDue l p 0 ≡ absent l p []
-  unfolding nextDue absent
+  pub due-start : (p : ℕ) → nextDue l p 0 ≡ absentRow l p []
+  unfolding nextDue absentRow
   due-start p = firstFrom-ext (λ r. eqb (rowAt l r .parent) p && required (rowAt l r .count)) (λ r. eqb (rowAt l r .parent) p && (required (rowAt l r .count) && true)) 1 (size l)
       (λ q a b. ap (λ x. eqb (rowAt l q .parent) p && x) (sym (and-true (required (rowAt l q .count)))))
 
@@ -58,19 +58,19 @@ module _ (l : Listing) where
 
   -- ---- the lowest
 
-  due-other : (p r : ℕ) (seen : List ℕ) → (r ≡ absent l p seen → ⊥) → absent l p (r ∷ seen) ≡ absent l p seen
-  unfolding absent lack
-  due-other p r seen ne = go (absent l p seen) refl
+  due-other : (p r : ℕ) (seen : List ℕ) → (r ≡ absentRow l p seen → ⊥) → absentRow l p (r ∷ seen) ≡ absentRow l p seen
+  unfolding absentRow lack
+  due-other p r seen ne = go (absentRow l p seen) refl
     where
-      go : (d : ℕ) → absent l p seen ≡ d → absent l p (r ∷ seen) ≡ absent l p seen
+      go : (d : ℕ) → absentRow l p seen ≡ d → absentRow l p (r ∷ seen) ≡ absentRow l p seen
       go zero e = firstFrom-zero (lack l p (r ∷ seen)) 1 (size l) (λ q a b. lack-less p q r seen (firstFrom-none (lack l p seen) 1 (size l) (omega arith) e q a b)) ∙ sym e
       go (suc d) e =
           let f = firstFrom-some (lack l p seen) 1 (size l) (suc d) e (omega arith) in
           firstFrom-is (lack l p (r ∷ seen)) 1 (size l) (suc d)
           (record { passes = lack-miss p (suc d) r seen (λ z. ne (z ∙ sym e)) ∙ f .passes; from = f .from; to = f .to; lowest = λ q a b. lack-less p q r seen (f .lowest q a b) }) ∙ sym e
 
-  due-hit : (p r : ℕ) (seen : List ℕ) → 0 < r → Each (λ x. x ≤ r) seen → r ≡ absent l p seen → absent l p (r ∷ seen) ≡ nextDue l p r
-  unfolding absent lack
+  due-hit : (p r : ℕ) (seen : List ℕ) → 0 < r → Each (λ x. x ≤ r) seen → r ≡ absentRow l p seen → absentRow l p (r ∷ seen) ≡ nextDue l p r
+  unfolding absentRow lack
   due-hit p r seen pos a e = go (nextDue l p r) refl
     where
       -- up to r nothing is lacking
@@ -87,7 +87,7 @@ module _ (l : Listing) where
           clash (required (rowAt l q .count)) (w .1) (f (record { first = h; last = omega arith; parent = eqb-true (rowAt l q .parent) p (w .0) })))
           (λ n. n)
 
-      go : (d : ℕ) → nextDue l p r ≡ d → absent l p (r ∷ seen) ≡ nextDue l p r
+      go : (d : ℕ) → nextDue l p r ≡ d → absentRow l p (r ∷ seen) ≡ nextDue l p r
       go zero z = firstFrom-zero (lack l p (r ∷ seen)) 1 (size l)
           (λ q h k. elim (decLt r q) [ yes y ↦ free q h k (λ c. none-due l p r z q c y) | no y ↦ low q h (omega arith) ]) ∙ sym z
       go (suc d) z =
@@ -100,7 +100,7 @@ module _ (l : Listing) where
           }) ∙ sym z
 
   -- when r comes: if it was due, the next one is
-  pub due-step : (p r d : ℕ) (seen : List ℕ) → 0 < r → Each (λ x. x ≤ r) seen → d ≡ absent l p seen → cond (eqb r d) (nextDue l p r) d ≡ absent l p (r ∷ seen)
+  pub due-step : (p r d : ℕ) (seen : List ℕ) → 0 < r → Each (λ x. x ≤ r) seen → d ≡ absentRow l p seen → cond (eqb r d) (nextDue l p r) d ≡ absentRow l p (r ∷ seen)
   due-step p r d seen pos a e = elim (ℕ-discrete r d) [
     | yes z ↦ rw (eq-eqb r d z) (sym (due-hit p r seen pos a (z ∙ e)))
     | no z ↦ rw (ne-eqb r d z) (e ∙ sym (due-other p r seen (λ y. z (y ∙ sym e))))

@@ -6,9 +6,9 @@ use Rattle.text.specs.Lists.{Each, same}
 use Rattle.list.specs.Words.{firstFrom}
 use Rattle.list.specs.Listing.{rowAt, child}
 use Rattle.list_house.specs.House.{house}
-use Rattle.file_walk.specs.First.{absent, childRows, inside, firstViolation}
+use Rattle.file_walk.specs.First.{absentRow, childRows, inside, firstViolation}
 use Rattle.file_walk.specs.Example.{anyText, examples}
 
 pub examples-right : Each (λ c. firstViolation anyText house (c .0) ≡ c .1) examples
-unfolding house examples firstViolation inside childRows absent child firstFrom same rowAt isBlank xor
+unfolding house examples firstViolation inside childRows absentRow child firstFrom same rowAt isBlank xor
 examples-right = (refl, (refl, (refl, (refl, (refl, (refl, (refl, (refl, (refl, (refl, (refl, (refl, (refl, (refl, (refl, (refl, (refl, (refl, (refl, (refl, (refl, (refl, (refl, (refl, (refl, (refl, (refl, (refl, (refl, (refl, (refl, (refl, tt))))))))))))))))))))))))))))))))

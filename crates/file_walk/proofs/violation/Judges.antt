@@ -4,7 +4,7 @@ use mathlib.Core.List.{List}
 use mathlib.Core.Option.{Option}
 use Prim.Native.Nat.{ℕ}
 use Rattle.list.specs.Listing.{Leaf, Listing}
-use Rattle.xml.specs.Message.{Parts}
+use Rattle.xml.specs.Message.{Inside}
 use Rattle.file_walk.specs.declared.found.Found.{Found}
 use Rattle.file_walk.specs.Types.{Types, Judge, Decides}
 use Rattle.file_walk.specs.First.{First, firstViolation}
@@ -25,5 +25,5 @@ judges-one : (t : Types) (i j : Judge) → Decides t i → Decides t j → i ≡
 judges-one t i j x y = λ u k w cs. iff-same (i k w cs) (j k w cs) (λ e. y .right k w cs .1 (x .right k w cs .0 e)) (λ e. x .right k w cs .1 (y .right k w cs .0 e)) u
 
 -- only one thing is found first
-pub first-one : (t : Types) (l : Listing) (m : Parts) (f g : Found) → First t l m f → First t l m g → f ≡ g
+pub first-one : (t : Types) (l : Listing) (m : Inside) (f g : Found) → First t l m f → First t l m g → f ≡ g
 first-one t l m f g x y = sym (x .is) ∙ ap (λ (j : Judge). firstViolation j l m) (judges-one t (x .judge) (y .judge) (x .decides) (y .decides)) ∙ y .is

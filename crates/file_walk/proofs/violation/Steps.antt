@@ -11,14 +11,14 @@ use lib.ListN.{length}
 use borrow.Author.Tests.{eq-eqb}
 use Rattle.text.specs.Lists.{Each}
 use Rattle.list.specs.Words.{times, Ordered}
-use Rattle.list.specs.Listing.{Kind, group, choice, leaf, Count, one, optional, any, alternative, Listing, rowAt, Child, single, required}
-use Rattle.list.specs.Content.{Counts}
+use Rattle.list.specs.Listing.{Kind, group, choice, leaf, Count, one, optional, any, alternative, Listing, rowAt, Child, atMostOnce, required}
+use Rattle.list.specs.Content.{CountOk}
 use Rattle.list.proofs.sound.Tests.{clash}
 use Rattle.list.proofs.rows.Words.{each-at, each-of, times-hit, times-miss, times-more}
 
 module _ (l : Listing) where
   abbrev once : ℕ → Bool
-  once r = single (rowAt l r .count)
+  once r = atMostOnce (rowAt l r .count)
 
   -- r may follow the rows seen
   abbrev pub Fits : Kind → List ℕ → ℕ → Type 0
@@ -76,23 +76,23 @@ module _ (l : Listing) where
   step-one (r ∷ q ∷ rs) s h = absurd (let z : _≡_ {A = ℕ} 1 0 = ap length (s .1 .0) in omega arith)
 
 -- a count, as a limit and a need
-pub counted : (c : Count) (n : ℕ) → c ≢ alternative → (single c ≡ true → n ≤ 1) → (required c ≡ true → 0 < n) → Counts c n
+pub counted : (c : Count) (n : ℕ) → c ≢ alternative → (atMostOnce c ≡ true → n ≤ 1) → (required c ≡ true → 0 < n) → CountOk c n
 counted one n a f g = let y = f refl in let z = g refl in omega arith
 counted optional n a f g = f refl
-counted Count.some n a f g = g refl
+counted Count.several n a f g = g refl
 counted any n a f g = tt
 counted alternative n a f g = absurd (a refl)
 
-pub limit : (c : Count) (n : ℕ) → Counts c n → single c ≡ true → n ≤ 1
+pub limit : (c : Count) (n : ℕ) → CountOk c n → atMostOnce c ≡ true → n ≤ 1
 limit one n h e = omega arith
 limit optional n h e = h
-limit Count.some n h e = clash (single Count.some) e refl
-limit any n h e = clash (single any) e refl
+limit Count.several n h e = clash (atMostOnce Count.several) e refl
+limit any n h e = clash (atMostOnce any) e refl
 limit alternative n h e = h
 
-pub need : (c : Count) (n : ℕ) → Counts c n → required c ≡ true → 0 < n
+pub need : (c : Count) (n : ℕ) → CountOk c n → required c ≡ true → 0 < n
 need one n h e = omega arith
 need optional n h e = clash (required optional) e refl
-need Count.some n h e = h
+need Count.several n h e = h
 need any n h e = clash (required any) e refl
 need alternative n h e = clash (required alternative) e refl

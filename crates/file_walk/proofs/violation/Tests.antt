@@ -12,14 +12,14 @@ use borrow.Author.Tests.{eqb-true, eqb-false, eq-eqb, ne-eqb, ltb-true, ltb-fals
 use Rattle.answer.specs.Table as table
 use Rattle.text.specs.Lists.{Each}
 use Rattle.list.specs.Words.{times, has, Ordered}
-use Rattle.list.specs.Listing.{Leaf, Kind, group, choice, leaf, Count, alternative, Rule, both, Listing, rowAt, size, Child, child, isGroup, isChoice, single, required}
+use Rattle.list.specs.Listing.{Leaf, Kind, group, choice, leaf, Count, alternative, Rule, both, Listing, rowAt, size, Child, child, isGroup, isChoice, atMostOnce, required}
 use Rattle.list.specs.WellFormed.{WellFormed}
-use Rattle.list.specs.Content.{Counts, Keeps, Children}
+use Rattle.list.specs.Content.{CountOk, Keeps, Children}
 use Rattle.xml.specs.Message.{Attrs}
 use Rattle.file_walk.specs.declared.found.Found.{Found}
 use Rattle.file_walk.specs.declared.found.Found.the-variants.{Fine}
 use Rattle.file_walk.specs.Types.{Judge}
-use Rattle.file_walk.specs.First.{refuse, firstOf, empty, passed, breaks, attrsOk, over, absent, groupEnd, closing}
+use Rattle.file_walk.specs.First.{refuse, firstOf, isEmpty, passed, breaks, attrsOk, overCount, absentRow, groupEnd, closing}
 use Rattle.text.proofs.Classes.{or-not}
 use Rattle.list.proofs.rows.Child.{child-zero}
 use Rattle.list.proofs.rows.Words.{firstFrom-none, firstFrom-zero, times-hit, times-miss}
@@ -38,13 +38,13 @@ pub record Opened (j : Judge) (l : Listing) (kp kr : Kind) (seen : List ℕ) (r 
   pub attrs : attrsOk j kr ats ≡ true
 
 module _ (j : Judge) (l : Listing) where
-  fits-of : (kp : Kind) (seen : List ℕ) (r : ℕ) → isGroup kp ≡ true → (not (isChoice kp) && passed r seen) ≡ false → over l kp seen r ≡ false → Fits l kp seen r
-  fits-of group seen r g a b = (passed-no r seen a, λ e. let z = ltb-false 0 (times r seen) (and-not (single (rowAt l r .count)) (has r seen) b e) in omega arith)
-  fits-of choice seen r g a b = empty-yes seen (not-false (empty seen) b)
+  fits-of : (kp : Kind) (seen : List ℕ) (r : ℕ) → isGroup kp ≡ true → (not (isChoice kp) && passed r seen) ≡ false → overCount l kp seen r ≡ false → Fits l kp seen r
+  fits-of group seen r g a b = (passed-no r seen a, λ e. let z = ltb-false 0 (times r seen) (and-not (atMostOnce (rowAt l r .count)) (has r seen) b e) in omega arith)
+  fits-of choice seen r g a b = empty-yes seen (not-false (isEmpty seen) b)
   fits-of (leaf k) seen r g a b = absurd (false≢true g)
 
-  of-fits : (kp : Kind) (seen : List ℕ) (r : ℕ) → Fits l kp seen r → ((not (isChoice kp) && passed r seen) ≡ false) × (over l kp seen r ≡ false)
-  of-fits group seen r f = (no-passed r seen (f .0), imp-and (single (rowAt l r .count)) (has r seen) (λ e. le-ltb 0 (times r seen) (omega (arith, f .1 e))))
+  of-fits : (kp : Kind) (seen : List ℕ) (r : ℕ) → Fits l kp seen r → ((not (isChoice kp) && passed r seen) ≡ false) × (overCount l kp seen r ≡ false)
+  of-fits group seen r f = (no-passed r seen (f .0), imp-and (atMostOnce (rowAt l r .count)) (has r seen) (λ e. le-ltb 0 (times r seen) (omega (arith, f .1 e))))
   of-fits choice seen r f = (refl, rw f)
   of-fits (leaf k) seen r f = absurd f
 
@@ -52,18 +52,18 @@ module _ (j : Judge) (l : Listing) where
     -- the tests of an opening tag, its parent's kind and its own being kp and kr
     abbrev tests : Found
     tests = firstOf (
-        refuse (eqb r 0) (table.notAChild p o) ∷ refuse (not (isChoice kp) && passed r seen) (table.outOfOrder r o) ∷ refuse (over l kp seen r) (table.tooMany r o) ∷ refuse (not (attrsOk j kr ats)) (table.wrongAttributes r o) ∷ [])
+        refuse (eqb r 0) (table.notAChild p o) ∷ refuse (not (isChoice kp) && passed r seen) (table.outOfOrder r o) ∷ refuse (overCount l kp seen r) (table.tooMany r o) ∷ refuse (not (attrsOk j kr ats)) (table.wrongAttributes r o) ∷ [])
 
     pub opened : isGroup kp ≡ true → tests ≡ Fine → Opened j l kp kr seen r ats
     opened g e =
         let a = or-fine (refuse (eqb r 0) (table.notAChild p o)) _ e in
         let b = or-fine (refuse (not (isChoice kp) && passed r seen) (table.outOfOrder r o)) _ (a .1) in
-        let c = or-fine (refuse (over l kp seen r) (table.tooMany r o)) _ (b .1) in
+        let c = or-fine (refuse (overCount l kp seen r) (table.tooMany r o)) _ (b .1) in
         let d = or-fine (refuse (not (attrsOk j kr ats)) (table.wrongAttributes r o)) _ (c .1) in
         let z = eqb-false r 0 (refuse-no (eqb r 0) (table.notAChild p o) (a .0)) in
         record {
           row = elim (decLt 0 r) [ yes h ↦ h | no h ↦ absurd (z (omega arith)) ];
-          fits = fits-of kp seen r g (refuse-no (not (isChoice kp) && passed r seen) (table.outOfOrder r o) (b .0)) (refuse-no (over l kp seen r) (table.tooMany r o) (c .0));
+          fits = fits-of kp seen r g (refuse-no (not (isChoice kp) && passed r seen) (table.outOfOrder r o) (b .0)) (refuse-no (overCount l kp seen r) (table.tooMany r o) (c .0));
           attrs = not-false (attrsOk j kr ats) (refuse-no (not (attrsOk j kr ats)) (table.wrongAttributes r o) (d .0));
         }
 
@@ -107,15 +107,15 @@ module _ (l : Listing) where
   unfoldable pub lack : ℕ → List ℕ → ℕ → Bool
   lack p rs r = eqb (rowAt l r .parent) p && (required (rowAt l r .count) && not (has r rs))
 
-  none-absent : (p : ℕ) (rs : List ℕ) → absent l p rs ≡ 0 → (r : ℕ) → Child l p r → required (rowAt l r .count) ≡ true → 0 < times r rs
-  unfolding absent lack
+  none-absent : (p : ℕ) (rs : List ℕ) → absentRow l p rs ≡ 0 → (r : ℕ) → Child l p r → required (rowAt l r .count) ≡ true → 0 < times r rs
+  unfolding absentRow lack
   none-absent p rs e r c q =
       let z : lack p rs r ≡ false = firstFrom-none (lack p rs) 1 (size l) (omega arith) e r (c .first) (omega (arith, c .last)) in
       let y : (required (rowAt l r .count) && not (has r rs)) ≡ false = and-not (eqb (rowAt l r .parent) p) _ z (eq-eqb (rowAt l r .parent) p (c .parent)) in
       ltb-true 0 (times r rs) (not-false (has r rs) (and-not (required (rowAt l r .count)) (not (has r rs)) y q))
 
-  absent-none : (p : ℕ) (rs : List ℕ) → ((r : ℕ) → Child l p r → required (rowAt l r .count) ≡ true → 0 < times r rs) → absent l p rs ≡ 0
-  unfolding absent lack
+  absent-none : (p : ℕ) (rs : List ℕ) → ((r : ℕ) → Child l p r → required (rowAt l r .count) ≡ true → 0 < times r rs) → absentRow l p rs ≡ 0
+  unfolding absentRow lack
   absent-none p rs f = firstFrom-zero (lack p rs) 1 (size l) (λ r a b. imp-and (eqb (rowAt l r .parent) p) (required (rowAt l r .count) && not (has r rs))
       (λ e. imp-and (required (rowAt l r .count)) (not (has r rs)) (λ q. rw (lt-ltb 0 (times r rs) (f r (record { first = a; last = omega arith; parent = eqb-true (rowAt l r .parent) p e }) q)))))
 
@@ -126,15 +126,15 @@ module _ (l : Listing) where
 
   ended : (j : Judge) (r o : ℕ) (rs : List ℕ) → groupEnd j l r o rs ≡ Fine → Ended r rs
   ended j r o rs e =
-      let a = or-fine (refuse (empty rs) (table.empty r o)) _ e in
-      let b = or-fine (refuse (ltb 0 (absent l r rs)) (table.absent (absent l r rs) o)) _ (a .1) in
+      let a = or-fine (refuse (isEmpty rs) (table.empty r o)) _ e in
+      let b = or-fine (refuse (ltb 0 (absentRow l r rs)) (table.absent (absentRow l r rs) o)) _ (a .1) in
       let c = or-fine (refuse (breaks r rs (l .rules)) (table.ruleBroken r o)) _ (b .1) in
-      let z = ltb-false 0 (absent l r rs) (refuse-no (ltb 0 (absent l r rs)) (table.absent (absent l r rs) o) (b .0)) in
-      record { some = empty-no rs (refuse-no (empty rs) (table.empty r o) (a .0)); full = none-absent r rs (omega arith); rules = kept r rs (l .rules) (refuse-no (breaks r rs (l .rules)) (table.ruleBroken r o) (c .0)) }
+      let z = ltb-false 0 (absentRow l r rs) (refuse-no (ltb 0 (absentRow l r rs)) (table.absent (absentRow l r rs) o) (b .0)) in
+      record { some = empty-no rs (refuse-no (isEmpty rs) (table.empty r o) (a .0)); full = none-absent r rs (omega arith); rules = kept r rs (l .rules) (refuse-no (breaks r rs (l .rules)) (table.ruleBroken r o) (c .0)) }
 
   ends : (j : Judge) (r o : ℕ) (rs : List ℕ) → Ended r rs → groupEnd j l r o rs ≡ Fine
   ends j r o rs w =
-      let z : ltb 0 (absent l r rs) ≡ false = le-ltb 0 (absent l r rs) (omega (arith, absent-none r rs (w .full))) in
+      let z : ltb 0 (absentRow l r rs) ≡ false = le-ltb 0 (absentRow l r rs) (omega (arith, absent-none r rs (w .full))) in
       rw (no-empty rs (w .some), z, keeps r rs (l .rules) (w .rules))
 
 -- one row is there once at most
@@ -173,7 +173,7 @@ module _ (j : Judge) (l : Listing) (w : WellFormed l) where
         rules = z .rules;
         order = order-one rs y;
         single = λ x. y;
-        counts = λ q d. subst (λ x. Counts x (times q rs)) (sym (w .uncounted r q d e)) (at-most-one q rs y);
+        counts = λ q d. subst (λ x. CountOk x (times q rs)) (sym (w .uncounted r q d e)) (at-most-one q rs y);
       }
   closed (leaf k) r o ats rs cs g e s c f = absurd (false≢true g)
 

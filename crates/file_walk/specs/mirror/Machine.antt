@@ -7,16 +7,16 @@ use Prim.Native.Nat.{ℕ}
 use lib.Dec.{eqb, ltb}
 use Rattle.answer.specs.Table as table
 use Rattle.text.specs.Bytes.{isBlank}
-use Rattle.list.specs.Listing.{Leaf, Kind, group, choice, leaf, Listing, rowAt, child, isGroup, isChoice, single, nextDue}
+use Rattle.list.specs.Listing.{Leaf, Kind, group, choice, leaf, Listing, rowAt, child, isGroup, isChoice, atMostOnce, nextDue}
 use Rattle.list.specs.WellFormed.{LeafOk}
 use Rattle.list.specs.Sound.{firstOf as mate, secondOf as pair}
-use Rattle.xml.specs.Message.{Attrs, Parts}
+use Rattle.xml.specs.Message.{Attrs, Inside}
 use Rattle.xml_tags.specs.Story.{Event, char as text, enter, leave, events}
 use Rattle.file_walk.specs.declared.level.Level.{Level}
 use Rattle.file_walk.specs.declared.found.Found.{Found}
 use Rattle.file_walk.specs.declared.found.Found.the-variants.{Fine}
 use Rattle.file_walk.specs.Types.{Types, Judge}
-use Rattle.file_walk.specs.First.{refuse, orElse, firstOf, currency, attrsOk, kindOf, isRoot, leafEnd}
+use Rattle.file_walk.specs.First.{refuse, orElse, firstOf, currencyGiven, attrsOk, kindOf, isRoot, leafEnd}
 
 -- values, and a way to compute which of them is spelt
 pub record Speller : Type 1 where
@@ -71,7 +71,7 @@ module _ (l : Listing) where
   }
 
   abbrev pub again : Kind → ℕ → ℕ → Bool
-  again group last r = single (rowAt l r .count) && eqb last r
+  again group last r = atMostOnce (rowAt l r .count) && eqb last r
   again choice last r = not (eqb last 0)
   again (leaf k) last r = false
 
@@ -117,7 +117,7 @@ module _ (T : Speller) (l : Listing) where
   run s [] = Fine
   run s (e ∷ es) = orElse (test s e) (run (next s e) es)
 
-  unfoldable pub walk : Parts → Found
+  unfoldable pub walk : Inside → Found
   walk m = run before (events m [])
 
   -- the items: a group's at its opening tag, a leaf's at its closing tag
@@ -129,7 +129,7 @@ module _ (T : Speller) (l : Listing) where
   abbrev pub closes : Kind → ℕ → Attrs → List ℕ → List (ℕ × Option (T .A))
   closes group r ats cs = []
   closes choice r ats cs = []
-  closes (leaf k) r ats cs = (r, T .spell k (currency ats) cs) ∷ []
+  closes (leaf k) r ats cs = (r, T .spell k (currencyGiven ats) cs) ∷ []
 
   abbrev pub emit : State → Event → List (ℕ × Option (T .A))
   emit before (enter o n ats) = (1, Option.none) ∷ []

@@ -9,7 +9,7 @@ use Rattle.text.specs.Bytes.{ascii}
 use Rattle.text.specs.Numbers.{bigEndian}
 use Rattle.list.specs.Listing.{Listing}
 use Rattle.image.specs.Image.{versioned, header}
-use Rattle.image.specs.Place.{Front, now, Among, Apart}
+use Rattle.image.specs.Place.{Front, current, Among, Apart}
 use Rattle.image.proofs.content.Prefix.{cancel}
 
 pub versioned-is : versioned 1 ≡ 75 ∷ 84 ∷ 79 ∷ 0 ∷ 1 ∷ []
@@ -25,7 +25,7 @@ header-length l = ap length (header-is l ∙ versioned-is)
 
 -- a run that begins so has five bytes, is named and of a version
 front-is : (l : Listing) (h : List ℕ) → Front l h → h ≡ versioned 1
-front-is l h (now e) = e ∙ header-is l
+front-is l h (current e) = e ∙ header-is l
 
 module _ (l : Listing) (h : List ℕ) (f : Front l h) where
   pub front-long : 5 ≤ length h

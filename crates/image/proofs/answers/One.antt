@@ -17,9 +17,9 @@ use Rattle.list.specs.Words.{times}
 use Rattle.list.specs.Listing.{Leaf, Listing, isGroup}
 use Rattle.list.specs.WellFormed.{WellFormed}
 use Rattle.list.specs.Content.{Content, Meets}
-use Rattle.image.specs.Image.{Values, Lawful, Item, versioned, header, bytes, body, image}
-use Rattle.image.specs.Place.{Holds, Breaks, Front, now, Among, Apart, Accepts, Reads, over, foreign, version, broken, whole}
-use Rattle.image.specs.Pick.{rowsOf, Picked, Missing, Picks, refused, missing, found, Answers, Hands}
+use Rattle.image.specs.Image.{Values, Lawful, Item, versioned, header, itemsBytes, body, image}
+use Rattle.image.specs.Place.{Holds, Breaks, Front, current, Among, Apart, Accepts, Reads, over, foreign, version, broken, wholeImage}
+use Rattle.image.specs.Pick.{rowsOf, Picked, Missing, Picks, refused, missing, found, PickAnswers, Hands}
 use Rattle.image.proofs.content.Rows.{less, same, clash}
 use Rattle.image.proofs.content.Prefix.{body-prefix}
 use Rattle.image.proofs.content.Stops.{breaks-one}
@@ -65,7 +65,7 @@ module _ (vs : Values) (l : Listing) where
   picked-one from c r n p q s t a b =
       let o = nth-one r (a .before) (b .before) (a .behind) (b .behind) (a .value) (b .value) (a .nth ∙ sym (b .nth)) (sym (a .at) ∙ b .at) in
       let k : a .type ≡ b .type = cc (a .kind, b .kind) in (
-        a .starts ∙ ap₂ (λ (z : List (Item vs)) (m : Leaf). from + length (bytes vs l z) + 1 + vs .head m) (o .0) k ∙ sym (b .starts),
+        a .starts ∙ ap₂ (λ (z : List (Item vs)) (m : Leaf). from + length (itemsBytes vs l z) + 1 + vs .head m) (o .0) k ∙ sym (b .starts),
         a .holds ∙ ap₂ (λ (z : vs .Value) (m : Leaf). drop (vs .head m) (vs .bytes m z)) (o .1) k ∙ sym (b .holds),
       )
 
@@ -95,7 +95,7 @@ module _ (vs : Values) (ls : List Listing) where
     list = l;
     among = i;
     head = header l;
-    front = now refl;
+    front = current refl;
     behind = body vs l c ++ u;
     at = append-assoc (header l) (body vs l c) u;
     size = length (body vs l c);
@@ -109,7 +109,7 @@ module _ (vs : Values) (ls : List Listing) where
   accepting run a (foreign h x e) z = absurd (omega (arith, ap (λ (x : Answer). x .code) e))
   accepting run a (version h x y w e) z = absurd (omega (arith, ap (λ (x : Answer). x .code) e))
   accepting run a (broken h l i p q s x n y e) z = absurd (omega (arith, ap (λ (x : Answer). x .code) e))
-  accepting run a (whole h n w e) z = (h, subst (Accepts vs ls run) (sym (ap (λ (x : Answer). x .place) e)) w)
+  accepting run a (wholeImage h n w e) z = (h, subst (Accepts vs ls run) (sym (ap (λ (x : Answer). x .place) e)) w)
 
   module _ (run : List ℕ) (n : ℕ) (a : Accepts vs ls run n) where
     -- the first image's bytes
@@ -141,7 +141,7 @@ module _ (vs : Values) (ls : List Listing) where
 
     -- within the limit, bytes after the first image do not matter
     pub rest-is-free : (u : List ℕ) → length (take n run ++ u) ≤ limit → Reads vs ls (take n run ++ u) (accepted n)
-    rest-is-free u h = whole h n (any-rest u) refl
+    rest-is-free u h = wholeImage h n (any-rest u) refl
 
   module _ (lw : Lawful vs) (wf : (l : Listing) → Among l ls → WellFormed l) (apart : Apart ls) where
     same-holds : (l m : Listing) → Among l ls → l ≡ m → (s t : List ℕ) → s ≡ t → (j k : ℕ) (a : Holds vs l s j) (b : Holds vs m t k) → (a .content ≡ b .content) × (j ≡ k)
@@ -189,17 +189,17 @@ module _ (vs : Values) (ls : List Listing) where
     reads-one run a b (over h e) (foreign i x f) = absurd (omega arith)
     reads-one run a b (over h e) (version i x y z f) = absurd (omega arith)
     reads-one run a b (over h e) (broken i l k p q s x n y f) = absurd (omega arith)
-    reads-one run a b (over h e) (whole i n x f) = absurd (omega arith)
+    reads-one run a b (over h e) (wholeImage i n x f) = absurd (omega arith)
     reads-one run a b (foreign i x e) (over g f) = absurd (omega arith)
     reads-one run a b (foreign i x e) (foreign j y f) = e ∙ sym f
     reads-one run a b (foreign i x e) (version j y z u f) = absurd (foreign-not run x y z)
     reads-one run a b (foreign i x e) (broken j l k p q s y n z f) = absurd (not-headed run l p s q y x)
-    reads-one run a b (foreign i x e) (whole j n y f) = absurd (not-headed run (y .list) (y .head) (y .behind) (y .front) (y .at) x)
+    reads-one run a b (foreign i x e) (wholeImage j n y f) = absurd (not-headed run (y .list) (y .head) (y .behind) (y .front) (y .at) x)
     reads-one run a b (version i x y z e) (over g f) = absurd (omega arith)
     reads-one run a b (version i x y z e) (foreign j u f) = absurd (foreign-not run u x y)
     reads-one run a b (version i x y z e) (version j u v t f) = e ∙ sym f
     reads-one run a b (version i x y z e) (broken j l k p q s u n v f) = absurd (not-version run l p s q u z)
-    reads-one run a b (version i x y z e) (whole j n u f) = absurd (not-version run (u .list) (u .head) (u .behind) (u .front) (u .at) z)
+    reads-one run a b (version i x y z e) (wholeImage j n u f) = absurd (not-version run (u .list) (u .head) (u .behind) (u .front) (u .at) z)
     reads-one run a b (broken i l k h q s x n y e) (over g f) = absurd (omega arith)
     reads-one run a b (broken i l k h q s x n y e) (foreign j u f) = absurd (not-headed run l h s q x u)
     reads-one run a b (broken i l k h q s x n y e) (version j u v t f) = absurd (not-version run l h s q x t)
@@ -207,22 +207,22 @@ module _ (vs : Values) (ls : List Listing) where
         let o = apart .one l l′ k k′ h h′ s s′ q q′ (sym x ∙ x′) in
         let z : n ≡ n′ = same-breaks l l′ k (o .0) s s′ (o .2) n n′ y y′ in
         e ∙ ap₂ (λ (g : List ℕ) (m : ℕ). brokenImage (length g + m)) (o .1) z ∙ sym f
-    reads-one run a b (broken i l k h q s x n y e) (whole j m u f) = absurd (unbroken run l k h q s x n y m u)
-    reads-one run a b (whole i n x e) (over g f) = absurd (omega arith)
-    reads-one run a b (whole i n x e) (foreign j y f) = absurd (not-headed run (x .list) (x .head) (x .behind) (x .front) (x .at) y)
-    reads-one run a b (whole i n x e) (version j y z u f) = absurd (not-version run (x .list) (x .head) (x .behind) (x .front) (x .at) u)
-    reads-one run a b (whole i n x e) (broken j l k h q s y m z f) = absurd (unbroken run l k h q s y m z n x)
-    reads-one run a b (whole i n x e) (whole j m y f) = e ∙ ap accepted (accepts-one run n m x y) ∙ sym f
+    reads-one run a b (broken i l k h q s x n y e) (wholeImage j m u f) = absurd (unbroken run l k h q s x n y m u)
+    reads-one run a b (wholeImage i n x e) (over g f) = absurd (omega arith)
+    reads-one run a b (wholeImage i n x e) (foreign j y f) = absurd (not-headed run (x .list) (x .head) (x .behind) (x .front) (x .at) y)
+    reads-one run a b (wholeImage i n x e) (version j y z u f) = absurd (not-version run (x .list) (x .head) (x .behind) (x .front) (x .at) u)
+    reads-one run a b (wholeImage i n x e) (broken j l k h q s y m z f) = absurd (unbroken run l k h q s y m z n x)
+    reads-one run a b (wholeImage i n x e) (wholeImage j m y f) = e ∙ ap accepted (accepts-one run n m x y) ∙ sym f
 
     -- demand 2, of the reader: it accepts with n exactly where the run is within the limit and begins with the image, n bytes long, of a content that meets its list
     pub reads-exactly : (run : List ℕ) (a : Answer) → Reads vs ls run a → (n : ℕ) → ((a .code ≡ 0) × (a .place ≡ n)) ↔ ((length run ≤ limit) × Accepts vs ls run n)
     reads-exactly run a r n = (
       (λ z. let w = accepting run a r (z .0) in (w .0, subst (Accepts vs ls run) (z .1) (w .1))),
-      (λ w. let e = reads-one run a (accepted n) r (whole (w .0) n (w .1) refl) in (ap (λ (x : Answer). x .code) e, ap (λ (x : Answer). x .place) e)),
+      (λ w. let e = reads-one run a (accepted n) r (wholeImage (w .0) n (w .1) refl) in (ap (λ (x : Answer). x .code) e, ap (λ (x : Answer). x .place) e)),
     )
 
     not-refused : (run : List ℕ) (a : Answer) (k : ℕ) → Reads vs ls run a → a .code ≢ 0 → length run ≤ limit → Accepts vs ls run k → ⊥
-    not-refused run a k r n h w = n (ap (λ (z : Answer). z .code) (reads-one run a (accepted k) r (whole h k w refl)))
+    not-refused run a k r n h w = n (ap (λ (z : Answer). z .code) (reads-one run a (accepted k) r (wholeImage h k w refl)))
 
     same-missing : (run : List ℕ) (k k′ : ℕ) (w : Accepts vs ls run k) (w′ : Accepts vs ls run k′) (r n : ℕ) → Missing vs (w .list) (w .holds .content) r n → Missing vs (w′ .list) (w′ .holds .content) r n
     same-missing run k k′ w w′ r n u =
@@ -252,7 +252,7 @@ module _ (vs : Values) (ls : List Listing) where
         let o = picked-one vs (w′ .list) (length (w′ .head)) (w′ .holds .content) r n p p′ s t (same-picked run k k′ w w′ r n p s u) u′ in
         (e ∙ ap (picked r) (o .0) ∙ sym e′, o .1)
 
-    pub answers-one : (run : List ℕ) (r n : ℕ) (a b : Answer) → Answers vs ls run r n a → Answers vs ls run r n b → a ≡ b
+    pub answers-one : (run : List ℕ) (r n : ℕ) (a b : Answer) → PickAnswers vs ls run r n a → PickAnswers vs ls run r n b → a ≡ b
     answers-one run r n a b x y = picks-one run r n a b (x .part) (y .part) (x .picks) (y .picks) .0
 
     pub hands-one : (run : List ℕ) (r n : ℕ) (s t : List ℕ) → Hands vs ls run r n s → Hands vs ls run r n t → s ≡ t

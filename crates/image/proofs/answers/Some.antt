@@ -15,7 +15,7 @@ use Rattle.answer.specs.Table.{picked, noSuchLeaf}
 use Rattle.list.specs.Listing.{Listing, rowAt, isGroup}
 use Rattle.list.specs.WellFormed.{WellFormed}
 use Rattle.list.specs.Content.{Content, items, Meets}
-use Rattle.image.specs.Image.{Values, Lawful, Item, bytes}
+use Rattle.image.specs.Image.{Values, Lawful, Item, itemsBytes}
 use Rattle.image.specs.Place.{Among, Reads}
 use Rattle.image.specs.Pick.{Selects, none-such, one-such, Picks, refused, missing, found}
 use Rattle.image.specs.mirror.Follow.{ItemOk}
@@ -71,7 +71,7 @@ module _ (vs : Values) (l : Listing) where
               let o = nth-some r n (items c) g in
               let is = whole-oks vs lw l wf (items c) (content-whole vs lw l wf c m) in
               let v = leaf-value vs l (rowAt l r .kind) (o .value) (ok-at (o .before) (r, o .value) (o .behind) (subst (Oks vs lw l wf) (o .at) is)) e in
-              let place = from + length (bytes vs l (o .before)) + 1 + vs .head (v .0) in
+              let place = from + length (itemsBytes vs l (o .before)) + 1 + vs .head (v .0) in
               record {
                 answer = picked r place;
                 part = drop (vs .head (v .0)) (vs .bytes (v .0) (v .2 .0));

@@ -12,7 +12,7 @@ use Rattle.answer.specs.declared.Answer.{Answer}
 use Rattle.text.proofs.Parts.{part-take}
 use Rattle.list.specs.Listing.{Listing}
 use Rattle.list.specs.Content.{items}
-use Rattle.image.specs.Image.{Values, Item, valueBytes, itemBytes, bytes}
+use Rattle.image.specs.Image.{Values, Item, valueBytes, itemBytes, itemsBytes}
 use Rattle.image.specs.Place.{Accepts}
 use Rattle.image.specs.Pick.{Picked, Picks, refused, missing, found}
 
@@ -33,19 +33,19 @@ module _ (vs : Values) (ls : List Listing) (run : List ℕ) where
     cut = vs .head (g .type)
 
     abbrev before : List ℕ
-    before = bytes vs (w .list) (g .before)
+    before = itemsBytes vs (w .list) (g .before)
 
     abbrev behind : List ℕ
-    behind = bytes vs (w .list) (g .behind)
+    behind = itemsBytes vs (w .list) (g .behind)
 
-    bytes-append : (a b : List (Item vs)) → bytes vs (w .list) (a ++ b) ≡ bytes vs (w .list) a ++ bytes vs (w .list) b
+    bytes-append : (a b : List (Item vs)) → itemsBytes vs (w .list) (a ++ b) ≡ itemsBytes vs (w .list) a ++ itemsBytes vs (w .list) b
     bytes-append [] b = refl
     bytes-append (i ∷ a) b =
-        ap (λ (z : List ℕ). itemBytes vs (w .list) i ++ z) (bytes-append a b) ∙ sym (append-assoc (itemBytes vs (w .list) i) (bytes vs (w .list) a) (bytes vs (w .list) b))
+        ap (λ (z : List ℕ). itemBytes vs (w .list) i ++ z) (bytes-append a b) ∙ sym (append-assoc (itemBytes vs (w .list) i) (itemsBytes vs (w .list) a) (itemsBytes vs (w .list) b))
 
-    items-are : bytes vs (w .list) (items (w .holds .content)) ≡ before ++ (r ∷ (value ++ behind))
+    items-are : itemsBytes vs (w .list) (items (w .holds .content)) ≡ before ++ (r ∷ (value ++ behind))
     items-are =
-        ap (bytes vs (w .list)) (g .at) ∙ bytes-append (g .before) ((r, some (g .value)) ∷ g .behind)
+        ap (itemsBytes vs (w .list)) (g .at) ∙ bytes-append (g .before) ((r, some (g .value)) ∷ g .behind)
         ∙ ap (λ z. before ++ (r ∷ (valueBytes vs (w .list) z (some (g .value)) ++ behind))) (g .kind)
 
     abbrev rest : List ℕ

@@ -9,7 +9,7 @@ use Rattle.list.specs.Listing.{group, leaf, Listing, size, rowAt}
 use Rattle.list.specs.WellFormed.{WellFormed}
 use Rattle.list.specs.Content.{Content, end, value, node, rows, items, Good, Meets}
 use Rattle.image.specs.Image.{Values, Lawful, Item}
-use Rattle.image.specs.Place.{Begins}
+use Rattle.image.specs.Place.{BeginsContent}
 use Rattle.image.specs.mirror.Follow.{Simple, Compound, Over, top, Trail, Trace, lastRow, Whole}
 use Rattle.image.proofs.content.Rows.{clash, is-group, value-is, next-in, Well, well}
 use Rattle.image.proofs.content.Derive.{After, Rest, root, more, Takes, after, inside, fwd, back, rest-over, over-rest}
@@ -95,7 +95,7 @@ module _ (vs : Values) (lw : Lawful vs) (l : Listing) (wf : WellFormed l) where
   last-in (i ∷ is) q a b h = let n = next-in l (h .0) in last-in is (i .0) (n .0) (n .1) (h .2)
 
   -- (c) the items that begin some content
-  pub begins-trace : (is : List (Item vs)) → Begins vs l is → Trace vs l is
+  pub begins-trace : (is : List (Item vs)) → BeginsContent vs l is → Trace vs l is
   begins-trace [] b = tt
   begins-trace (i ∷ is) b =
       let r = rooted (b .content) (b .meets) in
@@ -103,18 +103,18 @@ module _ (vs : Values) (lw : Lawful vs) (l : Listing) (wf : WellFormed l) where
       let k : Takes vs l 1 (is ++ b .rest) = subst (Takes vs l 1) (sym (tail-eq-of-cons-eq e)) (r .takes) in
       (head-eq-of-cons-eq e, trail-of is 1 (b .rest) (omega arith) (w .rows) k .0)
 
-  begun : (is t : List (Item vs)) → Takes vs l 1 (is ++ t) → Begins vs l ((1, none) ∷ is)
+  begun : (is t : List (Item vs)) → Takes vs l 1 (is ++ t) → BeginsContent vs l ((1, none) ∷ is)
   begun is t k = let m = unrooted (is ++ t) k in record { content = m .content; meets = m .meets; rest = t; at = m .is }
 
-  root-begins : (is : List (Item vs)) → Trail vs l 1 is → Begins vs l ((1, none) ∷ is)
+  root-begins : (is : List (Item vs)) → Trail vs l 1 is → BeginsContent vs l ((1, none) ∷ is)
   root-begins is h =
       let n = last-in is 1 (omega arith) (w .rows) h in
       let v = live vs lw l w (lastRow vs l 1 is) (n .0) (n .1) in
       begun is (v .0) (of-trail is 1 (v .0) (omega arith) (w .rows) h (v .1))
 
-  pub trace-begins : (is : List (Item vs)) → Trace vs l is → Begins vs l is
+  pub trace-begins : (is : List (Item vs)) → Trace vs l is → BeginsContent vs l is
   trace-begins [] h = let b = root-begins [] tt in record { content = b .content; meets = b .meets; rest = (1, none) ∷ b .rest; at = b .at }
-  trace-begins (i ∷ is) h = subst (λ (z : Item vs). Begins vs l (z ∷ is)) (sym (h .0)) (root-begins is (h .1))
+  trace-begins (i ∷ is) h = subst (λ (z : Item vs). BeginsContent vs l (z ∷ is)) (sym (h .0)) (root-begins is (h .1))
 
   -- (b) the items of a whole content
   takes-nil : {q : ℕ} {t : List (Item vs)} → q ≤ size l → Takes vs l q t → t ≡ [] → (Simple l q) × Over l q

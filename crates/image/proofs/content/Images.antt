@@ -10,7 +10,7 @@ use Rattle.text.specs.Lists.{Each}
 use Rattle.list.specs.Listing.{Listing}
 use Rattle.list.specs.WellFormed.{WellFormed}
 use Rattle.list.specs.Content.{Content, items, Meets}
-use Rattle.image.specs.Image.{Values, Lawful, header, bytes, body, image, images}
+use Rattle.image.specs.Image.{Values, Lawful, header, itemsBytes, body, image, images}
 use Rattle.image.proofs.content.Prefix.{image-prefix}
 use Rattle.image.proofs.answers.Heads.{header-length}
 
@@ -19,7 +19,7 @@ module _ (vs : Values) (l : Listing) where
   pub image-long : (c : Content (vs .Value)) → 5 < length (image vs l c)
   unfolding image
   image-long c =
-      omega (arith, length-append (header l) (body vs l c), length-append (bytes vs l (items c)) (0 ∷ []), header-length l)
+      omega (arith, length-append (header l) (body vs l c), length-append (itemsBytes vs l (items c)) (0 ∷ []), header-length l)
 
   module _ (lw : Lawful vs) (wf : WellFormed l) where
     -- the one lemma: where the image of a followed by u is the image of b followed by v, a is b and u is v

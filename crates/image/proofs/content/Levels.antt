@@ -11,9 +11,9 @@ use borrow.Author.Tests.{eq-eqb, eqb-true}
 use Rattle.text.proofs.Classes.{and-is, or-is, or-not}
 use Rattle.text.specs.Lists.{Each}
 use Rattle.list.specs.Words.{times, Ordered}
-use Rattle.list.specs.Listing.{choice, Count, one, optional, some, any, alternative, Rule, both, Listing, size, Child, required}
+use Rattle.list.specs.Listing.{choice, Count, one, optional, several, any, alternative, Rule, both, Listing, size, Child, required}
 use Rattle.list.specs.WellFormed.{RuleOk, WellFormed}
-use Rattle.list.specs.Content.{Counts, Keeps, Children}
+use Rattle.list.specs.Content.{CountOk, Keeps, Children}
 use Rattle.image.specs.mirror.Follow.{repeats, parentOf, countOf, kindOf, paired, ruled, due, Clear, Fits, Shut}
 use Rattle.list.proofs.rows.Words.{times-hit, times-miss}
 use Rattle.image.proofs.content.Rows.{Cmp, less, same, more, cmp, or-left, or-right, Well, well}
@@ -29,7 +29,7 @@ pub record Level (l : Listing) (p : ℕ) (rs : List ℕ) : Type 0 where
   pub order : Rising 0 rs
   pub some : 0 < length rs
   pub one : kindOf l p ≡ choice → length rs ≡ 1
-  pub counts : (s : ℕ) → Child l p s → Counts (countOf l s) (times s rs)
+  pub counts : (s : ℕ) → Child l p s → CountOk (countOf l s) (times s rs)
   pub rules : (a b : ℕ) → ruled l a b ≡ true → Child l p a → (0 < times a rs) ↔ (0 < times b rs)
 
 -- what is below all is not there
@@ -38,38 +38,38 @@ low s q [] o h = refl
 low s q (r ∷ rs) o h = times-miss s r rs (λ e. omega arith) ∙ low s r rs (o .1) (omega arith)
 
 -- counts
-within-none : (k : Count) → required k ≡ false → Counts k 0
+within-none : (k : Count) → required k ≡ false → CountOk k 0
 within-none one e = absurd (true≢false e)
 within-none optional e = omega arith
-within-none some e = absurd (true≢false e)
+within-none several e = absurd (true≢false e)
 within-none any e = tt
 within-none alternative e = omega arith
 
-none-required : (k : Count) → Counts k 0 → required k ≡ false
+none-required : (k : Count) → CountOk k 0 → required k ≡ false
 none-required one h = absurd (omega arith)
 none-required optional h = refl
-none-required some h = absurd (omega arith)
+none-required several h = absurd (omega arith)
 none-required any h = refl
 none-required alternative h = refl
 
-within-repeats : (k : Count) (n : ℕ) → repeats k ≡ true → Counts k (suc n)
+within-repeats : (k : Count) (n : ℕ) → repeats k ≡ true → CountOk k (suc n)
 within-repeats one n e = absurd (false≢true e)
 within-repeats optional n e = absurd (false≢true e)
-within-repeats some n e = omega arith
+within-repeats several n e = omega arith
 within-repeats any n e = tt
 within-repeats alternative n e = absurd (false≢true e)
 
-within-one : (k : Count) → Counts k 1
+within-one : (k : Count) → CountOk k 1
 within-one one = refl
 within-one optional = omega arith
-within-one some = omega arith
+within-one several = omega arith
 within-one any = tt
 within-one alternative = omega arith
 
-repeats-or : (k : Count) (n : ℕ) → Counts k (suc n) → (repeats k ≡ true) ⊎ (n ≡ 0)
+repeats-or : (k : Count) (n : ℕ) → CountOk k (suc n) → (repeats k ≡ true) ⊎ (n ≡ 0)
 repeats-or one n h = inr (omega arith)
 repeats-or optional n h = inr (omega arith)
-repeats-or some n h = inl refl
+repeats-or several n h = inl refl
 repeats-or any n h = inl refl
 repeats-or alternative n h = inr (omega arith)
 
@@ -88,7 +88,7 @@ module _ (l : Listing) where
     pub order : Rising q rs
     pub some : (0 < q) ⊎ (0 < length rs)
     pub one : kindOf l p ≡ choice → (q ≡ 0 → length rs ≡ 1) × (0 < q → length rs ≡ 0)
-    pub counts : (s : ℕ) → Child l p s → q < s → Counts (countOf l s) (times s rs)
+    pub counts : (s : ℕ) → Child l p s → q < s → CountOk (countOf l s) (times s rs)
     pub again : (repeats (countOf l q) ≡ true) ⊎ (times q rs ≡ 0)
     pub rules : (a b : ℕ) → ruled l a b ≡ true → Child l p a → q < a → (0 < times a rs) ↔ (0 < times b rs)
     pub owed : (b : ℕ) → ruled l q b ≡ true → 0 < times b rs
@@ -130,18 +130,18 @@ module _ (l : Listing) where
         let z = c .0 .first k in (λ e. omega arith, λ h. absurd (omega arith))
 
     count-on : (p q r : ℕ) (rs : List ℕ) → Fits l p q r → Chain p r rs → (s : ℕ) → Child l p s → q < s
-        → (r < s → Counts (countOf l s) (times s rs)) → Cmp s r → Counts (countOf l s) (times s (r ∷ rs))
+        → (r < s → CountOk (countOf l s) (times s rs)) → Cmp s r → CountOk (countOf l s) (times s (r ∷ rs))
     count-on p q r rs f c s cs h rec (less g) =
         rw (times-miss s r rs (λ e. omega arith), low s r rs (chain-order p r rs c) g) (within-none (countOf l s) (required-not q s (f .clear s cs h g)))
     count-on p q r rs f c s cs h rec (same e) =
-        rw (times-hit s r rs (sym e)) (subst (λ (z : ℕ). Counts (countOf l z) (suc (times z rs))) (sym e) (again (chain-again p r rs c)))
+        rw (times-hit s r rs (sym e)) (subst (λ (z : ℕ). CountOk (countOf l z) (suc (times z rs))) (sym e) (again (chain-again p r rs c)))
       where
-        again : (repeats (countOf l r) ≡ true) ⊎ (times r rs ≡ 0) → Counts (countOf l r) (suc (times r rs))
+        again : (repeats (countOf l r) ≡ true) ⊎ (times r rs ≡ 0) → CountOk (countOf l r) (suc (times r rs))
         again (inl o) = within-repeats (countOf l r) (times r rs) o
         again (inr z) = rw z (within-one (countOf l r))
     count-on p q r rs f c s cs h rec (more g) = rw (times-miss s r rs (λ e. omega arith)) (rec g)
 
-    chain-counts : (p q : ℕ) (rs : List ℕ) → Chain p q rs → (s : ℕ) → Child l p s → q < s → Counts (countOf l s) (times s rs)
+    chain-counts : (p q : ℕ) (rs : List ℕ) → Chain p q rs → (s : ℕ) → Child l p s → q < s → CountOk (countOf l s) (times s rs)
     chain-counts p q [] c s cs h = within-none (countOf l s) (required-not q s (c .clear s cs h (omega (arith, cs .last))))
     chain-counts p q (r ∷ rs) c s cs h = count-on p q r rs (c .0) (c .1) s cs h (λ g. chain-counts p r rs (c .1) s cs g) (cmp s r)
 

@@ -9,7 +9,7 @@ use lib.ListN.{length}
 use Rattle.list.specs.Listing.{Kind, group, choice, leaf, Listing, rowAt, Child}
 use Rattle.list.specs.WellFormed.{KindOk, WellFormed}
 use Rattle.list.specs.Content.{Content, end, value, node, rows, items, Meets}
-use Rattle.image.specs.Image.{Values, Lawful, Item, header, valueBytes, itemBytes, bytes, body, image}
+use Rattle.image.specs.Image.{Values, Lawful, Item, header, valueBytes, itemBytes, itemsBytes, body, image}
 use Rattle.image.specs.mirror.Follow.{parentOf, Compound, OfKind, ItemOk, Trail, Whole}
 use Rattle.image.proofs.content.Rows.{clash, is-group, value-is, next-in, well}
 use Rattle.image.proofs.content.Derive.{After, above}
@@ -61,22 +61,22 @@ module _ (vs : Values) (lw : Lawful vs) (l : Listing) (wf : WellFormed l) where
       let z = value-cut (i .0) (j .0) (i .1) (j .1) (a ++ u) (b ++ v) r oi oj t in
       (ap₂ (λ (m : ℕ) (n : Option (vs .Value)). (m, n)) r (z .0), z .1)
 
-  pub bytes-whole : (is js : List (Item vs)) (u v : List ℕ) → Oks is → Oks js → bytes vs l is ++ (0 ∷ u) ≡ bytes vs l js ++ (0 ∷ v) → (is ≡ js) × (u ≡ v)
+  pub bytes-whole : (is js : List (Item vs)) (u v : List ℕ) → Oks is → Oks js → itemsBytes vs l is ++ (0 ∷ u) ≡ itemsBytes vs l js ++ (0 ∷ v) → (is ≡ js) × (u ≡ v)
   bytes-whole [] [] u v a b e = (refl, tail-eq-of-cons-eq e)
   bytes-whole [] (j ∷ js) u v a b e = absurd (omega (arith, head-eq-of-cons-eq e, b .0))
   bytes-whole (i ∷ is) [] u v a b e = absurd (omega (arith, head-eq-of-cons-eq e, a .0))
   bytes-whole (i ∷ is) (j ∷ js) u v a b e =
-      let z = item-cut i j (bytes vs l is) (bytes vs l js) (0 ∷ u) (0 ∷ v) (a .1) (b .1) e in
+      let z = item-cut i j (itemsBytes vs l is) (itemsBytes vs l js) (0 ∷ u) (0 ∷ v) (a .1) (b .1) e in
       let r = bytes-whole is js u v (a .2) (b .2) (z .1) in
       (ap₂ _∷_ (z .0) (r .0), r .1)
 
   -- the fewer items are the first of the more
-  pub bytes-first : (is js : List (Item vs)) (u v : List ℕ) → Oks is → Oks js → length is ≤ length js → bytes vs l is ++ u ≡ bytes vs l js ++ v
-      → (ks : List (Item vs)) × (js ≡ is ++ ks) × (u ≡ bytes vs l ks ++ v)
+  pub bytes-first : (is js : List (Item vs)) (u v : List ℕ) → Oks is → Oks js → length is ≤ length js → itemsBytes vs l is ++ u ≡ itemsBytes vs l js ++ v
+      → (ks : List (Item vs)) × (js ≡ is ++ ks) × (u ≡ itemsBytes vs l ks ++ v)
   bytes-first [] js u v a b h e = (js, refl, e)
   bytes-first (i ∷ is) [] u v a b h e = absurd (omega arith)
   bytes-first (i ∷ is) (j ∷ js) u v a b h e =
-      let z = item-cut i j (bytes vs l is) (bytes vs l js) u v (a .1) (b .1) e in
+      let z = item-cut i j (itemsBytes vs l is) (itemsBytes vs l js) u v (a .1) (b .1) e in
       let r = bytes-first is js u v (a .2) (b .2) (omega arith) (z .1) in
       (r .0, ap₂ _∷_ (sym (z .0)) (r .1), r .2)
 
@@ -145,8 +145,8 @@ module _ (vs : Values) (lw : Lawful vs) (l : Listing) (wf : WellFormed l) where
   -- bodies that begin one run are equal, and so are their contents
   pub body-prefix : (a b : Content (vs .Value)) (u v : List ℕ) → Meets (vs .Is) l a → Meets (vs .Is) l b → body vs l a ++ u ≡ body vs l b ++ v → (a ≡ b) × (u ≡ v)
   body-prefix a b u v ma mb e =
-      let x = bytes vs l (items a) in
-      let y = bytes vs l (items b) in
+      let x = itemsBytes vs l (items a) in
+      let y = itemsBytes vs l (items b) in
       let t : x ++ (0 ∷ u) ≡ y ++ (0 ∷ v) = sym (append-assoc x (0 ∷ []) u) ∙ e ∙ append-assoc y (0 ∷ []) v in
       let z = bytes-whole (items a) (items b) u v (whole-oks (items a) (content-whole vs lw l wf a ma)) (whole-oks (items b) (content-whole vs lw l wf b mb)) t in
       (items-tell a b ma mb (z .0), z .1)

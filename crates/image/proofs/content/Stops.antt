@@ -9,8 +9,8 @@ use lib.ListN.{length, length-append}
 use Rattle.list.specs.Listing.{Listing, rowAt}
 use Rattle.list.specs.WellFormed.{WellFormed}
 use Rattle.list.specs.Content.{Content, items}
-use Rattle.image.specs.Image.{Values, Lawful, Item, valueBytes, bytes, body}
-use Rattle.image.specs.Place.{Holds, Begins, Most, Breaks}
+use Rattle.image.specs.Image.{Values, Lawful, Item, valueBytes, itemsBytes, body}
+use Rattle.image.specs.Place.{Holds, BeginsContent, Most, Breaks}
 use Rattle.image.specs.mirror.Follow.{Simple, Next, Over, ItemOk, Trail, Trace, lastRow}
 use Rattle.image.specs.mirror.Reader.{Stuck, Open, Stops, Ends}
 use Rattle.image.proofs.content.Rows.{well}
@@ -19,7 +19,7 @@ use Rattle.image.proofs.content.Prefix.{Oks, trail-oks, root-oks, bytes
 
 module _ (vs : Values) (lw : Lawful vs) (l : Listing) (wf : WellFormed l) where
   -- the root's item is its row byte
-  root-bytes : (is : List (Item vs)) → bytes vs l ((1, none) ∷ is) ≡ 1 ∷ bytes vs l is
+  root-bytes : (is : List (Item vs)) → itemsBytes vs l ((1, none) ∷ is) ≡ 1 ∷ itemsBytes vs l is
   root-bytes is = rw (well l wf .top)
 
   -- the loop: one item on, or here
@@ -31,11 +31,11 @@ module _ (vs : Values) (lw : Lawful vs) (l : Listing) (wf : WellFormed l) where
   stops-on q x v s n h i r = record {
     whole = (x, v) ∷ r .whole;
     rest = r .rest;
-    at = item-is x (valueBytes vs l (rowAt l x .kind) v) s (bytes vs l (r .whole)) (r .rest) (r .at);
+    at = item-is x (valueBytes vs l (rowAt l x .kind) v) s (itemsBytes vs l (r .whole)) (r .rest) (r .at);
     trail = (h, i, r .trail);
     stuck = r .stuck;
     open′ = r .open′;
-    long = omega (arith, r .long, length-append (valueBytes vs l (rowAt l x .kind) v) (bytes vs l (r .whole)));
+    long = omega (arith, r .long, length-append (valueBytes vs l (rowAt l x .kind) v) (itemsBytes vs l (r .whole)));
   }
 
   pub stops-here : (q : ℕ) (s : List ℕ) → Stuck vs l q s → Open vs l q s → Stops vs l q s 0
@@ -46,11 +46,11 @@ module _ (vs : Values) (lw : Lawful vs) (l : Listing) (wf : WellFormed l) where
   ends-on q x v s n h i r = record {
     whole = (x, v) ∷ r .whole;
     rest = r .rest;
-    at = item-is x (valueBytes vs l (rowAt l x .kind) v) s (bytes vs l (r .whole)) (0 ∷ r .rest) (r .at);
+    at = item-is x (valueBytes vs l (rowAt l x .kind) v) s (itemsBytes vs l (r .whole)) (0 ∷ r .rest) (r .at);
     trail = (h, i, r .trail);
     leaf = r .leaf;
     over = r .over;
-    long = omega (arith, r .long, length-append (valueBytes vs l (rowAt l x .kind) v) (bytes vs l (r .whole)));
+    long = omega (arith, r .long, length-append (valueBytes vs l (rowAt l x .kind) v) (itemsBytes vs l (r .whole)));
   }
 
   pub ends-here : (q : ℕ) (u : List ℕ) → Simple l q → Over l q → Ends vs l q (0 ∷ u) 1
@@ -65,12 +65,12 @@ module _ (vs : Values) (lw : Lawful vs) (l : Listing) (wf : WellFormed l) where
   last-behind [] js q = refl
   last-behind (i ∷ is) js q = last-behind is js (i .0)
 
-  no-next : (q : ℕ) (rest u : List ℕ) (ks : List (Item vs)) → Stuck vs l q rest → Trail vs l q ks → rest ≡ bytes vs l ks ++ u → ks ≡ []
+  no-next : (q : ℕ) (rest u : List ℕ) (ks : List (Item vs)) → Stuck vs l q rest → Trail vs l q ks → rest ≡ itemsBytes vs l ks ++ u → ks ≡ []
   no-next q rest u [] h t e = refl
-  no-next q rest u (k ∷ ks) h t e = absurd (h (k .0) (k .1) (bytes vs l ks ++ u) (e ∙ ap (λ (z : List ℕ). k .0 ∷ z) (append-assoc (valueBytes vs l (rowAt l (k .0) .kind) (k .1)) (bytes vs l ks) u)) (t .0) (t .1))
+  no-next q rest u (k ∷ ks) h t e = absurd (h (k .0) (k .1) (itemsBytes vs l ks ++ u) (e ∙ ap (λ (z : List ℕ). k .0 ∷ z) (append-assoc (valueBytes vs l (rowAt l (k .0) .kind) (k .1)) (itemsBytes vs l ks) u)) (t .0) (t .1))
 
   -- no trail goes beyond where the reader stops
-  pub no-longer : (q : ℕ) (s : List ℕ) (n : ℕ) (r : Stops vs l q s n) (js : List (Item vs)) (u : List ℕ) → Trail vs l q js → s ≡ bytes vs l js ++ u → length js ≤ length (r .whole)
+  pub no-longer : (q : ℕ) (s : List ℕ) (n : ℕ) (r : Stops vs l q s n) (js : List (Item vs)) (u : List ℕ) → Trail vs l q js → s ≡ itemsBytes vs l js ++ u → length js ≤ length (r .whole)
   no-longer q s n r js u t e = go (decLt (length (r .whole)) (length js))
     where
       go : Dec (length (r .whole) < length js) → length js ≤ length (r .whole)
@@ -80,7 +80,7 @@ module _ (vs : Values) (lw : Lawful vs) (l : Listing) (wf : WellFormed l) where
           let z = no-next (lastRow vs l q (r .whole)) (r .rest) u (f .0) (r .stuck) (trail-behind (r .whole) (f .0) q (subst (Trail vs l q) (f .1) t)) (f .2) in
           omega (arith, ap length (f .1), length-append (r .whole) (f .0), ap length z)
 
-  zero-first : (ks : List (Item vs)) (u v : List ℕ) → Oks vs lw l wf ks → 0 ∷ u ≡ bytes vs l ks ++ v → ks ≡ []
+  zero-first : (ks : List (Item vs)) (u v : List ℕ) → Oks vs lw l wf ks → 0 ∷ u ≡ itemsBytes vs l ks ++ v → ks ≡ []
   zero-first [] u v o e = refl
   zero-first (k ∷ ks) u v o e = absurd (omega (arith, head-eq-of-cons-eq e, o .0))
 
@@ -94,18 +94,18 @@ module _ (vs : Values) (lw : Lawful vs) (l : Listing) (wf : WellFormed l) where
       (no-longer q s n r (d .whole) (0 ∷ d .rest) (d .trail) (d .at)) (sym (d .at) ∙ r .at) in
       let z : f .0 ≡ [] = zero-first (f .0) (d .rest) (r .rest) (oks-behind (d .whole) (f .0) (subst (Oks vs lw l wf) (f .1) (trail-oks vs lw l wf (r .whole) q (r .trail)))) (f .2) in
       let e : r .whole ≡ d .whole = f .1 ∙ ap (λ (k : List (Item vs)). d .whole ++ k) z ∙ append-nil (d .whole) in
-      let g : r .rest ≡ 0 ∷ d .rest = sym (f .2 ∙ ap (λ (k : List (Item vs)). bytes vs l k ++ r .rest) z) in
+      let g : r .rest ≡ 0 ∷ d .rest = sym (f .2 ∙ ap (λ (k : List (Item vs)). itemsBytes vs l k ++ r .rest) z) in
       r .open′ (d .rest) g (subst (λ (k : List (Item vs)). Simple l (lastRow vs l q k)) (sym e) (d .leaf)) (subst (λ (k : List (Item vs)). Over l (lastRow vs l q k)) (sym e) (d .over))
 
   -- from the root on
   pub holds : (s : List ℕ) (n : ℕ) → Ends vs l 1 s n → Holds vs l (1 ∷ s) (1 + n)
   holds s n d =
       let m = whole-content vs lw l wf ((1, none) ∷ d .whole) (record { inside = d .whole; is = refl; trail = d .trail; leaf = d .leaf; over = d .over }) in
-      let x = bytes vs l (items (m .content)) in
-      let root : bytes vs l ((1, none) ∷ d .whole) ≡ 1 ∷ bytes vs l (d .whole) = root-bytes (d .whole) in
+      let x = itemsBytes vs l (items (m .content)) in
+      let root : itemsBytes vs l ((1, none) ∷ d .whole) ≡ 1 ∷ itemsBytes vs l (d .whole) = root-bytes (d .whole) in
       let e : 1 ∷ s ≡ (x ++ (0 ∷ [])) ++ d .rest =
-      ap (λ (z : List ℕ). 1 ∷ z) (d .at) ∙ ap (λ (z : List ℕ). z ++ (0 ∷ d .rest)) (sym root) ∙ ap (λ (z : List (Item vs)). bytes vs l z ++ (0 ∷ d .rest)) (sym (m .is)) ∙ sym (append-assoc x (0 ∷ []) (d .rest)) in
-      let h : length x ≡ suc (length (bytes vs l (d .whole))) = ap (λ (z : List (Item vs)). length (bytes vs l z)) (m .is) ∙ ap length root in
+      ap (λ (z : List ℕ). 1 ∷ z) (d .at) ∙ ap (λ (z : List ℕ). z ++ (0 ∷ d .rest)) (sym root) ∙ ap (λ (z : List (Item vs)). itemsBytes vs l z ++ (0 ∷ d .rest)) (sym (m .is)) ∙ sym (append-assoc x (0 ∷ []) (d .rest)) in
+      let h : length x ≡ suc (length (itemsBytes vs l (d .whole))) = ap (λ (z : List (Item vs)). length (itemsBytes vs l z)) (m .is) ∙ ap length root in
       record {
         content = m .content;
         meets = m .meets;
@@ -118,16 +118,16 @@ module _ (vs : Values) (lw : Lawful vs) (l : Listing) (wf : WellFormed l) where
   body-behind : (s : List ℕ) (n : ℕ) → Holds vs l s n → (t : List ℕ) × (s ≡ 1 ∷ t) × ((m : ℕ) × Ends vs l 1 t m)
   body-behind s n a =
       let h = content-whole vs lw l wf (a .content) (a .meets) in
-      let x = bytes vs l (items (a .content)) in
-      let e : s ≡ 1 ∷ (bytes vs l (h .inside) ++ (0 ∷ a .rest)) =
-      a .at ∙ append-assoc x (0 ∷ []) (a .rest) ∙ ap (λ (z : List (Item vs)). bytes vs l z ++ (0 ∷ a .rest)) (h .is) ∙ ap (λ (z : List ℕ). z ++ (0 ∷ a .rest)) (root-bytes (h .inside)) in
-      (bytes vs l (h .inside) ++ (0 ∷ a .rest), e, (length (bytes vs l (h .inside)) + 1, record { whole = h .inside; rest = a .rest; at = refl; trail = h .trail; leaf = h .leaf; over = h .over; long = refl }))
+      let x = itemsBytes vs l (items (a .content)) in
+      let e : s ≡ 1 ∷ (itemsBytes vs l (h .inside) ++ (0 ∷ a .rest)) =
+      a .at ∙ append-assoc x (0 ∷ []) (a .rest) ∙ ap (λ (z : List (Item vs)). itemsBytes vs l z ++ (0 ∷ a .rest)) (h .is) ∙ ap (λ (z : List ℕ). z ++ (0 ∷ a .rest)) (root-bytes (h .inside)) in
+      (itemsBytes vs l (h .inside) ++ (0 ∷ a .rest), e, (length (itemsBytes vs l (h .inside)) + 1, record { whole = h .inside; rest = a .rest; at = refl; trail = h .trail; leaf = h .leaf; over = h .over; long = refl }))
 
-  most-root : (is : List (Item vs)) (s u : List ℕ) (n : ℕ) (r : Stops vs l 1 s n) → 1 ∷ s ≡ bytes vs l is ++ u → Begins vs l is → length is ≤ suc (length (r .whole))
+  most-root : (is : List (Item vs)) (s u : List ℕ) (n : ℕ) (r : Stops vs l 1 s n) → 1 ∷ s ≡ itemsBytes vs l is ++ u → BeginsContent vs l is → length is ≤ suc (length (r .whole))
   most-root [] s u n r e b = omega arith
   most-root (i ∷ is) s u n r e b =
       let t = begins-trace vs lw l wf (i ∷ is) b in
-      let f : 1 ∷ s ≡ 1 ∷ (bytes vs l is ++ u) = e ∙ ap (λ (z : Item vs). bytes vs l (z ∷ is) ++ u) (t .0) ∙ ap (λ (z : List ℕ). z ++ u) (root-bytes is) in
+      let f : 1 ∷ s ≡ 1 ∷ (itemsBytes vs l is ++ u) = e ∙ ap (λ (z : Item vs). itemsBytes vs l (z ∷ is) ++ u) (t .0) ∙ ap (λ (z : List ℕ). z ++ u) (root-bytes is) in
       let k = no-longer 1 s n r is u (t .1) (tail-eq-of-cons-eq f) in omega arith
 
   pub breaks : (s : List ℕ) (n : ℕ) → Stops vs l 1 s n → Breaks vs l (1 ∷ s) (1 + n)
@@ -144,9 +144,9 @@ module _ (vs : Values) (lw : Lawful vs) (l : Listing) (wf : WellFormed l) where
   }
 
   -- a run that does not go on with the root's row
-  no-root : (s : List ℕ) → ((t : List ℕ) → s ≡ 1 ∷ t → ⊥) → (is : List (Item vs)) (u : List ℕ) → s ≡ bytes vs l is ++ u → Trace vs l is → is ≡ []
+  no-root : (s : List ℕ) → ((t : List ℕ) → s ≡ 1 ∷ t → ⊥) → (is : List (Item vs)) (u : List ℕ) → s ≡ itemsBytes vs l is ++ u → Trace vs l is → is ≡ []
   no-root s h [] u e t = refl
-  no-root s h (i ∷ is) u e t = absurd (h (bytes vs l is ++ u) (e ∙ ap (λ (z : Item vs). bytes vs l (z ∷ is) ++ u) (t .0) ∙ ap (λ (z : List ℕ). z ++ u) (root-bytes is)))
+  no-root s h (i ∷ is) u e t = absurd (h (itemsBytes vs l is ++ u) (e ∙ ap (λ (z : Item vs). itemsBytes vs l (z ∷ is) ++ u) (t .0) ∙ ap (λ (z : List ℕ). z ++ u) (root-bytes is)))
 
   pub breaks-root : (s : List ℕ) → ((t : List ℕ) → s ≡ 1 ∷ t → ⊥) → Breaks vs l s 0
   breaks-root s h = record {
@@ -169,7 +169,7 @@ module _ (vs : Values) (lw : Lawful vs) (l : Listing) (wf : WellFormed l) where
       let f = bytes-first vs lw l wf (a .whole) (b .whole) (a .rest) (b .rest) (oks (a .whole) (a .begins)) (oks (b .whole) (b .begins)) j (sym (a .at) ∙ b .at) in
       let z : f .0 ≡ [] = none (f .0) (omega (arith, ap length (f .1), length-append (a .whole) (f .0))) in
       let e : b .whole ≡ a .whole = f .1 ∙ ap (λ (k : List (Item vs)). a .whole ++ k) z ∙ append-nil (a .whole) in
-      a .long ∙ ap (λ (k : List (Item vs)). length (bytes vs l k)) (sym e) ∙ sym (b .long)
+      a .long ∙ ap (λ (k : List (Item vs)). length (itemsBytes vs l k)) (sym e) ∙ sym (b .long)
     where
       none : (k : List (Item vs)) → length k ≡ 0 → k ≡ []
       none [] e = refl
@@ -179,7 +179,7 @@ module _ (vs : Values) (lw : Lawful vs) (l : Listing) (wf : WellFormed l) where
       trace-oks [] t = tt
       trace-oks (i ∷ is) t = subst (λ (z : Item vs). Oks vs lw l wf (z ∷ is)) (sym (t .0)) (root-oks vs lw l wf is (t .1))
 
-      oks : (is : List (Item vs)) → Begins vs l is → Oks vs lw l wf is
+      oks : (is : List (Item vs)) → BeginsContent vs l is → Oks vs lw l wf is
       oks is b = trace-oks is (begins-trace vs lw l wf is b)
 
   pub holds-content : (s : List ℕ) (m n : ℕ) (a : Holds vs l s m) (b : Holds vs l s n) → a .content ≡ b .content

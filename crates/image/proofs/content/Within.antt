@@ -6,7 +6,7 @@ use Prim.Native.Nat.{ℕ}
 use Rattle.list.specs.Listing.{Kind, group, choice, leaf, Listing, rowAt}
 use Rattle.list.specs.Content.{Content, items}
 use Rattle.list.specs.Within.{Within}
-use Rattle.image.specs.Image.{Values, Item, header, valueBytes, bytes, body, image}
+use Rattle.image.specs.Image.{Values, Item, header, valueBytes, itemsBytes, body, image}
 use Rattle.image.proofs.answers.Heads.{header-is}
 
 module _ (vs : Values) (l m : Listing) (w : Within l m) where
@@ -17,7 +17,7 @@ module _ (vs : Values) (l m : Listing) (w : Within l m) where
   value-same (leaf k) none = refl
   value-same (leaf k) (some v) = refl
 
-  bytes-within : (is : List (Item vs)) → bytes vs l is ≡ bytes vs m is
+  bytes-within : (is : List (Item vs)) → itemsBytes vs l is ≡ itemsBytes vs m is
   bytes-within [] = refl
   bytes-within (i ∷ is) =
       ap₂ (λ (x z : List ℕ). i .0 ∷ (x ++ z))

@@ -18,7 +18,7 @@ use Rattle.list.specs.Listing.{Leaf, Kind, group, choice, leaf, Row, Listing, s
 use Rattle.list.specs.WellFormed.{WellFormed}
 use Rattle.list.specs.Content.{Content, items, Meets}
 use Rattle.list.proofs.rows.Next.{row-past}
-use Rattle.image.specs.Image.{Values, Lawful, Item, valueBytes, itemBytes, bytes}
+use Rattle.image.specs.Image.{Values, Lawful, Item, valueBytes, itemBytes, itemsBytes}
 use Rattle.image.specs.Place.{Holds}
 use Rattle.image.specs.Pick.{Picked, Missing, Selects, none-such, one-such}
 use Rattle.image.specs.mirror.Follow.{OfKind, ItemOk, Trail}
@@ -125,7 +125,7 @@ module _ (t : List ℕ) (fin : ℕ → ℕ → ℕ) (s : List ℕ) where
         pub behind : List (Item vs)
         pub at : items c ≡ before ++ ((y, value) ∷ behind)
         pub nth : many vs l r before ≡ m
-        pub place : p ≡ from + length (bytes vs l before) + 1
+        pub place : p ≡ from + length (itemsBytes vs l before) + 1
         pub row : (0 < y) × (y ≤ size l)
         pub good : ItemOk vs l y value
         pub ends : fin y p ≡ p + length (vb y value)
@@ -137,14 +137,14 @@ module _ (t : List ℕ) (fin : ℕ → ℕ → ℕ) (s : List ℕ) where
       -- on the way: what is passed and what is to come
       record At (done todo : List (Item vs)) (n i : ℕ) : Type 0 where
         is : items c ≡ done ++ todo
-        place : i ≡ from + length (bytes vs l done)
-        here : drop i s ≡ bytes vs l todo ++ (0 ∷ rest)
+        place : i ≡ from + length (itemsBytes vs l done)
+        here : drop i s ≡ itemsBytes vs l todo ++ (0 ∷ rest)
         left : n + many vs l r done ≡ m
         goods : Goods todo
 
-      bytes-append : (a b : List (Item vs)) → bytes vs l (a ++ b) ≡ bytes vs l a ++ bytes vs l b
+      bytes-append : (a b : List (Item vs)) → itemsBytes vs l (a ++ b) ≡ itemsBytes vs l a ++ itemsBytes vs l b
       bytes-append [] b = refl
-      bytes-append (i ∷ a) b = ap (λ (z : List ℕ). itemBytes vs l i ++ z) (bytes-append a b) ∙ sym (append-assoc (itemBytes vs l i) (bytes vs l a) (bytes vs l b))
+      bytes-append (i ∷ a) b = ap (λ (z : List ℕ). itemBytes vs l i ++ z) (bytes-append a b) ∙ sym (append-assoc (itemBytes vs l i) (itemsBytes vs l a) (itemsBytes vs l b))
 
       -- an item at i
       record Item′ (x : ℕ) (v : Option (vs .Value)) (todo : List (Item vs)) (i j : ℕ) : Type 0 where
@@ -153,7 +153,7 @@ module _ (t : List ℕ) (fin : ℕ → ℕ → ℕ) (s : List ℕ) where
         some : j ≢ 0
         ends : j ≡ i + 1 + length (vb x v)
         value : drop (i + 1) s ≡ vb x v ++ drop j s
-        then : drop j s ≡ bytes vs l todo ++ (0 ∷ rest)
+        then : drop j s ≡ itemsBytes vs l todo ++ (0 ∷ rest)
 
       first-at : (i x : ℕ) (u : List ℕ) → drop i s ≡ x ∷ u → (i < length s) × (x ≡ getD s i 0) × (drop (i + 1) s ≡ u)
       first-at i x u e = go (cmp i (length s))
@@ -173,14 +173,14 @@ module _ (t : List ℕ) (fin : ℕ → ℕ → ℕ) (s : List ℕ) where
       positive (suc n) f = omega arith
 
       item-at : (x : ℕ) (v : Option (vs .Value)) (todo : List (Item vs)) (i : ℕ) → (0 < x) × (x ≤ size l) → ItemOk vs l x v
-          → drop i s ≡ bytes vs l ((x, v) ∷ todo) ++ (0 ∷ rest) → Item′ x v todo i (fin x (i + 1))
+          → drop i s ≡ itemsBytes vs l ((x, v) ∷ todo) ++ (0 ∷ rest) → Item′ x v todo i (fin x (i + 1))
       item-at x v todo i b g e =
-          let f = first-at i x ((vb x v ++ bytes vs l todo) ++ (0 ∷ rest)) e in
-          let d : drop (i + 1) s ≡ vb x v ++ (bytes vs l todo ++ (0 ∷ rest)) = f .2 ∙ append-assoc (vb x v) (bytes vs l todo) (0 ∷ rest) in
+          let f = first-at i x ((vb x v ++ itemsBytes vs l todo) ++ (0 ∷ rest)) e in
+          let d : drop (i + 1) s ≡ vb x v ++ (itemsBytes vs l todo ++ (0 ∷ rest)) = f .2 ∙ append-assoc (vb x v) (itemsBytes vs l todo) (0 ∷ rest) in
           let h = f .0 in
-          let k : fin x (i + 1) ≢ 0 = λ z. en .none x (i + 1) (b .0) (b .1) (omega arith) (omega arith) z v (bytes vs l todo ++ (0 ∷ rest)) d g in
+          let k : fin x (i + 1) ≢ 0 = λ z. en .none x (i + 1) (b .0) (b .1) (omega arith) (omega arith) z v (itemsBytes vs l todo ++ (0 ∷ rest)) d g in
           let o = en .some x (i + 1) (b .0) (b .1) (omega arith) (omega arith) (positive (fin x (i + 1)) k) in
-          let q = value-cut vs lw l wf x x (o .0) v (drop (fin x (i + 1)) s) (bytes vs l todo ++ (0 ∷ rest)) refl (o .1) g (sym (o .2) ∙ d) in
+          let q = value-cut vs lw l wf x x (o .0) v (drop (fin x (i + 1)) s) (itemsBytes vs l todo ++ (0 ∷ rest)) refl (o .1) g (sym (o .2) ∙ d) in
           record {
             inside = h;
             row = f .1;
@@ -195,7 +195,7 @@ module _ (t : List ℕ) (fin : ℕ → ℕ → ℕ) (s : List ℕ) where
           → n′ + many vs l r ((x, v) ∷ []) ≡ n → At (done ++ ((x, v) ∷ [])) todo n′ j
       past done x v todo n n′ i j a k e = record {
         is = a .is ∙ sym (append-assoc done ((x, v) ∷ []) todo);
-        place = omega (arith, k .ends, a .place, ap length (bytes-append done ((x, v) ∷ [])), length-append (bytes vs l done) (itemBytes vs l (x, v) ++ []), length-append (itemBytes vs l (x, v)) []);
+        place = omega (arith, k .ends, a .place, ap length (bytes-append done ((x, v) ∷ [])), length-append (itemsBytes vs l done) (itemBytes vs l (x, v) ++ []), length-append (itemBytes vs l (x, v)) []);
         here = k .then;
         left = omega (arith, many-append vs l r done ((x, v) ∷ []), a .left);
         goods = a .goods .2;
@@ -265,7 +265,7 @@ module _ (t : List ℕ) (fin : ℕ → ℕ → ℕ) (s : List ℕ) where
       start r n = record {
         is = refl;
         place = omega arith;
-        here = w .at ∙ append-assoc (bytes vs l (items (w .content))) (0 ∷ []) (w .rest);
+        here = w .at ∙ append-assoc (itemsBytes vs l (items (w .content))) (0 ∷ []) (w .rest);
         left = omega arith;
         goods = content-goods (w .content) (w .meets);
       }

@@ -8,7 +8,7 @@ use native.Mathlib.Omega.{arith}
 use lib.Dec.{leb, ltb, eqb}
 use borrow.Author.Tests.{eq-eqb, ne-eqb, eqb-true, eqb-false, lt-ltb, ltb-true, le-ltb, le-leb, leb-true, lt-leb}
 use Rattle.text.proofs.Classes.{and-is, or-is}
-use Rattle.list.specs.Listing.{Kind, group, choice, leaf, some, Rule, both, Listing, size, rowAt, Child, isGroup, isChoice, required, nextDue, up}
+use Rattle.list.specs.Listing.{Kind, group, choice, leaf, several, Rule, both, Listing, size, rowAt, Child, isGroup, isChoice, required, nextDue, up}
 use Rattle.list.specs.Table.{cell}
 use Rattle.list.specs.Sound.{firstOf, secondOf}
 use Rattle.list.proofs.rows.Next.{next-due, none-due}

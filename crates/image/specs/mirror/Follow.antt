@@ -14,7 +14,7 @@ use Rattle.image.specs.Image.{Values, Item}
 abbrev pub repeats : Count → Bool
 repeats Count.one = false
 repeats Count.optional = false
-repeats Count.some = true
+repeats Count.several = true
 repeats Count.any = true
 repeats Count.alternative = false
 

@@ -5,7 +5,7 @@ use mathlib.Core.Option.{Option}
 use Prim.Native.Nat.{ℕ, _+_}
 use lib.ListN.{length}
 use Rattle.list.specs.Listing.{Listing, rowAt}
-use Rattle.image.specs.Image.{Values, Item, valueBytes, bytes}
+use Rattle.image.specs.Image.{Values, Item, valueBytes, itemsBytes}
 use Rattle.image.specs.mirror.Follow.{Simple, Next, Over, ItemOk, Trail, lastRow}
 
 module _ (vs : Values) (l : Listing) where
@@ -20,17 +20,17 @@ module _ (vs : Values) (l : Listing) where
   pub record Stops (q : ℕ) (s : List ℕ) (n : ℕ) : Type 0 where
     pub whole : List (Item vs)
     pub rest : List ℕ
-    pub at : s ≡ bytes vs l whole ++ rest
+    pub at : s ≡ itemsBytes vs l whole ++ rest
     pub trail : Trail vs l q whole
     pub stuck : Stuck (lastRow vs l q whole) rest
     pub open′ : Open (lastRow vs l q whole) rest
-    pub long : n ≡ length (bytes vs l whole)
+    pub long : n ≡ length (itemsBytes vs l whole)
 
   pub record Ends (q : ℕ) (s : List ℕ) (n : ℕ) : Type 0 where
     pub whole : List (Item vs)
     pub rest : List ℕ
-    pub at : s ≡ bytes vs l whole ++ (0 ∷ rest)
+    pub at : s ≡ itemsBytes vs l whole ++ (0 ∷ rest)
     pub trail : Trail vs l q whole
     pub leaf : Simple l (lastRow vs l q whole)
     pub over : Over l (lastRow vs l q whole)
-    pub long : n ≡ length (bytes vs l whole) + 1
+    pub long : n ≡ length (itemsBytes vs l whole) + 1

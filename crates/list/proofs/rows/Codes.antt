@@ -10,7 +10,7 @@ use lib.ListN.{List·getD-eq-default}
 use borrow.Author.Tests.{le-ltb, ne-eqb}
 use Rattle.text.specs.Bytes.{inRange}
 use Rattle.text.proofs.Classes.{every, passes, in-range-is, not-so}
-use Rattle.list.specs.Listing.{group, alternative, isGroup, isChoice, single}
+use Rattle.list.specs.Listing.{group, alternative, isGroup, isChoice, atMostOnce}
 use Rattle.list.specs.Table.{counts, kinds, countOf, kindOf}
 
 beq-is : (a b : Bool) → Bool·beq a b ≡ true → a ≡ b
@@ -29,10 +29,10 @@ agree f g n e h c = elim (decLt c n) [
 past-count : (c : ℕ) → 4 ≤ c → countOf c ≡ alternative
 past-count c h = List·getD-eq-default counts alternative h
 
-pub single-is : (c : ℕ) → single (countOf c) ≡ ltb c 2
+pub single-is : (c : ℕ) → atMostOnce (countOf c) ≡ ltb c 2
 single-is c =
-    agree (λ c. single (countOf c)) (λ c. ltb c 2) 4 refl
-    (λ c h. ap single (past-count c h) ∙ sym (le-ltb c 2 (omega arith))) c
+    agree (λ c. atMostOnce (countOf c)) (λ c. ltb c 2) 4 refl
+    (λ c h. ap atMostOnce (past-count c h) ∙ sym (le-ltb c 2 (omega arith))) c
 
 module _ (k : ℕ) (ws : List (List ℕ)) where
   past-kind : (c : ℕ) → 12 ≤ c → kindOf c k ws ≡ group

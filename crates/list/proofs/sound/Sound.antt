@@ -13,7 +13,7 @@ use Rattle.text.specs.Bytes.{inRange, isCapital, isNameStart, isNamePart, isUnm
 use Rattle.text.specs.Lists.{Each, All, Begins, same}
 use Rattle.text.proofs.Classes.{and-is, or-is, or-not, in-range-is}
 use Rattle.list.specs.Words.{firstFrom}
-use Rattle.list.specs.Listing.{Leaf, ref, iban, ccy, bool, num, amt, date, dtm, txt, enum, Kind, group, choice, leaf, Count, one, optional, some, any, alternative, Rule, both, Listing, size, rowAt, Child, isGroup, up}
+use Rattle.list.specs.Listing.{Leaf, ref, iban, ccy, bool, num, amt, date, dtm, txt, enum, Kind, group, choice, leaf, Count, one, optional, several, any, alternative, Rule, both, Listing, size, rowAt, Child, isGroup, up}
 use Rattle.list.specs.WellFormed.{Fresh, Different, LeafOk, KindOk, BothOk, RuleOk, WellFormed}
 use Rattle.list.specs.Table.{listOf}
 use Rattle.list.specs.Sound.{nextChild, Derived, Sound}
@@ -80,21 +80,21 @@ sequence-is (leaf k) e = absurd (false≢true e)
 one-is : (c : Count) → isOne c ≡ true → c ≡ one
 one-is one e = refl
 one-is optional e = absurd (false≢true e)
-one-is some e = absurd (false≢true e)
+one-is several e = absurd (false≢true e)
 one-is any e = absurd (false≢true e)
 one-is alternative e = absurd (false≢true e)
 
 optional-is : (c : Count) → isOptional c ≡ true → c ≡ optional
 optional-is one e = absurd (false≢true e)
 optional-is optional e = refl
-optional-is some e = absurd (false≢true e)
+optional-is several e = absurd (false≢true e)
 optional-is any e = absurd (false≢true e)
 optional-is alternative e = absurd (false≢true e)
 
 alternative-is : (c : Count) → isAlternative c ≡ true → c ≡ alternative
 alternative-is one e = absurd (false≢true e)
 alternative-is optional e = absurd (false≢true e)
-alternative-is some e = absurd (false≢true e)
+alternative-is several e = absurd (false≢true e)
 alternative-is any e = absurd (false≢true e)
 alternative-is alternative e = refl
 

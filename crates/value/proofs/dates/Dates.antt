@@ -8,7 +8,7 @@ use native.Mathlib.Omega.{arith}
 use lib.Dec.{leb, eqb}
 use Rattle.text.specs.Lists.{Each}
 use Rattle.value.specs.Day.{Real, pair, dayText, monthDays, leap}
-use Rattle.value.specs.Moment.{DateRule, former, present, clockText, Fraction, absent, decimals, figures, fractionText, FractionOk, micros, Zone, zulu, ahead, behind, zoneText, Offset, ZoneOk, offset, Parts, MomentText, ordinary, midnight}
+use Rattle.value.specs.Moment.{DateRule, former, present, clockText, Fraction, noFraction, decimals, figures, fractionText, FractionOk, micros, Zone, zulu, ahead, behind, zoneText, Offset, ZoneOk, offset, Parts, MomentText, ordinary, midnight}
 use Rattle.value.proofs.classes.Classes.{Solid}
 use Rattle.value.proofs.raw.Trim.{Dense}
 
@@ -49,7 +49,7 @@ figures-solid zero n t s = s
 figures-solid (suc k) n t s = figures-solid k (n / 10) ((48 + n % 10) ∷ t) (omega arith, s)
 
 fraction-solid : (f : Fraction) (t : List ℕ) → Each Solid t → Each Solid (fractionText f t)
-fraction-solid absent t s = s
+fraction-solid noFraction t s = s
 fraction-solid (decimals k n) t s = (omega arith, figures-solid k n t s)
 
 offset-solid : (x y : ℕ) → Offset x y → Each Solid (pair x (58 ∷ pair y []))
@@ -81,12 +81,12 @@ whole-dense t y mo d h mi s f z r i j k o e =
 pub moment-dense : {rule : DateRule} {t : List ℕ} {y mo d h mi s u z : ℕ} → MomentText rule t y mo d h mi s u z → Dense t
 moment-dense (ordinary w) =
     whole-dense _ _ _ _ _ _ _ (w .fraction) (w .zone) (w .day) (omega (arith, w .clock .hour)) (w .clock .minute) (w .clock .second) (w .good .1) (w .is)
-moment-dense (midnight e w) = whole-dense _ (w .year) (w .month) (w .date) 24 0 0 absent (w .zone) (w .day) (omega arith) (omega arith) (omega arith) (w .good) (w .is)
+moment-dense (midnight e w) = whole-dense _ (w .year) (w .month) (w .date) 24 0 0 noFraction (w .zone) (w .day) (omega arith) (omega arith) (omega arith) (w .good) (w .is)
 
 -- ---- how many microseconds a fraction has
 -- by the present rule so many thousands
 pub few : (f : Fraction) → FractionOk present f → (micros f < 1000000) × (micros f % 1000 ≡ 0)
-few absent g = (omega arith, omega arith)
+few noFraction g = (omega arith, omega arith)
 few (decimals zero n) g = absurd (omega (arith, g .0 .0))
 few (decimals (suc zero) n) g = (omega (arith, g .1), omega arith)
 few (decimals (suc (suc zero)) n) g = (omega (arith, g .1), omega arith)
@@ -95,7 +95,7 @@ few (decimals (suc (suc (suc (suc k)))) n) g = absurd (omega (arith, g .0 .1))
 
 below : (rule : DateRule) (f : Fraction) → FractionOk rule f → micros f < 1000000
 below present f g = few f g .0
-below former absent g = omega arith
+below former noFraction g = omega arith
 below former (decimals k n) (inl e, h) = subst (λ (j : ℕ). n < 10 ^ j → n * 10 ^ (6 - j) < 1000000) (sym e) (λ i. omega arith) h
 below former (decimals k n) (inr e, h) = subst (λ (j : ℕ). n < 10 ^ j → n * 10 ^ (6 - j) < 1000000) (sym e) (λ i. omega arith) h
 

@@ -18,7 +18,7 @@ use Rattle.list.specs.Listing.{date, dtm}
 use Rattle.value.specs.declared.judged.Judged.{Judged}
 use Rattle.value.specs.declared.judged.Judged.the-variants as J
 use Rattle.value.specs.Day.{Real, pair, dayText, monthDays, nextDay}
-use Rattle.value.specs.Moment.{present, Clock, clockText, Fraction, absent, decimals, figures, FractionOk, fractionText, Zone, zulu, ahead, behind, Offset, ZoneOk, zoneText, offset, ordinary, midnight}
+use Rattle.value.specs.Moment.{present, Clock, clockText, Fraction, noFraction, decimals, figures, FractionOk, fractionText, Zone, zulu, ahead, behind, Offset, ZoneOk, zoneText, offset, ordinary, midnight}
 use Rattle.value.specs.Value.{Value, Form}
 use Rattle.value.specs.Judged.{Formed, formed, formless, FormedAny}
 use Rattle.value.specs.mirror.Digits.{One, Two, Mark, DayAt, FractionAt, NextAt, ZoneAt, ClockText, ClockAt, MidnightAt}
@@ -185,10 +185,10 @@ no-one l r (behind i j) w e = nine r (λ h. let p = w .sound h in let q : _≡_ 
 
 -- no point stands there
 fraction-bare : (l : List ℕ) → Mark l 46 false → FractionAt l 0 l
-fraction-bare l w = record { fraction = absent; good = tt; is = refl; count = refl; only = go }
+fraction-bare l w = record { fraction = noFraction; good = tt; is = refl; count = refl; only = go }
   where
     go : (f : Fraction) (z : Zone) → FractionOk present f → l ≡ fractionText f (zoneText z []) → l ≡ zoneText z []
-    go absent z h e = e
+    go noFraction z h e = e
     go (decimals k n) z h e = absurd (no-mark l 46 false (figures k n (zoneText z [])) w refl e)
 
 same-three : (a b c x y z : ℕ) (t : List ℕ) → a ≡ x → b ≡ y → c ≡ z → 46 ∷ (48 + a) ∷ (48 + b) ∷ (48 + c) ∷ t ≡ 46 ∷ (48 + x) ∷ (48 + y) ∷ (48 + z) ∷ t
@@ -204,7 +204,7 @@ module _ (l : List ℕ) (a b c : ℕ) (p : Mark l 46 true) (u : One (drop 1 l) a
 
   fraction-read : (f : Fraction) (z : Zone) → FractionOk present f → l ≡ fractionText f (zoneText z []) → Said (zoneText z [])
   unfolding figures
-  fraction-read absent z h e = point-first (drop 1 l) z (sym (p .sound refl) ∙ e)
+  fraction-read noFraction z h e = point-first (drop 1 l) z (sym (p .sound refl) ∙ e)
   fraction-read (decimals zero n) z h e = absurd (omega (arith, h .0 .0))
   fraction-read (decimals (suc zero) n) z h e =
       let i = u .complete (n % 10) (zoneText z []) (omega arith) (ap (drop 1) e) in
@@ -222,7 +222,7 @@ module _ (l : List ℕ) (a b c : ℕ) (p : Mark l 46 true) (u : One (drop 1 l) a
 
   -- no fraction before a zone begins so
   fraction-bad : (a ≤ 9 → a ≢ 0 → 9 < b → ⊥) → (a ≤ 9 → b ≤ 9 → b ≢ 0 → 9 < c → ⊥) → (a ≤ 9 → b ≤ 9 → c ≤ 9 → c ≢ 0 → ⊥) → FractionAt l 0 l
-  fraction-bad f g k = record { fraction = absent; good = tt; is = refl; count = refl; only = λ x z h e. absurd (go (zoneText z []) (fraction-read x z h e)) }
+  fraction-bad f g k = record { fraction = noFraction; good = tt; is = refl; count = refl; only = λ x z h e. absurd (go (zoneText z []) (fraction-read x z h e)) }
     where
       go : (rest : List ℕ) → Said rest → ⊥
       go rest (one q r m e) = f q r m

@@ -17,7 +17,7 @@ use Rattle.text.proofs.Classes.{and-is, in-range, in-range-is}
 use Rattle.text.proofs.Parts.{same-eq, same-of}
 use Rattle.list.specs.Listing.{date, dtm}
 use Rattle.value.specs.Day.{Real, isReal, dayText, nextDay}
-use Rattle.value.specs.Moment.{present, Clock, clockText, Fraction, absent, decimals, figures, FractionOk, fractionText, micros, Zone, zulu, ahead, behind, Offset, ZoneOk, zoneText, offset, PlainText, MidnightText, MomentText, ordinary, midnight}
+use Rattle.value.specs.Moment.{present, Clock, clockText, Fraction, noFraction, decimals, figures, FractionOk, fractionText, micros, Zone, zulu, ahead, behind, Offset, ZoneOk, zoneText, offset, PlainText, MidnightText, MomentText, ordinary, midnight}
 use Rattle.value.specs.Value.{Value, day, moment, Form}
 use Rattle.value.specs.Spell.{when, twoAt, dayWhen, dayOf, isClock, fractionOf, fractionLength, isFraction, zoneOf, isOffset, isZone, momentWhen, momentBehind, midnightWhen, midnightOn, midnightBehind, momentOf}
 use Rattle.value.proofs.dates.Months.{real-is, real-of}
@@ -81,14 +81,14 @@ not-zero : (n : ℕ) → not (eqb n 0) ≡ true → n ≢ 0
 not-zero n e z = true≢false (sym e ∙ ap (λ (k : ℕ). not (eqb k 0)) z)
 
 fraction-is : (f : Fraction) → isFraction f ≡ true → FractionOk present f
-fraction-is absent e = tt
+fraction-is noFraction e = tt
 fraction-is (decimals k n) e =
     let a = and-is (inRange 1 3 k) (ltb n (10 ^ k) && not (eqb (n % 10) 0)) e in
     let b = and-is (ltb n (10 ^ k)) (not (eqb (n % 10) 0)) (a .1) in
     (in-range-is 1 3 k (a .0), ltb-true n (10 ^ k) (b .0), not-zero (n % 10) (b .1))
 
 fraction-ok : (f : Fraction) → FractionOk present f → isFraction f ≡ true
-fraction-ok absent h = refl
+fraction-ok noFraction h = refl
 fraction-ok (decimals k n) h =
     and-of (inRange 1 3 k) (ltb n (10 ^ k) && not (eqb (n % 10) 0)) (in-range 1 3 k (h .0 .0) (h .0 .1))
     (and-of (ltb n (10 ^ k)) (not (eqb (n % 10) 0)) (lt-ltb n (10 ^ k) (h .1)) (ap not (ne-eqb (n % 10) 0 (h .2))))
@@ -130,9 +130,9 @@ second b q r e = rw e
 
 fraction-read : (f : Fraction) (z : Zone) → FractionOk present f → fractionOf (fractionText f (zoneText z [])) ≡ f
 unfolding fractionOf isDigit figures
-fraction-read absent zulu h = refl
-fraction-read absent (ahead i j) h = refl
-fraction-read absent (behind i j) h = refl
+fraction-read noFraction zulu h = refl
+fraction-read noFraction (ahead i j) h = refl
+fraction-read noFraction (behind i j) h = refl
 fraction-read (decimals zero n) z h = absurd (omega (arith, h .0 .0))
 fraction-read (decimals (suc zero) n) zulu h = ap (decimals 1) (one n (h .1))
 fraction-read (decimals (suc zero) n) (ahead i j) h = ap (decimals 1) (one n (h .1))
@@ -149,7 +149,7 @@ figures-behind zero n l = refl
 figures-behind (suc k) n l = ap (λ (j : ℕ). drop j (figures k (n / 10) ((48 + n % 10) ∷ l))) (sym (add-one k)) ∙ sym (drop-drop 1 k _) ∙ ap (drop 1) (figures-behind k (n / 10) ((48 + n % 10) ∷ l))
 
 fraction-behind : (f : Fraction) (l : List ℕ) → drop (fractionLength f) (fractionText f l) ≡ l
-fraction-behind absent l = refl
+fraction-behind noFraction l = refl
 fraction-behind (decimals k n) l = sym (drop-drop k 1 (46 ∷ figures k n l)) ∙ figures-behind k n l
 
 zone-read : (z : Zone) → zoneOf (zoneText z []) ≡ z

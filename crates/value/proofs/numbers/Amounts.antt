@@ -15,7 +15,7 @@ use Rattle.text.specs.Bytes.{isDigit}
 use Rattle.list.specs.Listing.{amt}
 use Rattle.value.specs.declared.judged.Judged.{Judged}
 use Rattle.value.specs.declared.judged.Judged.the-variants as J
-use Rattle.value.specs.Amount.{Sign, none, plus, minus, Amount}
+use Rattle.value.specs.Amount.{Sign, unsigned, plus, minus, Amount}
 use Rattle.value.specs.Value.{Value, Form}
 use Rattle.value.specs.Judged.{Formed, formed, formless, FormedAny}
 use Rattle.value.specs.mirror.Reading.{Found, bad, found, fracOf, wholeOf, pointOf, signedOf, readOf, answer}
@@ -157,7 +157,7 @@ module _ (s : List ℕ) where
 
 -- ---- an answer so read is right
 is-minus : (g : Sign) → isMinus g ≡ true → g ≡ minus
-is-minus none t = absurd (true≢false (sym t))
+is-minus unsigned t = absurd (true≢false (sym t))
 is-minus plus t = absurd (true≢false (sym t))
 is-minus minus t = refl
 
@@ -205,7 +205,7 @@ right t = go (readOf t) refl
 
 -- and it finds every amount
 sign-fits : (g : Sign) (c : ℕ) → (g ≡ minus → c ≡ 0) → (isMinus g && not (eqb c 0)) ≡ false
-sign-fits none c f = refl
+sign-fits unsigned c f = refl
 sign-fits plus c f = refl
 sign-fits minus c f = rw (eq-eqb c 0 (f refl))
 

@@ -12,7 +12,7 @@ use borrow.Author.Tests.{ne-eqb, eqb-true, eqb-false}
 use Rattle.text.specs.Bytes.{isDigit}
 use Rattle.text.specs.Lists.{Each, All}
 use Rattle.value.specs.Plain.{decimalFrom, decimal}
-use Rattle.value.specs.Amount.{Sign, none, plus, minus, signText, Places, absent, point, placesOf, placesText, Written, Smallest, Decimal}
+use Rattle.value.specs.Amount.{Sign, unsigned, plus, minus, signText, Places, noPoint, point, placesOf, placesText, Written, Smallest, Decimal}
 use Rattle.value.specs.mirror.Reading.{Found, bad, found, fracOf, wholeOf, pointOf, signedOf, readOf}
 use Rattle.value.proofs.classes.Classes.{digit-range, Solid, solid-digit, each-all, each-append}
 use Rattle.value.proofs.raw.Trim.{Dense}
@@ -109,7 +109,7 @@ module _ (n : Bool) where
 
   whole-done : (a : ℕ) (fr : Places) → All isDigit (placesOf fr) → Ends (wholeOf n a (placesText fr)) n (decimalFrom a (placesOf fr)) (length (placesOf fr))
   unfolding wholeOf decimalFrom isDigit
-  whole-done a absent h = record { c = a; k = 0; is = refl; same = refl; canon = inl refl }
+  whole-done a noPoint h = record { c = a; k = 0; is = refl; same = refl; canon = inl refl }
   whole-done a (point ds) h =
       let z : 0 + length ds ≡ length ds = omega arith in
       rw (← z) (frac-run a 0 a 0 ds h refl (inl refl))
@@ -123,14 +123,14 @@ signed-run : (n : Bool) (ds : List ℕ) (fr : Places) → All isDigit ds → All
     → Ends (signedOf n (ds ++ placesText fr)) n (decimal (ds ++ placesOf fr)) (length (placesOf fr))
 unfolding signedOf pointOf isDigit
 signed-run n (x ∷ ds) fr d h s = rw (d .0, number-append 0 (x ∷ ds) (placesOf fr)) (whole-run n 0 (x ∷ ds) fr d h)
-signed-run n [] absent d h s = absurd (omega arith)
+signed-run n [] noPoint d h s = absurd (omega arith)
 signed-run n [] (point []) d h s = absurd (omega arith)
 signed-run n [] (point (y ∷ ys)) d h s =
     let z : 0 + length (y ∷ ys) ≡ length (y ∷ ys) = omega arith in
     rw (← z) (frac-run n 0 0 0 0 (y ∷ ys) h refl (inl refl))
 
 abbrev pub isMinus : Sign → Bool
-isMinus none = false
+isMinus unsigned = false
 isMinus plus = false
 isMinus minus = true
 
@@ -140,13 +140,13 @@ read-first x t h = rw (ne-eqb x 43 (omega arith), ne-eqb x 45 (omega arith))
 
 read-unsigned : (ds : List ℕ) (fr : Places) → All isDigit ds → 1 ≤ length (ds ++ placesOf fr) → readOf (ds ++ placesText fr) ≡ signedOf false (ds ++ placesText fr)
 read-unsigned (x ∷ ds) fr d s = read-first x (ds ++ placesText fr) (let r = digit-range x (d .0) in omega arith)
-read-unsigned [] absent d s = absurd (omega arith)
+read-unsigned [] noPoint d s = absurd (omega arith)
 read-unsigned [] (point ys) d s = read-first 46 ys (omega arith)
 
 read-run : (sg : Sign) (ds : List ℕ) (fr : Places) → All isDigit ds → All isDigit (placesOf fr) → 1 ≤ length (ds ++ placesOf fr)
     → Ends (readOf (signText sg ++ (ds ++ placesText fr))) (isMinus sg) (decimal (ds ++ placesOf fr)) (length (placesOf fr))
 unfolding readOf
-read-run none ds fr d h s = rw (read-unsigned ds fr d s) (signed-run false ds fr d h s)
+read-run unsigned ds fr d h s = rw (read-unsigned ds fr d s) (signed-run false ds fr d h s)
 read-run plus ds fr d h s = signed-run false ds fr d h s
 read-run minus ds fr d h s = signed-run true ds fr d h s
 
@@ -208,7 +208,7 @@ module _ (n n′ : Bool) (c′ k′ : ℕ) where
   whole-none a q =
       let p : a ≡ c′ = cc in
       let r : 0 ≡ k′ = cc in
-      record { ds = []; fr = absent; is = refl; digits = tt; places = tt; neg = cc; same = rw (← p, ← r); canon = inl (sym r) }
+      record { ds = []; fr = noPoint; is = refl; digits = tt; places = tt; neg = cc; same = rw (← p, ← r); canon = inl (sym r) }
 
   whole-point : (a : ℕ) (t : List ℕ) → fracOf n a 0 a 0 t ≡ found n′ c′ k′ → Whole n a (46 ∷ t) n′ c′ k′
   unfolding decimalFrom
@@ -248,7 +248,7 @@ begins : (x : ℕ) (t u : List ℕ) (fr : Places) → isDigit x ≡ true → x �
 begins x t (y ∷ u) fr d e = suc-le-suc zero-le
 begins x t [] (point (y ∷ ys)) d e = suc-le-suc zero-le
 begins x t [] (point []) d e = let z : x ≡ 46 = cc in let r = digit-range x d in absurd (omega arith)
-begins x t [] absent d e = absurd (let z : _≡_ {A = ℕ} 0 1 = cc in omega arith)
+begins x t [] noPoint d e = absurd (let z : _≡_ {A = ℕ} 0 1 = cc in omega arith)
 
 module _ (n n′ : Bool) (c′ k′ : ℕ) where
   signed-point : (t : List ℕ) → pointOf n t ≡ found n′ c′ k′ → Signed n (46 ∷ t) n′ c′ k′
@@ -295,20 +295,20 @@ sound (x ∷ t) n c k q = go (eqb x 43) (eqb x 45) refl refl q
     go : (v w : Bool) → eqb x 43 ≡ v → eqb x 45 ≡ w → cond v (signedOf false t) (cond w (signedOf true t) (signedOf false (x ∷ t))) ≡ found n c k → Reads (x ∷ t) n c k
     go true w o m q = rw (eqb-true x 43 o) (made plus t n c k (signed-sound false n c k t q))
     go false true o m q = rw (eqb-true x 45 m) (made minus t n c k (signed-sound true n c k t q))
-    go false false o m q = made none (x ∷ t) n c k (signed-sound false n c k (x ∷ t) q)
+    go false false o m q = made unsigned (x ∷ t) n c k (signed-sound false n c k (x ∷ t) q)
 
 -- ---- its characters
 sign-solid : (g : Sign) → Each Solid (signText g)
-sign-solid none = tt
+sign-solid unsigned = tt
 sign-solid plus = omega arith
 sign-solid minus = omega arith
 
 places-solid : (f : Places) → All isDigit (placesOf f) → Each Solid (placesText f)
-places-solid absent h = tt
+places-solid noPoint h = tt
 places-solid (point ds) h = (omega arith, each-all isDigit Solid solid-digit ds h)
 
 places-long : (f : Places) → length (placesOf f) ≤ length (placesText f)
-places-long absent = omega arith
+places-long noPoint = omega arith
 places-long (point ds) = omega arith
 
 pub written-dense : (t : List ℕ) → Written t → Dense t

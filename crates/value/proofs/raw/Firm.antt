@@ -10,7 +10,7 @@ use Rattle.text.specs.Bytes.{isCapital, isDigit}
 use Rattle.text.specs.Lists.{Each, Begins}
 use Rattle.list.specs.Listing.{Leaf, ref, iban, ccy, bool, num, amt, date, dtm, txt, enum}
 use Rattle.value.specs.Code.{Iban, Ccy, isLetterOrDigit}
-use Rattle.value.specs.Plain.{Says}
+use Rattle.value.specs.Plain.{SaysTruth}
 use Rattle.value.specs.Value.{Value, Form}
 use Rattle.value.proofs.classes.Classes.{Solid, solid-digit, solid-capital, solid-either, each-all, each-append}
 use Rattle.value.proofs.raw.Trim.{Dense}
@@ -18,7 +18,7 @@ use Rattle.value.proofs.numbers.Decimals.{written-dense, digits-dense}
 use Rattle.value.proofs.dates.Dates.{day-dense, moment-dense}
 
 -- ---- a text of a kind that loses blanks has none
-pub says-dense : (b : Bool) (t : List ℕ) → Says t b → Dense t
+pub says-dense : (b : Bool) (t : List ℕ) → SaysTruth t b → Dense t
 says-dense true t s = ⊎-elim (λ e. subst Dense (sym e) (record { solid = omega arith; some = omega arith })) (λ e. subst Dense (sym e) (record { solid = omega arith; some = omega arith })) s
 says-dense false t s = ⊎-elim (λ e. subst Dense (sym e) (record { solid = omega arith; some = omega arith })) (λ e. subst Dense (sym e) (record { solid = omega arith; some = omega arith })) s
 

@@ -16,7 +16,7 @@ use Rattle.value.specs.declared.judged.Judged.{Judged}
 use Rattle.value.specs.declared.judged.Judged.the-variants as J
 use Rattle.value.specs.Text.{Ref, Txt}
 use Rattle.value.specs.Code.{Iban, Ccy, WordAt}
-use Rattle.value.specs.Plain.{Trimmed, Says}
+use Rattle.value.specs.Plain.{Trimmed, SaysTruth}
 use Rattle.value.specs.Kind.{code, Given}
 use Rattle.value.specs.Trim.{Trim}
 use Rattle.value.specs.mirror.Texts.{textOf, Spelled, spelled, unspelled}
@@ -149,16 +149,16 @@ checked-none kind k s p q = record { known = λ l e o g w cw. absurd (go (code-l
     go a b e o = let z = step 11 (step 10 (step 9 (step 8 (step 7 (step 6 (step 5 (step 4 (step 3 (step 2 (omega arith) (p .0)) (p .1)) (p .2)) (p .3)) o) (q .0)) (q .1)) (q .2)) (q .3)) (q .4) in omega arith
 
 -- ---- yes or no
-no-words : (w t : List ℕ) → ((b : Bool) → Says t b → ⊥) → (v : Value) → Form bool w t v → ⊥
+no-words : (w t : List ℕ) → ((b : Bool) → SaysTruth t b → ⊥) → (v : Value) → Form bool w t v → ⊥
 no-words w t f v (Form.either {b = b} s) = f b s
 
-pub truth-is : (t : List ℕ) (b : Bool) → Says t b → FormedAny bool t (J.Truth b)
+pub truth-is : (t : List ℕ) (b : Bool) → SaysTruth t b → FormedAny bool t (J.Truth b)
 truth-is t b s w cw = formed (truth b) (Form.either s) refl
 
 pub truth-not : (t : List ℕ) → (t ≡ ascii "true" → ⊥) → (t ≡ ascii "1" → ⊥) → (t ≡ ascii "false" → ⊥) → (t ≡ ascii "0" → ⊥) → FormedAny bool t J.Refused
 truth-not t a b c d w cw = formless refl (no-words w t go)
   where
-    go : (b : Bool) → Says t b → ⊥
+    go : (b : Bool) → SaysTruth t b → ⊥
     go true s = ⊎-elim a b s
     go false s = ⊎-elim c d s
 

@@ -19,7 +19,7 @@ use Rattle.list.specs.Table.{placeIn}
 use Rattle.list.proofs.words.Places.{place-found, place-none, place-is}
 use Rattle.value.specs.declared.judged.Judged.{Judged}
 use Rattle.value.specs.declared.judged.Judged.the-variants as J
-use Rattle.value.specs.Plain.{Trimmed, Says, Num, decimal}
+use Rattle.value.specs.Plain.{Trimmed, SaysTruth, Num, decimal}
 use Rattle.value.specs.Code.{Iban, Ccy}
 use Rattle.value.specs.mirror.Layout.{ibanAt}
 use Rattle.value.specs.mirror.Texts.{textOf}
@@ -101,7 +101,7 @@ truth-sound w t v e = go (same t (ascii "true") || same t (ascii "1")) (same t (
     go false true i j f = let z : truth false ≡ v = cc in subst (Form bool w t) z (Form.either (either-is (ascii "false") (ascii "0") j))
     go false false i j f = no-some v f
 
-truth-of : (b : Bool) (t : List ℕ) → Says t b → truthOf t ≡ some (truth b)
+truth-of : (b : Bool) (t : List ℕ) → SaysTruth t b → truthOf t ≡ some (truth b)
 unfolding same
 truth-of true t (inl e) = ap truthOf e
 truth-of true t (inr e) = ap truthOf e

@@ -9,7 +9,7 @@ use Rattle.text.specs.Bytes.{ascii}
 use Rattle.text.specs.Numbers.{number}
 use Rattle.text.specs.Digits.{inDigits, padded, pointed}
 use Rattle.list.specs.Table.{cell, wordsIn}
-use Rattle.value.specs.Moment.{Fraction, absent, decimals}
+use Rattle.value.specs.Moment.{Fraction, noFraction, decimals}
 use Rattle.value_to_text.specs.Script.{truthText, fractionOf}
 use Rattle.value_to_text.specs.Raw.{escaped}
 
@@ -26,7 +26,7 @@ unfoldable pub threeRaw : ℕ → ℕ → List ℕ → ℕ → ℕ → List ℕ
 threeRaw w a sign b c = padded w a ++ (sign ++ (padded 2 b ++ (sign ++ padded 2 c)))
 
 abbrev pub placesRaw : Fraction → List ℕ
-placesRaw absent = []
+placesRaw noFraction = []
 placesRaw (decimals k n) = 46 ∷ padded k n
 
 unfoldable pub fractionRaw : ℕ → List ℕ

@@ -5,7 +5,7 @@ use Prim.Native.Nat.{ℕ, zero, suc}
 use lib.Dec.{leb, ltb, eqb}
 use Rattle.text.specs.Lists.{same}
 use Rattle.text.specs.Bytes.{ascii, inRange, isBlank, isNameStart, isNamePart}
-use Rattle.xml.specs.House.{Quote, single, double, mark}
+use Rattle.xml.specs.House.{Quote, singleQuote, double, mark}
 
 -- within a piece: so many continuation bytes are left, or those behind E0, ED, EF, EF BF, F0, F4 (Unicode, table 3-7, without
 -- U+FFFE and U+FFFF); behind `&`, behind `&a`, or the next byte of an entity and the rest of it
@@ -171,7 +171,7 @@ next (attr m b k ss d n ns) x =
 next (equals k ss d n ns) x = equalsStep k ss d n ns x
 next (quote k ss d n ns) x =
     cond (isBlank x) (at (quote k ss d n ns))
-    (cond (eqb x 39) (at (value single k ss d n ns)) (cond (eqb x 34) (at (value double k ss d n ns)) dead))
+    (cond (eqb x 39) (at (value singleQuote k ss d n ns)) (cond (eqb x 34) (at (value double k ss d n ns)) dead))
 next (value q k ss d n ns) x = cond (eqb x (mark q)) (at (tail k ss d n ns)) (valueNext (lead x) q k ss d n ns)
 next (within p q k ss d n ns) x = valueNext (go-on p x) q k ss d n ns
 next (slash d ns) x = cond (eqb x 62) (at (after (suc d) ns)) dead
