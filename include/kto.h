@@ -1,10 +1,10 @@
 /* kto.h: the reconciliation unit for C.
  *
- * A statement file (camt.053.001.08, Austrian subset) is checked and its record image written (kto_check), or only measured (kto_size); a run
- * of bytes is read as an image (kto_read); a value is picked from an image (kto_pick); an image is gone over item by item (kto_item); the
- * statement file of an image is written (kto_write). What an image's bytes say is docs/IMAGE.md, what the codes say docs/CODES.md, the rows
- * docs/LIST.md; examples/c/entries.c prints the entries of a statement. Link with libunit.a, which `rt staticlib unit` makes (x86-64 Linux);
- * it needs the C library and nothing else.
+ * A statement file (camt.053.001.08) or an intraday report (camt.052.001.08), Austrian subset, is checked and its record image written
+ * (kto_check), or only measured (kto_size); a run of bytes is read as an image (kto_read); a value is picked from an image (kto_pick); an
+ * image is gone over item by item (kto_items, kto_item); the file of an image is written (kto_write). What an image's bytes say is
+ * docs/IMAGE.md, what the codes say docs/CODES.md, the rows docs/LIST.md; examples/c/entries.c prints the entries of a statement or a report.
+ * Link with libunit.a, which `rt staticlib unit` makes (x86-64 Linux); it needs the C library and nothing else.
  *
  * Every call takes any bytes and any numbers. There is nothing to set up, no memory is allocated, nothing is kept between calls, and
  * calls from several threads do not meet as long as they lend different buffers. What a call uses of the stack does not hang on what is lent:
@@ -16,7 +16,7 @@
  * to numbers of 64 bits that may be written, each to its own; the call sets each of them, whatever its answer is.
  *
  * What comes back. The result is the code: KTO_ACCEPTED, or the number of the one refusal. With it go a row (the number of the element in the
- * house list, 0 for none) and a place (a byte offset, from 0).
+ * list of its message, 0 for none) and a place (a byte offset, from 0).
  *
  * A run of more than KTO_LIMIT bytes. kto_read, kto_pick and kto_write refuse one with KTO_TOO_LONG. No image that kto_check writes is longer
  * than its file, so lend them of such a run what they can take, and go on from image to image:
@@ -58,8 +58,8 @@ enum {
     KTO_NO_ROOM = 14,          /* the file is good; place: the bytes that its image needs; or those that a file to be written needs */
     /* of a run */
     KTO_NO_HEADER = 15,
-    KTO_WRONG_VERSION = 16,
-    KTO_BROKEN_IMAGE = 17,     /* place: after the most whole items that begin some image; of kto_item: from */
+    KTO_WRONG_VERSION = 16,    /* neither 1 nor 2 */
+    KTO_BROKEN_IMAGE = 17,     /* place: after the most whole items that begin some image; 5 for a kind byte that is bad; of kto_item: from */
     /* of a pick */
     KTO_NO_SUCH_LEAF = 18,
     /* of a file that is to be written */
@@ -67,7 +67,11 @@ enum {
     KTO_TOO_FINE = 20          /* a date-time that no file may say any more; row: its own; place: its item's in the run */
 };
 
-/* The rows of the house list (docs/LIST.md). Written by tools/lists/make, from here .. */
+/* The kinds of messages and the rows of their lists (docs/LIST.md). Written by tools/lists/make, from here .. */
+#define KTO_CAMT053 1
+#define KTO_CAMT052 2
+
+/* camt.053.001.08 */
 enum {
     KTO_ROW_DOCUMENT = 1,
     KTO_ROW_BKTOCSTMRSTMT = 2,
@@ -127,9 +131,71 @@ enum {
     KTO_ROW_STMT_NTRY_NTRYDTLS_TXDTLS_RMTINF = 56,
     KTO_ROW_STMT_NTRY_NTRYDTLS_TXDTLS_RMTINF_USTRD = 57 /* TXT140 */
 };
+
+/* camt.052.001.08 */
+enum {
+    KTO_REPORT_ROW_DOCUMENT = 1,
+    KTO_REPORT_ROW_BKTOCSTMRACCTRPT = 2,
+    KTO_REPORT_ROW_GRPHDR = 3,
+    KTO_REPORT_ROW_GRPHDR_MSGID = 4, /* REF */
+    KTO_REPORT_ROW_GRPHDR_CREDTTM = 5, /* DTM */
+    KTO_REPORT_ROW_RPT = 6,
+    KTO_REPORT_ROW_RPT_ID = 7, /* REF */
+    KTO_REPORT_ROW_RPT_ELCTRNCSEQNB = 8, /* NUM */
+    KTO_REPORT_ROW_RPT_ACCT = 9,
+    KTO_REPORT_ROW_RPT_ACCT_ID = 10,
+    KTO_REPORT_ROW_RPT_ACCT_ID_IBAN = 11, /* IBAN */
+    KTO_REPORT_ROW_RPT_ACCT_ID_OTHR = 12,
+    KTO_REPORT_ROW_RPT_ACCT_ID_OTHR_ID = 13, /* TXT34 */
+    KTO_REPORT_ROW_RPT_ACCT_CCY = 14, /* CCY */
+    KTO_REPORT_ROW_RPT_BAL = 15,
+    KTO_REPORT_ROW_RPT_BAL_TP = 16,
+    KTO_REPORT_ROW_RPT_BAL_TP_CDORPRTRY = 17,
+    KTO_REPORT_ROW_RPT_BAL_TP_CDORPRTRY_CD = 18, /* ENUM */
+    KTO_REPORT_ROW_RPT_BAL_AMT = 19, /* AMT */
+    KTO_REPORT_ROW_RPT_BAL_CDTDBTIND = 20, /* ENUM */
+    KTO_REPORT_ROW_RPT_BAL_DT = 21,
+    KTO_REPORT_ROW_RPT_BAL_DT_DT = 22, /* DATE */
+    KTO_REPORT_ROW_RPT_NTRY = 23,
+    KTO_REPORT_ROW_RPT_NTRY_AMT = 24, /* AMT */
+    KTO_REPORT_ROW_RPT_NTRY_CDTDBTIND = 25, /* ENUM */
+    KTO_REPORT_ROW_RPT_NTRY_RVSLIND = 26, /* BOOL */
+    KTO_REPORT_ROW_RPT_NTRY_STS = 27,
+    KTO_REPORT_ROW_RPT_NTRY_STS_CD = 28, /* ENUM */
+    KTO_REPORT_ROW_RPT_NTRY_BOOKGDT = 29,
+    KTO_REPORT_ROW_RPT_NTRY_BOOKGDT_DT = 30, /* DATE */
+    KTO_REPORT_ROW_RPT_NTRY_VALDT = 31,
+    KTO_REPORT_ROW_RPT_NTRY_VALDT_DT = 32, /* DATE */
+    KTO_REPORT_ROW_RPT_NTRY_ACCTSVCRREF = 33, /* REF */
+    KTO_REPORT_ROW_RPT_NTRY_BKTXCD = 34,
+    KTO_REPORT_ROW_RPT_NTRY_BKTXCD_DOMN = 35,
+    KTO_REPORT_ROW_RPT_NTRY_BKTXCD_DOMN_CD = 36, /* TXT4 */
+    KTO_REPORT_ROW_RPT_NTRY_BKTXCD_DOMN_FMLY = 37,
+    KTO_REPORT_ROW_RPT_NTRY_BKTXCD_DOMN_FMLY_CD = 38, /* TXT4 */
+    KTO_REPORT_ROW_RPT_NTRY_BKTXCD_DOMN_FMLY_SUBFMLYCD = 39, /* TXT4 */
+    KTO_REPORT_ROW_RPT_NTRY_BKTXCD_PRTRY = 40,
+    KTO_REPORT_ROW_RPT_NTRY_BKTXCD_PRTRY_CD = 41, /* TXT35 */
+    KTO_REPORT_ROW_RPT_NTRY_NTRYDTLS = 42,
+    KTO_REPORT_ROW_RPT_NTRY_NTRYDTLS_TXDTLS = 43,
+    KTO_REPORT_ROW_RPT_NTRY_NTRYDTLS_TXDTLS_REFS = 44,
+    KTO_REPORT_ROW_RPT_NTRY_NTRYDTLS_TXDTLS_REFS_ENDTOENDID = 45, /* REF */
+    KTO_REPORT_ROW_RPT_NTRY_NTRYDTLS_TXDTLS_REFS_MNDTID = 46, /* REF */
+    KTO_REPORT_ROW_RPT_NTRY_NTRYDTLS_TXDTLS_AMT = 47, /* AMT */
+    KTO_REPORT_ROW_RPT_NTRY_NTRYDTLS_TXDTLS_CDTDBTIND = 48, /* ENUM */
+    KTO_REPORT_ROW_RPT_NTRY_NTRYDTLS_TXDTLS_RLTDPTIES = 49,
+    KTO_REPORT_ROW_RPT_NTRY_NTRYDTLS_TXDTLS_RLTDPTIES_DBTR = 50,
+    KTO_REPORT_ROW_RPT_NTRY_NTRYDTLS_TXDTLS_RLTDPTIES_DBTR_PTY = 51,
+    KTO_REPORT_ROW_RPT_NTRY_NTRYDTLS_TXDTLS_RLTDPTIES_DBTR_PTY_NM = 52, /* TXT140 */
+    KTO_REPORT_ROW_RPT_NTRY_NTRYDTLS_TXDTLS_RLTDPTIES_DBTRACCT = 53,
+    KTO_REPORT_ROW_RPT_NTRY_NTRYDTLS_TXDTLS_RLTDPTIES_DBTRACCT_ID = 54,
+    KTO_REPORT_ROW_RPT_NTRY_NTRYDTLS_TXDTLS_RLTDPTIES_DBTRACCT_ID_IBAN = 55, /* IBAN */
+    KTO_REPORT_ROW_RPT_NTRY_NTRYDTLS_TXDTLS_RMTINF = 56,
+    KTO_REPORT_ROW_RPT_NTRY_NTRYDTLS_TXDTLS_RMTINF_USTRD = 57 /* TXT140 */
+};
 /* .. to here. */
 
-/* Checks the file in[0 .. in_len) and writes its image into out.
+/* Checks the file in[0 .. in_len) and writes its image into out. The namespace of its root says which list it must meet; the image is of
+ * version 2, and its byte 5 is the kind: KTO_CAMT053 or KTO_CAMT052.
  *
  * KTO_ACCEPTED: out[0 .. *place) is the image, the bytes of out after it are as they were, *row is 0.
  * Any other code: no byte of out is changed. Of the codes 4 to 13, *row is the element's row and *place its '<', but for what is said at the code.
@@ -145,7 +211,7 @@ uint64_t kto_check(const uint8_t *in, uint64_t in_len, uint8_t *out, uint64_t ou
  */
 uint64_t kto_size(const uint8_t *in, uint64_t in_len, uint64_t *row, uint64_t *place);
 
-/* Reads the image that run[0 .. run_len) begins with; what stands after it does not matter.
+/* Reads the image that run[0 .. run_len) begins with, of version 1 or 2 and of either kind; what stands after it does not matter.
  *
  * KTO_ACCEPTED: *place is its length. To go over a run of images, call again with run + *place and run_len - *place.
  * Any other code is 1, 15, 16 or 17, and *place says where.
@@ -162,29 +228,36 @@ uint64_t kto_read(const uint8_t *run, uint64_t run_len, uint64_t *place);
  */
 uint64_t kto_pick(const uint8_t *run, uint64_t run_len, uint64_t row, uint64_t n, uint64_t *place, uint64_t *len);
 
-/* Writes the statement file of the image that run[0 .. run_len) begins with into out; what stands after the image does not matter.
+/* Writes the file of the image that run[0 .. run_len) begins with into out, a statement or a report; what stands after the image does not matter.
  *
  * KTO_ACCEPTED: out[0 .. *place) is the file, the bytes of out after it are as they were, *row is 0. kto_check accepts that file and gives the
- * image back.
+ * image back; one of version 1 comes back as version 2.
  * Any other code: no byte of out is changed. 1, 15, 16 or 17 as kto_read answers, *row being 0; then KTO_TOO_FINE with the date-time's row; then
  * KTO_TOO_LARGE; then KTO_NO_ROOM, where *place says how many bytes the file needs, *row being 0. A buffer of KTO_LIMIT bytes is always long
  * enough. A file may be longer than its image, and longer than the file that the image was made from.
  */
 uint64_t kto_write(const uint8_t *run, uint64_t run_len, uint8_t *out, uint64_t out_len, uint64_t *row, uint64_t *place);
 
+/* Says where the items of the image that run[0 .. run_len) begins with begin, at 5 in version 1 and at 6 in version 2, and of which kind it is.
+ *
+ * The result is that place, and *kind is KTO_CAMT053 or KTO_CAMT052; an image of version 1 is a statement, KTO_CAMT053. Where the run does not
+ * begin as an image does both are 0: where kto_read would answer 15 or 16, and where the kind byte is missing or bad. The header alone is
+ * judged, of a run of any length.
+ */
+uint64_t kto_items(const uint8_t *run, uint64_t run_len, uint64_t *kind);
+
 /* Says which item stands at a place of the image that run[0 .. run_len) begins with.
  *
  * KTO_ACCEPTED: *row is the item's row, and its value is run[*place .. *place + *size), as kto_pick hands it out. A group has no value: *size is 0.
  * *row is 0 at the closing byte. The next item stands at *place + *size; after the closing byte that is the image's end.
- * KTO_BROKEN_IMAGE: no whole item of the list stands there; *row and *size are 0, *place is from. So it is at the run's end and past it.
+ * KTO_BROKEN_IMAGE: no whole item of the image's list stands there; *row and *size are 0, *place is from. So it is at the run's end and past it,
+ * and everywhere in a run that does not begin as an image does.
  *
- * That item alone is judged, not the header, nor what stands before it, nor whether it may come there. So call kto_read first, and then this from
- * KTO_ITEMS on, until *row is 0: that goes over the image once, whatever its length. Any from and any run_len are safe.
+ * The header says which list it is. Of the rest that item alone is judged, not what stands before it, nor whether it may come there. So call
+ * kto_read first, and then this from kto_items on, until *row is 0: that goes over the image once, whatever its length. Any from and any
+ * run_len are safe.
  */
 uint64_t kto_item(const uint8_t *run, uint64_t run_len, uint64_t from, uint64_t *row, uint64_t *place, uint64_t *size);
-
-/* Where the first item of an image stands: after `KTO` and the version. */
-#define KTO_ITEMS 5
 
 #ifdef __cplusplus
 }

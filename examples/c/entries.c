@@ -1,9 +1,11 @@
-/* entries.c: prints the entries of a statement file, a line each: booking day, amount, currency, credit or debit, payer, text.
+/* entries.c: prints the entries of a statement or an intraday report. The first line says which of them it is, then comes a line for each
+ * entry: booking day, amount, currency, credit or debit, `pending` where it is not booked yet, payer, text.
  *
  *     cc -Iinclude -o entries examples/c/entries.c target/staticlib/libunit.a
  *     ./entries examples/rent-account.xml
  *
- * Ends with 1 where the file is refused, and with 2 where it can't be read.
+ * A file that begins as an image does is read as one, of either version; any other is checked. Ends with 1 where it is refused, and with 2
+ * where it can't be read.
  */
 #include <stdio.h>
 #include "kto.h"
@@ -18,7 +20,7 @@ struct part {
 };
 
 struct entry {
-    struct part day, amount, sign, name, text;
+    struct part day, amount, sign, status, name, text;
 };
 
 /* A number whose most significant byte comes first. */
@@ -56,6 +58,12 @@ static void print_sign(struct part sign) {
     printf("%s", words[sign.bytes[0] - 1]);
 }
 
+/* ENUM: BOOK is the first word of either list, and PDNG the second of a report's. */
+static void print_status(struct part status) {
+    if (status.bytes[0] == 2)
+        printf("  pending");
+}
+
 /* A text, in UTF-8; an entry may have none. */
 static void print_text(struct part text) {
     if (text.size)
@@ -68,12 +76,13 @@ static void print_entry(const struct entry *entry) {
     print_amount(entry->amount);
     printf("  ");
     print_sign(entry->sign);
+    print_status(entry->status);
     print_text(entry->name);
     print_text(entry->text);
     printf("\n");
 }
 
-/* Keeps what is printed of an entry; of a payer and a text, which may come more than once, the first. */
+/* Keeps what is printed of an entry; of a payer and a text, which may come more than once, the first. A report's rows have the same numbers. */
 static void keep(struct entry *entry, uint64_t row, struct part value) {
     switch (row) {
     case KTO_ROW_STMT_NTRY_AMT:
@@ -81,6 +90,9 @@ static void keep(struct entry *entry, uint64_t row, struct part value) {
         break;
     case KTO_ROW_STMT_NTRY_CDTDBTIND:
         entry->sign = value;
+        break;
+    case KTO_ROW_STMT_NTRY_STS_CD:
+        entry->status = value;
         break;
     case KTO_ROW_STMT_NTRY_BOOKGDT_DT:
         entry->day = value;
@@ -101,7 +113,8 @@ static int print_entries(uint64_t length) {
     static const struct entry empty;
     struct entry entry = empty;
     int within = 0;
-    uint64_t from = KTO_ITEMS, row, place, size;
+    uint64_t kind, row, place, size, from = kto_items(image, length, &kind);
+    printf("%s\n", kind == KTO_CAMT052 ? "report" : "statement");
     do {
         uint64_t code = kto_item(image, length, from, &row, &place, &size);
         if (code != KTO_ACCEPTED)
@@ -120,6 +133,18 @@ static int print_entries(uint64_t length) {
     return 0;
 }
 
+/* The image of the file that was read: its own, or the one that it begins with. */
+static uint64_t image_of_file(uint64_t length, uint64_t *row, uint64_t *place) {
+    uint64_t kind;
+    if (!kto_items(file, length, &kind))
+        return kto_check(file, length, image, sizeof image, row, place);
+    *row = 0;
+    uint64_t code = kto_read(file, length, place);
+    for (uint64_t i = 0; code == KTO_ACCEPTED && i < *place; i++)
+        image[i] = file[i];
+    return code;
+}
+
 int main(int count, char **words) {
     FILE *in = count == 2 ? fopen(words[1], "rb") : 0;
     if (!in) {
@@ -128,7 +153,7 @@ int main(int count, char **words) {
     }
     uint64_t length = fread(file, 1, sizeof file, in), row, place;
     fclose(in);
-    uint64_t code = kto_check(file, length, image, sizeof image, &row, &place);
+    uint64_t code = image_of_file(length, &row, &place);
     if (code != KTO_ACCEPTED) {
         printf("refused %llu %llu %llu\n", (unsigned long long)code, (unsigned long long)row, (unsigned long long)place);
         return 1;

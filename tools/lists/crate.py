@@ -77,7 +77,7 @@ unfolding {base}
 LISTING = '''
 {said}unfoldable pub {list} : Listing
 unfolding {listed}
-{list} = record {{ rows = {listed}; rules = {rules}[]; space = ascii "{space}" }}
+{list} = record {{ rows = {listed}; rules = {rules}[]; space = ascii "{space}"; byte = {byte} }}
 '''
 
 
@@ -95,7 +95,7 @@ def house(lists):
             text += LISTED.format(listed=own, rows='\n'.join(f'    {row(it)} ∷  -- {it.number}' for it in found.rows))
         said = ''.join(f'-- "Rule on row {group} (..): rows {one} and {two} are both present or both absent"\n' for group, one, two in found.rules)
         rules = ''.join(f'both {group} {one} {two} ∷ ' for group, one, two in found.rules)
-        text += LISTING.format(said=said, list=found.name, listed=own, rules=rules, space=found.space)
+        text += LISTING.format(said=said, list=found.name, listed=own, rules=rules, space=found.space, byte=found.byte)
     return text
 
 
@@ -112,6 +112,8 @@ use Rattle.text.specs.Bytes.{{ascii}}
         names = Names(found, lists)
         said = ['the list', *(f'{it.number} {it.name}' for it in found.rows)]
         said += ['no row'] * (len(table) - len(said))
+        if found is not lists[0]:
+            said = [f'{found.name}: {what}' for what in said]
         lines = ['    ' + ''.join(f'{cell} ∷ ' for cell in line) + f' -- {what}' for line, what in zip(table, said)]
         text += f'\nunfoldable pub {names.table} : List ℕ\n{names.table} =\n' + '\n'.join(lines) + '\n    []\n'
     name = Names(lists[0], lists).pool
@@ -131,11 +133,11 @@ ghost use Rattle.list_house.specs.mirror.HouseTable.{{{mirrors}}};
 // Rows of sixteen cells (lookup's columns), row 0 the list's own.
 pub type Rows = [u16; {sum(map(len, cells[0]))}];
 
-// Names, words, namespace, one behind the other.
+// Names, words, namespace, one after the other.
 pub type Pool = [u8; {len(pool)}];
 '''
     for found, names, table in zip(lists, all_names, cells):
-        said = ['the list: its rows, its namespace', *(f'{row.number} {row.name}' for row in found.rows)]
+        said = ['the list: its rows, its namespace, its kind byte', *(f'{row.number} {row.name}' for row in found.rows)]
         said += ['no row'] * (len(table) - len(said))
         lines = [f'    // {what}\n' + '\n'.join(f'    {cell},' for cell in line) for line, what in zip(table, said)]
         text += f'\nconst {names.constant}: Rows = [\n' + '\n'.join(lines) + '\n];\n'

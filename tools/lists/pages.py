@@ -1,9 +1,9 @@
-"""The lists for people: the names of rows in include/kto.h, the rows in examples/python/kto.py, and docs/LIST.md."""
+"""The lists for people: kind bytes and names of rows in include/kto.h, the lists in examples/python/kto.py, and docs/LIST.md."""
 import textwrap
 
-BEGIN = '/* The rows of the house list (docs/LIST.md). Written by tools/lists/make, from here .. */'
+BEGIN = '/* The kinds of messages and the rows of their lists (docs/LIST.md). Written by tools/lists/make, from here .. */'
 END = '/* .. to here. */'
-PYTHON_BEGIN = '# The rows of the house list: path, kind, and of an ENUM its words. Written by tools/lists/make, from here ..'
+PYTHON_BEGIN = '# The lists by their kind bytes: the namespace; of each row its path, its kind, and of an ENUM its words. Written by tools/lists/make, from here ..'
 PYTHON_END = '# .. to here.'
 
 # How many bytes a value has in an image (document 01, "Content and its image").
@@ -11,7 +11,8 @@ BYTES = {'REF': '2 + 1 to 35', 'IBAN': '2 + 5 to 34', 'CCY': '2 + 3', 'BOOL': '1
 
 WHAT = (
     'A row is an element at its place in a message. Its number stands in answers, in images and in the calls of the unit. '
-    'C has it by name in `include/kto.h`: `KTO_ROW_` and the path below the second element, in capitals. '
+    "Each kind of message has a list. A file's namespace chooses it, and an image's kind byte says which it was. "
+    'C has both by name in `include/kto.h`: the kind bytes {kinds}, and a row by the path below the second element, in capitals, after {rows}. '
     'This page is written by `tools/lists/make`.'
 )
 COLUMNS = (
@@ -35,6 +36,16 @@ def value(row):
     return BYTES.get(row.kind, '')
 
 
+def row_prefix(lists, found):
+    """What the names of a list's rows begin with for C."""
+    return 'KTO_ROW_' if found is lists[0] else f'KTO_{found.name.upper()}_ROW_'
+
+
+def kind_name(found):
+    """The name of a list's kind byte for C: KTO_CAMT053 of camt.053.001.08."""
+    return 'KTO_' + ''.join(found.message().split('.')[:2]).upper()
+
+
 def constants(found, prefix):
     """The rows with their names for C: the path below the message's element, so that a new row renames no other. A row without a name has none."""
     for row in found.rows:
@@ -44,15 +55,16 @@ def constants(found, prefix):
 
 
 def header(lists, text):
-    """include/kto.h with the names of the rows between its two marks."""
-    blocks, names = [], []
+    """include/kto.h with the kind bytes and the names of the rows between its two marks."""
+    kinds = '\n'.join(f'#define {kind_name(found)} {found.byte}' for found in lists)
+    blocks, names = [kinds], [kind_name(found) for found in lists]
     for found in lists:
-        rows = list(constants(found, 'KTO_ROW_' if found is lists[0] else f'KTO_{found.name.upper()}_ROW_'))
+        rows = list(constants(found, row_prefix(lists, found)))
         names += [name for _, name in rows]
         lines = [f'    {name} = {row.number}' + (',' if row is not rows[-1][0] else '') + (f' /* {kind(row)} */' if value(row) else '') for row, name in rows]
-        blocks.append('\n'.join(['enum {', *lines, '};']))
+        blocks.append('\n'.join([f'/* {found.message()} */', 'enum {', *lines, '};']))
     if len(set(names)) < len(names):
-        raise SystemExit('lists: two rows have one name for C')
+        raise SystemExit('lists: two kinds or rows have one name for C')
     return between('include/kto.h', text, BEGIN, '\n\n'.join(blocks), END)
 
 
@@ -66,10 +78,12 @@ def between(name, text, begin, new, end):
 
 
 def module(lists, text):
-    """examples/python/kto.py with the rows of the first list between its two marks."""
-    found = lists[0]
-    lines = [f'    {row.number}: {("/".join(found.path(row.number)), kind(row), *row.words)!r},' for row in found.rows]
-    return between('examples/python/kto.py', text, PYTHON_BEGIN, '\n'.join(['ROWS = {', *lines, '}']), PYTHON_END)
+    """examples/python/kto.py with the lists between its two marks."""
+    lines = ['SPACES = {', *(f'    {found.byte}: {found.space!r},' for found in lists), '}', 'ROWS = {']
+    for found in lists:
+        rows = (f'        {row.number}: {("/".join(found.path(row.number)), kind(row), *row.words)!r},' for row in found.rows)
+        lines += [f'    {found.byte}: {{', *rows, '    },']
+    return between('examples/python/kto.py', text, PYTHON_BEGIN, '\n'.join([*lines, '}']), PYTHON_END)
 
 
 def paragraph(text):
@@ -78,12 +92,14 @@ def paragraph(text):
 
 def page(lists):
     """docs/LIST.md"""
-    parts = ['# The lists', paragraph(WHAT), paragraph(COLUMNS)]
+    kinds = ' and '.join(f'`{kind_name(found)}`' for found in lists)
+    prefixes = ' or '.join(f'`{row_prefix(lists, found)}`' + ('' if found is lists[0] else f' ({found.message()})') for found in lists)
+    parts = ['# The lists', paragraph(WHAT.format(kinds=kinds, rows=prefixes)), paragraph(COLUMNS)]
     for found in lists:
         lines = ['| Row | Path | Count | Kind | Bytes |', '|---|---|---|---|---|']
         for row in found.rows:
             path = '/'.join(name or '-' for name in found.path(row.number))
             lines.append(f'| {row.number} | {path} | {row.count or "-"} | {kind(row)} | {value(row)} |'.replace('|  |', '| |'))
-        parts += [f'## {found.message()}', f'Namespace: `{found.space}`.', '\n'.join(lines)]
+        parts += [f'## {found.message()}', f'Namespace: `{found.space}`. Kind byte: {found.byte}.', '\n'.join(lines)]
         parts += [paragraph(f'Row {group}: rows {one} and {two} are both present or both absent.') for group, one, two in found.rules]
     return '\n\n'.join(parts) + '\n'

@@ -4,6 +4,7 @@ A line is one of
 
     list NAME                   what the definitions and tables of the list are called
     space NAMESPACE
+    byte NUMBER                 the kind byte of its images
     like NAME                   the rows and rules of an earlier list, but for the rows that stand here
     ROW NAME PARENT COUNT KIND  a row, numbered from 1; `-` is no name and no parent, and a child of a choice has no COUNT
     rule ROW both ROW ROW       of a group: two rows are both present or both absent
@@ -41,10 +42,11 @@ class Row:
 
 
 class Listing:
-    """A list: its rows, the rules of its groups as (group, row, row), its namespace; the list that it is like, and what it changes there."""
+    """A list: its rows, the rules of its groups as (group, row, row), its namespace, its kind byte; the list that it is like, and what it changes there."""
 
     def __init__(self):
         self.name = self.space = self.like = ''
+        self.byte = 0
         self.rows, self.rules, self.changed = [], [], []
 
     def path(self, number):
@@ -63,6 +65,8 @@ class Listing:
             self.name, = rest
         elif first == 'space':
             self.space, = rest
+        elif first == 'byte':
+            self.byte = int(*rest)
         elif first == 'like':
             self.like, = rest
             base = next(other for other in earlier if other.name == self.like)
@@ -97,7 +101,7 @@ def read(folder):
                     found.take(words, lists)
             except (ValueError, TypeError, AttributeError, IndexError, StopIteration):
                 raise Fault(f'{path.name}:{at}: what is this? {line.strip()}') from None
-        if not (found.name and found.space and found.rows):
-            raise Fault(f'{path.name}: a list has a name, a namespace and rows')
+        if not (found.name and found.space and found.byte and found.rows):
+            raise Fault(f'{path.name}: a list has a name, a namespace, a kind byte and rows')
         lists.append(found)
     return lists

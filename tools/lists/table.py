@@ -8,7 +8,7 @@ COLUMNS = 16
 
 
 class Pool:
-    """Names, words and namespaces one behind the other; a text that comes again has its first place."""
+    """Names, words and namespaces one after the other; a text that comes again has its first place."""
 
     def __init__(self):
         self.text = ''
@@ -50,7 +50,7 @@ def tables(lists):
         names = [pool.place('name', row.name) for row in found.rows]
         words = [pool.place('words', ' '.join(row.words)) for row in found.rows]
         space = pool.place('space', found.space)
-        table = [[len(found.rows), *space, *[0] * 6, *derived(found, 0, 0)]]
+        table = [[len(found.rows), *space, found.byte, *[0] * 5, *derived(found, 0, 0)]]
         for row, name, word in zip(found.rows, names, words):
             mate = first(one for _, one, second in found.rules if second == row.number)
             own = [row.parent, COUNTS.index(row.count), KINDS.index(row.kind), row.most, *name, *word, mate]

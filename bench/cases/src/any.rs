@@ -1,13 +1,13 @@
 //! Cases of every class, from a seed: the n-th case of a seed is always the same for the same ops.
 
-use independent::list::ROWS;
+use independent::list::STATEMENT;
 use independent::LIMIT;
 
 use crate::feed::Case;
-use crate::message::chosen::EVERY_ROW;
+use crate::message::chosen::{EVERY_ROW, REPORT_EVERY_ROW};
 use crate::message::{damage, valid, Draft, Size, Style};
 use crate::random::Random;
-use crate::runs::{damaged, filled, image_of, with_microseconds};
+use crate::runs::{damaged, filled, former, image_of, with_microseconds, STATEMENT_FRONT};
 use crate::{writes, xml};
 
 /// What a case is for.
@@ -204,8 +204,8 @@ fn any_room(random: &mut Random) -> usize {
 /// Room for the image exactly, or for a little more or less.
 fn tight_room(random: &mut Random) -> Case {
     let file = file(random);
-    let needed = match independent::check::content(&file) {
-        Ok(content) => independent::content::image(&content).len(),
+    let needed = match independent::check::message(&file) {
+        Ok(message) => independent::content::image(&message).len(),
         Err(_) => 0,
     };
     Case::check(about(needed, random), file)
@@ -280,28 +280,34 @@ fn at_the_limit(random: &mut Random) -> Case {
     }
 }
 
-/// The message with every row and its entry as often as the limit allows, now and then with a byte changed.
+/// A message with every row and its entry as often as the limit allows, now and then with a byte changed.
 fn full_of_entries(random: &mut Random) -> Vec<u8> {
-    let start = EVERY_ROW.find("<Ntry>").expect("an entry");
-    let end = EVERY_ROW.find("</Stmt>").expect("the end of its statement");
-    let entry = &EVERY_ROW[start..end];
-    let times = (LIMIT - EVERY_ROW.len()) / entry.len();
-    let mut file = [&EVERY_ROW[..end], &entry.repeat(times), &EVERY_ROW[end..]].concat().into_bytes();
+    let (message, close) = if random.once_in(2) { (EVERY_ROW, "</Stmt>") } else { (REPORT_EVERY_ROW, "</Rpt>") };
+    let start = message.find("<Ntry>").expect("an entry");
+    let end = message.find(close).expect("the end of its statement or report");
+    let entry = &message[start..end];
+    let times = (LIMIT - message.len()) / entry.len();
+    let mut file = [&message[..end], &entry.repeat(times), &message[end..]].concat().into_bytes();
     if random.once_in(2) {
         xml::mutate(&mut file, random);
     }
     file
 }
 
+/// An image of either kind, a third of the statements in version 1.
 fn image(random: &mut Random) -> Vec<u8> {
     let draft = draft(random);
     let file = Style::DENSE.write(&draft).into_bytes();
     if file.len() > LIMIT {
         return image(random);
     }
+    let mut image = image_of(&file);
+    if image.starts_with(STATEMENT_FRONT) && random.once_in(3) {
+        image = former(&image);
+    }
     match random.once_in(8) {
-        true => with_microseconds(&image_of(&file), any_microseconds(random)),
-        false => image_of(&file),
+        true => with_microseconds(&image, any_microseconds(random)),
+        false => image,
     }
 }
 
@@ -331,7 +337,8 @@ fn pick(run: Vec<u8>, random: &mut Random) -> Case {
         0 => random.one_of(&[&0, &58, &255, &256, &260, &300, &65_540, &u32::MAX]).to_owned(),
         1 | 2 => random.below(60) as u32,
         _ => {
-            let leaves: Vec<u8> = ROWS.iter().filter(|row| row.kind.is_leaf()).map(|row| row.number).collect();
+            let leaves: Vec<u8> =
+                STATEMENT.rows.iter().filter(|row| row.kind.is_leaf()).map(|row| row.number).collect();
             leaves[random.below(leaves.len())].into()
         }
     };

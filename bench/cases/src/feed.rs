@@ -168,7 +168,7 @@ mod tests {
             Case::check(100, "<a></b>").feed(),
             Case::read("KTO\0\u{1}").feed(),
             Case::pick(4, 0, "KTX\0\u{1}").feed(),
-            Case::write(100, "KTO\0\u{2}").feed(),
+            Case::write(100, "KTO\0\u{3}").feed(),
         ];
         assert_eq!(answers(&feed.concat()), "3 0 5 \n17 0 5 \n15 0 0 \n16 0 3 \n");
         assert_eq!(answers(b""), "");

@@ -3,15 +3,15 @@
 use independent::program::{images_program, program, write_program, PROGRAM_LIMIT};
 use independent::LIMIT;
 
-use crate::message::chosen::{EVERY_ROW, WHOLE};
-use crate::runs::{filled, image_of, with_microseconds};
+use crate::message::chosen::{EVERY_ROW, REPORT_EVERY_ROW, REPORT_LEAST, WHOLE};
+use crate::runs::{filled, former, image_of, with_front, with_microseconds};
 use crate::writes::image_for_file_of;
 
 /// An input, and what the independent program says to it.
 pub type Said = (Vec<u8>, Vec<u8>);
 
 /// For `kto`: document 01's whole example first; then every row, nothing, a refusal of each of a few codes, what is as long as may be and
-/// longer, and schema hints.
+/// longer, schema hints; and reports, good ones, and under the namespace of the other kind and of none.
 pub fn kto() -> Vec<Said> {
     let refused = WHOLE.replace("2024-02-29", "2023-02-29");
     let inputs = vec![
@@ -29,12 +29,17 @@ pub fn kto() -> Vec<Said> {
         filled(Vec::new(), 3 * PROGRAM_LIMIT),
         WHOLE.replace("<Document ", "<Document xmlns:xsi='' xsi:schemaLocation='a b' ").into(),
         WHOLE.replace("<Document ", "<Document xsi:schemaLocation='a b' ").into(),
+        REPORT_LEAST.into(),
+        REPORT_EVERY_ROW.into(),
+        REPORT_LEAST.replace("camt.052", "camt.053").into(),
+        WHOLE.replace("camt.053", "camt.052").into(),
+        REPORT_LEAST.replace("camt.052", "camt.054").into(),
     ];
     said(inputs, program)
 }
 
 /// For `write`: the image of every row first; then document 01's, runs with something behind the image, a refusal of each
-/// code, and runs and files as long as may be and longer.
+/// code, and runs and files as long as may be and longer; images of the other version and kind, and without a good kind byte.
 pub fn writes() -> Vec<Said> {
     let (whole, every_row) = (image_of(WHOLE.as_bytes()), image_of(EVERY_ROW.as_bytes()));
     let inputs = vec![
@@ -45,25 +50,32 @@ pub fn writes() -> Vec<Said> {
         Vec::new(),
         b"KTO\x00".to_vec(),
         other_version(&whole),
-        whole[..66].to_vec(),
-        [&whole[..66], b"\x06"].concat(),
+        whole[..67].to_vec(),
+        [&whole[..67], b"\x06"].concat(),
         filled(whole.clone(), LIMIT),
         filled(whole.clone(), LIMIT + 1),
-        filled(whole, 3 * LIMIT),
+        filled(whole.clone(), 3 * LIMIT),
         image_for_file_of(LIMIT),
         image_for_file_of(LIMIT + 1),
         image_for_file_of(4 * LIMIT),
         with_microseconds(&image_of(WHOLE.as_bytes()), 123_456),
         with_microseconds(&image_for_file_of(LIMIT + 1), 1),
+        former(&every_row),
+        former(&whole),
+        image_of(REPORT_EVERY_ROW.as_bytes()),
+        image_of(REPORT_LEAST.as_bytes()),
+        b"KTO\x00\x02".to_vec(),
+        with_front(b"KTO\x00\x02\x03", &whole),
+        with_microseconds(&former(&whole), 1),
     ];
     said(inputs, write_program)
 }
 
-/// For `images`: three images and a damaged one first; then nothing, one image and several, with every refusal behind them
-/// and without any image, a run of the limit's length full of images, and longer runs.
+/// For `images`: three images, of version 1 and of each kind of version 2, and a damaged one first; then nothing, one image and several,
+/// with every refusal behind them and without any image, a run of the limit's length full of images, and longer runs.
 pub fn images() -> Vec<Said> {
     let (whole, every_row) = (image_of(WHOLE.as_bytes()), image_of(EVERY_ROW.as_bytes()));
-    let three = [&whole[..], &every_row, &whole].concat();
+    let three = [&former(&whole)[..], &image_of(REPORT_EVERY_ROW.as_bytes()), &whole].concat();
     let damaged = &every_row[..every_row.len() / 2];
     let behind = |behind: &[u8]| [&three[..], behind].concat();
     let inputs = vec![
@@ -76,7 +88,7 @@ pub fn images() -> Vec<Said> {
         behind(b"KTO\x00"),
         behind(b"KTO\x00\x01"),
         behind(&other_version(&whole)),
-        behind(&whole[..66]),
+        behind(&whole[..67]),
         b"garbage".to_vec(),
         other_version(&whole),
         damaged.to_vec(),
@@ -85,7 +97,12 @@ pub fn images() -> Vec<Said> {
         [&full_of(&whole)[..], b"\x00"].concat(),
         filled(three.clone(), LIMIT),
         filled(three.clone(), LIMIT + 1),
-        filled(three, 3 * LIMIT),
+        filled(three.clone(), 3 * LIMIT),
+        full_of(&former(&whole)),
+        [&image_of(REPORT_LEAST.as_bytes())[..], &three].concat(),
+        behind(b"KTO\x00\x02"),
+        behind(b"KTO\x00\x02\x00"),
+        behind(b"KTO\x00\x02\x02"),
     ];
     said(inputs, images_program)
 }
@@ -96,7 +113,7 @@ fn said(inputs: Vec<Vec<u8>>, program: fn(&[u8]) -> Vec<u8>) -> Vec<Said> {
 
 /// The image with the next version in its header.
 fn other_version(image: &[u8]) -> Vec<u8> {
-    [b"KTO\x00\x02", &image[5..]].concat()
+    [b"KTO\x00\x03", &image[5..]].concat()
 }
 
 /// A run of the limit's length: this image again and again, and one of another length.
@@ -104,7 +121,8 @@ fn full_of(image: &[u8]) -> Vec<u8> {
     let times = LIMIT / image.len() - 1;
     let rest = LIMIT - times * image.len();
     let id = "M".repeat(2 + rest - image.len());
-    let last = image_of(WHOLE.replace("M1", &id).as_bytes());
+    let longer = image_of(WHOLE.replace("M1", &id).as_bytes());
+    let last = if image.len() == 67 { former(&longer) } else { longer };
     [image.repeat(times), last].concat()
 }
 
@@ -126,6 +144,9 @@ mod tests {
         assert_eq!(said[10].1, said[8].1);
         assert_eq!(said[12].1, said[0].1);
         assert_eq!(said[13].1, b"refused 4 1 0\n");
+        assert!(said[14].1.starts_with(b"KTO\x00\x02\x02") && said[15].1.starts_with(b"KTO\x00\x02\x02"));
+        assert!(said[16].1.starts_with(b"refused 5 1 ") && said[17].1.starts_with(b"refused 5 1 "));
+        assert_eq!(said[18].1, b"refused 4 1 0\n");
     }
 
     #[test]
@@ -135,21 +156,30 @@ mod tests {
         assert_eq!(said[10].1, b"refused 1 0 1048576\n");
         assert_eq!(said[12].1.len(), LIMIT);
         assert_eq!(said[13].1, b"refused 19 0 1048577\n");
-        assert_eq!(said[15].1, b"refused 20 5 13\n");
-        assert_eq!(said[16].1, b"refused 20 5 13\n");
+        assert_eq!(said[15].1, b"refused 20 5 14\n");
+        assert_eq!(said[16].1, b"refused 20 5 14\n");
+        assert_eq!((&said[17].1, &said[18].1), (&said[0].1, &said[1].1), "either version");
+        assert_eq!(said[21].1, b"refused 17 0 5\n");
+        assert_eq!(said[22].1, b"refused 17 0 5\n");
+        assert_eq!(said[23].1, b"refused 20 5 13\n");
     }
 
     #[test]
     fn a_full_run_is_divided_to_its_end_and_a_longer_one_is_not() {
         let said = images();
-        assert_eq!(lines(&said[0])[..3], ["0 67", "67 342", "409 67"]);
+        let report = image_of(REPORT_EVERY_ROW.as_bytes()).len();
+        let three = ["0 67".to_string(), format!("67 {report}"), format!("{} 68", 67 + report)];
+        assert_eq!(lines(&said[0])[..3], three);
         assert!(lines(&said[0])[3].starts_with("refused 17 0 "));
         assert_eq!(said[1].1, b"");
         assert_eq!(said[14].0.len(), LIMIT);
-        assert_eq!(lines(&said[14]).len(), LIMIT / 67);
-        assert!(lines(&said[14]).iter().all(|line| !line.starts_with("refused")));
+        assert_eq!((lines(&said[14]).len(), lines(&said[19]).len()), (LIMIT / 68, LIMIT / 67));
+        assert!([14, 19].iter().all(|number| lines(&said[*number]).iter().all(|line| !line.starts_with("refused"))));
         assert_eq!(lines(&said[15]), ["refused 1 0 1048576"]);
-        assert_eq!(lines(&said[16]), ["0 67", "67 342", "409 67", "refused 15 0 0"]);
+        assert_eq!(lines(&said[16]), [&three[..], &["refused 15 0 0".to_string()]].concat());
         assert_eq!(lines(&said[17]), ["refused 1 0 1048576"]);
+        for (number, place) in [(21, 5), (22, 5), (23, 6)] {
+            assert_eq!(lines(&said[number])[3], format!("refused 17 0 {place}"));
+        }
     }
 }

@@ -7,10 +7,9 @@
 
 use std::rc::Rc;
 
-use cases::message::chosen::EVERY_ROW;
 use cases::random::Random;
-use cases::runs::{image_of, take_apart};
-use independent::list::{children, find, Kind, Row, ROWS, RULE_FIRST, RULE_SECOND};
+use cases::runs::{items_of, put_together, FRONTS};
+use independent::list::{Kind, List, Row, LISTS, RULE_FIRST, RULE_SECOND};
 use independent::order::Order;
 
 /// Which sequences of rows there are.
@@ -79,11 +78,12 @@ impl Rows {
 }
 
 /// The sequences of an element of this row: the row, and for a group what its children give.
-fn element(row: &Row) -> Rows {
+fn element(list: &List, row: &Row) -> Rows {
+    let children = list.children(row.number);
     match row.kind {
-        Kind::Choice => then(One(row.number), children(row.number).map(element).fold(Nothing, either)),
+        Kind::Choice => then(One(row.number), children.map(|child| element(list, child)).fold(Nothing, either)),
         Kind::Group => {
-            let inside = children(row.number).map(counted).fold(Empty, then);
+            let inside = children.map(|child| counted(list, child)).fold(Empty, then);
             // "Every group has at least one child element."
             then(One(row.number), NotEmpty(inside.into()))
         }
@@ -92,11 +92,11 @@ fn element(row: &Row) -> Rows {
 }
 
 /// A child with its count. "Rows 47 and 48 are both present or both absent": they count as one pair.
-fn counted(row: &Row) -> Rows {
+fn counted(list: &List, row: &Row) -> Rows {
     let one = match row.number {
-        RULE_FIRST => then(element(row), element(find(RULE_SECOND).unwrap())),
+        RULE_FIRST => then(element(list, row), element(list, list.find(RULE_SECOND).unwrap())),
         RULE_SECOND => return Empty,
-        _ => element(row),
+        _ => element(list, row),
     };
     match (row.count.required, row.count.repeats) {
         (true, false) => one,
@@ -108,44 +108,49 @@ fn counted(row: &Row) -> Rows {
 
 impl Rows {
     /// A shortest sequence of these, if there is one.
-    fn shortest(&self) -> Option<Vec<u8>> {
+    fn shortest(&self, list: &List) -> Option<Vec<u8>> {
         match self {
             Nothing => None,
             Empty | Repeated(_) => Some(Vec::new()),
             One(row) => Some(vec![*row]),
-            Then(first, second) => Some([first.shortest()?, second.shortest()?].concat()),
+            Then(first, second) => Some([first.shortest(list)?, second.shortest(list)?].concat()),
             Either(first, second) => {
-                [first.shortest(), second.shortest()].into_iter().flatten().min_by_key(|rows| rows.len())
+                [first.shortest(list), second.shortest(list)].into_iter().flatten().min_by_key(|rows| rows.len())
             }
             // A group whose children are all optional: any of them will do.
-            NotEmpty(rows) => rows.shortest().filter(|shortest| !shortest.is_empty()).or_else(|| {
-                let begins = |row: &Row| Some([vec![row.number], rows.after(row.number).shortest()?].concat());
-                ROWS.iter().filter_map(begins).min_by_key(|rows| rows.len())
+            NotEmpty(rows) => rows.shortest(list).filter(|shortest| !shortest.is_empty()).or_else(|| {
+                let begins = |row: &Row| Some([vec![row.number], rows.after(row.number).shortest(list)?].concat());
+                list.rows.iter().filter_map(begins).min_by_key(|rows| rows.len())
             }),
         }
     }
 }
 
 /// Some item of each row, by row.
-fn some_items() -> Vec<Vec<u8>> {
-    let items = take_apart(&image_of(EVERY_ROW.as_bytes()));
-    let item = |row: &Row| items.iter().find(|item| item[0] == row.number).unwrap().clone();
-    ROWS.iter().map(item).collect()
+fn some_items(list: &List) -> Vec<Vec<u8>> {
+    items_of(list, &list.rows.iter().map(|row| row.number).collect::<Vec<u8>>())
 }
 
 /// "the most whole items that begin some image": every beginning is completed by the expression, and read; and every row
-/// that can't come next stops the reader there.
+/// that can't come next stops the reader there. In each version, for each kind: items begin at 5, "item places in version 2 count
+/// from 6".
 #[test]
 fn beginnings_are_completed_and_nothing_else_is_taken() {
-    let items = some_items();
+    for ((front, list), start) in FRONTS.into_iter().zip([5, 6, 6]) {
+        beginnings(front, list, start);
+    }
+}
+
+fn beginnings(front: &[u8], list: &List, start: usize) {
+    let items = some_items(list);
     let bytes = |rows: &[u8]| rows.iter().flat_map(|row| items[usize::from(*row) - 1].clone()).collect::<Vec<u8>>();
-    let run = |rows: &[u8]| [b"KTO\0\x01", &bytes(rows)[..], b"\0"].concat();
+    let run = |rows: &[u8]| put_together(front, &[bytes(rows)]);
     let mut random = Random::new(18);
     for _ in 0..150 {
-        let mut rows = element(find(1).unwrap());
+        let mut rows = element(list, list.root());
         let mut taken = Vec::new();
         for _ in 0..random.between(1, 60) {
-            let next: Vec<&Row> = ROWS.iter().filter(|row| rows.after(row.number) != Nothing).collect();
+            let next: Vec<&Row> = list.rows.iter().filter(|row| rows.after(row.number) != Nothing).collect();
             if next.is_empty() {
                 break;
             }
@@ -153,17 +158,17 @@ fn beginnings_are_completed_and_nothing_else_is_taken() {
             rows = rows.after(row.number);
             taken.push(row.number);
         }
-        let whole = run(&[&taken[..], &rows.shortest().expect("a completion")].concat());
+        let whole = run(&[&taken[..], &rows.shortest(list).expect("a completion")].concat());
         let answer = independent::read(&whole);
         assert_eq!((answer.code.number(), answer.place), (0, whole.len()), "{taken:?}");
-        for row in &ROWS {
+        for row in list.rows {
             let answer = independent::read(&run(&[&taken[..], &[row.number]].concat()));
             if rows.after(row.number) == Nothing {
-                let expected = (17, 5 + bytes(&taken).len());
+                let expected = (17, start + bytes(&taken).len());
                 // The closing 0 isn't reached: the reader stops at the item before it.
                 assert_eq!((answer.code.number(), answer.place), expected, "{taken:?} {}", row.number);
             } else {
-                assert!(answer.place > 5 + bytes(&taken).len(), "{taken:?} {}", row.number);
+                assert!(answer.place > start + bytes(&taken).len(), "{taken:?} {}", row.number);
             }
         }
     }
@@ -171,14 +176,18 @@ fn beginnings_are_completed_and_nothing_else_is_taken() {
 
 #[test]
 fn the_stack_and_the_expression_go_the_same_ways() {
+    LISTS.into_iter().for_each(same_ways);
+}
+
+fn same_ways(list: &'static List) {
     let mut random = Random::new(17);
     let (mut steps, mut ends) = (0, 0);
     for _ in 0..300 {
-        let mut rows = element(find(1).unwrap());
-        let mut order = Order::start();
+        let mut rows = element(list, list.root());
+        let mut order = Order::start(list);
         for _ in 0..random.between(1, 150) {
             let mut next = Vec::new();
-            for row in &ROWS {
+            for row in list.rows {
                 let by_stack = order.clone().take(row);
                 let by_expression = rows.after(row.number) != Nothing;
                 assert_eq!(by_stack, by_expression, "row {} after {order:?}", row.number);

@@ -1,12 +1,12 @@
 //! Reader, writer and checker: a run that the reader accepts is written as a file, and the checker accepts that file and gives
-//! the same image.
+//! the same image, where the run's is of version 1 "the version 2 image of that content".
 //!
 //! So the reader accepts nothing but images of rule-meeting contents, and "The written file is accepted and gives the same
 //! image." Written again it is the same file, and no blank of it could be left out. What has a finer fraction than a file says
 //! "is still read", and of it that without what is finer is written.
 
 use cases::any::{Class, Source};
-use cases::runs;
+use cases::runs::{self, FRONTS};
 use independent::read::first_image;
 use independent::{check, read, write, Code, LIMIT};
 
@@ -31,7 +31,11 @@ fn examine(run: &[u8]) {
     let length = first_image(run).unwrap().length;
     if let Some(file) = written(run) {
         let text = String::from_utf8_lossy(&file);
-        assert_eq!(image(&file).as_deref(), Some(&run[..length]), "{text}");
+        let expected = match run[4] {
+            1 => [b"KTO\x00\x02\x01", &run[5..length]].concat(),
+            _ => run[..length].to_vec(),
+        };
+        assert_eq!(image(&file), Some(expected), "{text}");
         assert_eq!(written(&run[..length]).unwrap(), file, "{text}");
     } else if write(run, &mut []).code == Code::FinerThanAFile {
         examine(&runs::with_microseconds(&run[..length], 120_000));
@@ -41,17 +45,19 @@ fn examine(run: &[u8]) {
 #[test]
 fn accepted_runs_are_images_of_files() {
     let source = Source::new(&[1, 2, 3], 21);
-    let (mut accepted, mut of_damaged) = (0, 0);
+    let (mut accepted, mut of_damaged, mut fronts) = (0, 0, [0; 3]);
     for number in 0..7_000 {
         let (class, case) = source.case(number);
         if !matches!(class, Class::AtTheLimit | Class::WriteAtTheLimit) && read(&case.bytes).is_accepted() {
             examine(&case.bytes);
+            fronts[FRONTS.iter().position(|(front, _)| case.bytes.starts_with(front)).unwrap()] += 1;
             accepted += 1;
             of_damaged +=
                 usize::from(matches!(class, Class::DamagedRun | Class::PickFromDamaged | Class::WriteFromDamaged));
         }
     }
     assert!(accepted > 2000 && of_damaged > 100, "{accepted} accepted, {of_damaged} of them after damage");
+    assert!(fronts.iter().all(|count| *count > 400), "{fronts:?}: of version 1, and of each kind of version 2");
 }
 
 #[test]

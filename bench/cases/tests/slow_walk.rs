@@ -8,15 +8,15 @@
 use cases::any::Source;
 use cases::feed::{Case, Op};
 use independent::house::{parse, resolve, Element, Part};
-use independent::list::{children, find, Kind, Row, NAMESPACE};
+use independent::list::{Kind, List, Row, REPORT, STATEMENT};
 use independent::types::{code, value};
 use independent::walk::walk;
 
 /// Moment, rank, and the answer: code, row, place.
 type Violation = (usize, usize, (u8, u8, usize));
 
-#[derive(Default)]
 struct Collected {
+    list: &'static List,
     moment: usize,
     violations: Vec<Violation>,
 }
@@ -31,7 +31,7 @@ impl Collected {
     /// All violations at and in an element of this row; `None` for an element that the list doesn't know.
     fn element(&mut self, row: Option<&Row>, element: &Element) {
         let texts: Vec<&[u8]> = element.parts.iter().filter_map(|part| text_of(part)).collect();
-        let rows: Vec<Option<&Row>> = element.parts.iter().map(|part| row_of(row, part)).collect();
+        let rows: Vec<Option<&Row>> = element.parts.iter().map(|part| row_of(self.list, row, part)).collect();
         for (index, part) in element.parts.iter().enumerate() {
             self.moment += 1;
             match part {
@@ -85,7 +85,9 @@ impl Collected {
             self.add(text.is_empty(), 1, (11, row.number, at));
             self.add(value(row.kind, &text, currency).is_none(), 3, (12, row.number, at));
         } else {
-            let absent = children(row.number)
+            let absent = self
+                .list
+                .children(row.number)
                 .filter(|child| child.count.required && !has(child.number))
                 .min_by_key(|r| r.number);
             self.add(inside.is_empty(), 1, (11, row.number, at));
@@ -104,16 +106,15 @@ fn text_of<'a>(part: &Part<'a>) -> Option<&'a [u8]> {
     }
 }
 
-fn row_of(parent: Option<&Row>, part: &Part) -> Option<&'static Row> {
+fn row_of(list: &List, parent: Option<&Row>, part: &Part) -> Option<&'static Row> {
     match part {
-        Part::Child(child) => children(parent?.number).find(|row| row.name.as_bytes() == child.name),
+        Part::Child(child) => list.children(parent?.number).find(|row| row.name.as_bytes() == child.name),
         Part::Text(_) => None,
     }
 }
 
 /// The first violation of a message.
 fn slow_walk(root: &Element) -> Option<(u8, u8, usize)> {
-    let mut collected = Collected::default();
     let mut carried: Vec<(&[u8], &[u8])> = root.attributes.iter().map(|a| (a.name, a.raw)).collect();
     carried.sort();
     let space = match &carried[..] {
@@ -122,33 +123,41 @@ fn slow_walk(root: &Element) -> Option<(u8, u8, usize)> {
         [(b"xmlns", raw), (b"xmlns:xsi", _), (b"xsi:schemaLocation", _)] => Some(raw),
         _ => None,
     };
-    let good = root.name == b"Document" && space.is_some_and(|raw| **raw == *NAMESPACE.as_bytes());
+    let list = match space.map(|raw| String::from_utf8_lossy(raw)).as_deref() {
+        Some("urn:iso:std:iso:20022:tech:xsd:camt.053.001.08") => Some(&STATEMENT),
+        Some("urn:iso:std:iso:20022:tech:xsd:camt.052.001.08") => Some(&REPORT),
+        _ => None,
+    };
+    let good = root.name == b"Document" && list.is_some();
+    let list = list.unwrap_or(&STATEMENT);
+    let mut collected = Collected { list, moment: 0, violations: Vec::new() };
     collected.add(!good, 4, (4, 1, root.at));
-    collected.element(find(1), root);
+    collected.element(Some(list.root()), root);
     collected.violations.into_iter().min_by_key(|(moment, rank, _)| (*moment, *rank)).map(|(_, _, answer)| answer)
 }
 
-/// Whether the case was one for the walk at all, and what the walk said.
-fn examine(case: &Case) -> Option<u8> {
+/// Whether the case was one for the walk at all, and what the walk said; and of which kind the message says that it is.
+fn examine(case: &Case) -> Option<(u8, bool)> {
     if !matches!(case.op, Op::Check { .. }) || std::str::from_utf8(&case.bytes).is_err() {
         return None;
     }
     let root = parse(&case.bytes).ok()?;
     let quick = walk(&root).err().map(|answer| (answer.code.number(), answer.row, answer.place));
     assert_eq!(quick, slow_walk(&root), "{}", String::from_utf8_lossy(&case.bytes));
-    Some(quick.map_or(0, |answer| answer.0))
+    let is_report = case.bytes.windows(8).any(|bytes| bytes == b"camt.052");
+    Some((quick.map_or(0, |answer| answer.0), is_report))
 }
 
 #[test]
 fn both_ways_give_the_same_answers() {
-    let mut codes = [0; 14];
+    let mut codes = [[0; 14]; 2];
     let source = Source::new(&[0, 1, 2], 31);
     for number in 0..20_000 {
-        if let Some(code) = examine(&source.case(number).1) {
-            codes[usize::from(code)] += 1;
+        if let Some((code, is_report)) = examine(&source.case(number).1) {
+            codes[usize::from(is_report)][usize::from(code)] += 1;
         }
     }
-    assert!((4..=13).all(|code| codes[code] > 50), "{codes:?}");
+    assert!((4..=13).all(|code| codes[0][code] > 50 && codes[1][code] > 25), "{codes:?}");
 }
 
 #[test]

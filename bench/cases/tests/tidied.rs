@@ -4,16 +4,16 @@
 use cases::message::{valid, Draft, Part, Size, Style};
 use cases::random::Random;
 use cases::runs::image_of;
-use independent::list::{children, find, Kind, Row};
+use independent::list::{Kind, List, Row};
 use independent::{write, LIMIT};
 
 /// The draft with every leaf's raw text as document 02 wants it.
-fn tidied(row: &Row, draft: &Draft) -> Draft {
+fn tidied(list: &List, row: &Row, draft: &Draft) -> Draft {
     let parts = draft.parts.iter().map(|part| match part {
         Part::Text(raw) => Part::Text(tidied_text(row.kind, raw)),
         Part::Child(child) => {
-            let row = children(row.number).find(|row| row.name == child.name).expect("a made message");
-            Part::Child(tidied(row, child))
+            let row = list.children(row.number).find(|row| row.name == child.name).expect("a made message");
+            Part::Child(tidied(list, row, child))
         }
     });
     // Schema hints "belong to no content", and an attribute that stays has no colon.
@@ -86,7 +86,8 @@ fn written_files_are_tidied_drafts() {
         let file = Style::any(&mut random).write(&draft);
         let answer = write(&image_of(file.as_bytes()), &mut room);
         assert!(answer.is_accepted());
-        let expected = Style::DENSE.write(&tidied(find(1).unwrap(), &draft));
+        let list = draft.list().expect("a made message");
+        let expected = Style::DENSE.write(&tidied(list, list.root(), &draft));
         assert_eq!(String::from_utf8_lossy(&room[..answer.place]), expected, "{file}");
     }
 }

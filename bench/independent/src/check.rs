@@ -1,14 +1,16 @@
-//! The checker: "reads one camt.053.001.08 message from a lent buffer and writes its record image into a second".
+//! The checker: "reads one camt.053.001.08 message from a lent buffer and writes its record image into a second", and of "camt.052.001.08
+//! as a second message kind".
 
 use crate::answer::{Answer, Code};
-use crate::content::{image, Content};
+use crate::content::{image, Message};
+use crate::list::List;
 use crate::{house, walk, LIMIT};
 
 /// "Acceptance is 0, row 0, image length; bytes of the result buffer beyond the image stay. Any other code leaves that
 /// buffer unchanged."
 pub fn check(input: &[u8], out: &mut [u8]) -> Answer {
-    let image = match content(input) {
-        Ok(content) => image(&content),
+    let image = match message(input) {
+        Ok(message) => image(&message),
         Err(refused) => return refused,
     };
     // 14: "valid, but image longer than the buffer", with the "bytes needed"; "14 comes last".
@@ -22,7 +24,7 @@ pub fn check(input: &[u8], out: &mut [u8]) -> Answer {
 }
 
 /// "Codes 1, 2, 3 are judged in turn over the whole input; then the message is walked."
-pub fn content(input: &[u8]) -> Result<Content, Answer> {
+pub fn message(input: &[u8]) -> Result<Message, Answer> {
     // 1: "input over 1,048,576 bytes".
     if input.len() > LIMIT {
         return Err(Answer::new(Code::TooLong, 0, LIMIT));
@@ -34,4 +36,9 @@ pub fn content(input: &[u8]) -> Result<Content, Answer> {
     // 3: "not house XML".
     let root = house::parse(input).map_err(|place| Answer::new(Code::NotHouseXml, 0, place))?;
     walk::walk(&root)
+}
+
+/// "The namespace chooses the list": that of a file, if it is house XML and its root is good.
+pub fn list_of(input: &[u8]) -> Option<&'static List> {
+    walk::list_of(&house::parse(input).ok()?)
 }

@@ -1,5 +1,6 @@
 //! "Content is the tree of rows with values", and its image.
 
+use crate::list::List;
 use crate::types::{Amount, Date, DateTime, Value};
 
 #[derive(Clone, PartialEq, Eq, Debug)]
@@ -16,16 +17,30 @@ impl Content {
     }
 }
 
-/// "`KTO`, version 1 in 16 bits": what every image begins with.
-pub const HEADER: &[u8; 5] = b"KTO\x00\x01";
+/// A message: its tree, "the kind being part of the content".
+#[derive(Clone, PartialEq, Eq, Debug)]
+pub struct Message {
+    pub list: &'static List,
+    pub root: Content,
+}
+
+/// "`KTO`": what every image begins with.
+pub const MARK: &[u8; 3] = b"KTO";
+
+/// "version 1 in 16 bits": such images are statements, without a kind byte, and are read only.
+pub const FORMER_VERSION: u16 = 1;
+
+/// "New images are version 2": "only 2 is written from now on".
+pub const VERSION: u16 = 2;
 
 /// "one byte 0": what every image ends with.
 pub const END: u8 = 0;
 
-/// "Image: `KTO`, version 1 in 16 bits, one item per element in document order, one byte 0."
-pub fn image(content: &Content) -> Vec<u8> {
-    let mut image = HEADER.to_vec();
-    write_items(content, &mut image);
+/// "Image: `KTO`, version .. in 16 bits, one item per element in document order, one byte 0", and "after the version comes a kind
+/// byte".
+pub fn image(message: &Message) -> Vec<u8> {
+    let mut image = [&MARK[..], &VERSION.to_be_bytes(), &[message.list.byte]].concat();
+    write_items(&message.root, &mut image);
     image.push(END);
     image
 }

@@ -1,4 +1,6 @@
-//! "The house list. Row, name, parent row, count, kind."
+//! "The house list. Row, name, parent row, count, kind." And the list of the second message kind, section 5 of document 02.
+
+use std::fmt;
 
 /// A row's kind. "G is a group in sequence, C a group that is a choice of exactly one child"; the others are leaves.
 #[derive(Clone, Copy, PartialEq, Eq, Debug)]
@@ -61,11 +63,15 @@ const BALANCE: Kind = Kind::Enum(&["OPBD", "CLBD", "PRCD"]);
 const SIDE: Kind = Kind::Enum(&["CRDT", "DBIT"]);
 const BOOKED: Kind = Kind::Enum(&["BOOK"]);
 
+/// Of a report: "Bal 0..n with OPBD, CLBD, PRCD, ITBD, Sts codes BOOK and PDNG".
+const REPORT_BALANCE: Kind = Kind::Enum(&["OPBD", "CLBD", "PRCD", "ITBD"]);
+const BOOKED_OR_PENDING: Kind = Kind::Enum(&["BOOK", "PDNG"]);
+
 use Kind::{Amt, Bool, Ccy, Choice, Date, Dtm, Group, Iban, Num, Ref, Txt};
 
 /// The 57 rows, typed from document 01.
 #[rustfmt::skip]
-pub const ROWS: [Row; 57] = [
+const STATEMENT_ROWS: [Row; 57] = [
     row(1, "Document", 0, ONE, Group),
     row(2, "BkToCstmrStmt", 1, ONE, Group),
     row(3, "GrpHdr", 2, ONE, Group),
@@ -125,29 +131,92 @@ pub const ROWS: [Row; 57] = [
     row(57, "Ustrd", 56, ANY, Txt(140)),
 ];
 
+/// "Root child BkToCstmrAcctRpt with Rpt in place of Stmt .., Bal 0..n with OPBD, CLBD, PRCD, ITBD, Sts codes BOOK and PDNG, the
+/// rest of the house list as it is."
+const REPORT_ROWS: [Row; 57] = {
+    let mut rows = STATEMENT_ROWS;
+    rows[1] = row(2, "BkToCstmrAcctRpt", 1, ONE, Group);
+    rows[5] = row(6, "Rpt", 2, MANY, Group);
+    rows[14] = row(15, "Bal", 6, ANY, Group);
+    rows[17] = row(18, "Cd", 17, ONE, REPORT_BALANCE);
+    rows[27] = row(28, "Cd", 27, ONE, BOOKED_OR_PENDING);
+    rows
+};
+
 /// "Rule on row 43: rows 47 and 48 are both present or both absent."
 pub const RULE_ROW: u8 = 43;
 pub const RULE_FIRST: u8 = 47;
 pub const RULE_SECOND: u8 = 48;
 
-/// The namespace that code 4 asks of the root's xmlns.
-pub const NAMESPACE: &str = "urn:iso:std:iso:20022:tech:xsd:camt.053.001.08";
-
-/// The row of a number from 1 to 57.
-pub fn find(number: u8) -> Option<&'static Row> {
-    ROWS.get((number as usize).checked_sub(1)?)
+/// A message kind with its rows.
+#[derive(PartialEq, Eq)]
+pub struct List {
+    /// "camt.053.001.08"
+    pub message: &'static str,
+    /// What such a message is called.
+    pub name: &'static str,
+    /// "a kind byte, 1 for camt.053, 2 for camt.052"
+    pub byte: u8,
+    /// The root's xmlns: "The namespace chooses the list."
+    pub namespace: &'static str,
+    pub rows: &'static [Row],
 }
 
-/// The rows below a parent, in row order; the only row below parent 0 is the root.
-pub fn children(parent: u8) -> impl Iterator<Item = &'static Row> {
-    ROWS.iter().filter(move |row| row.parent == parent)
+pub static STATEMENT: List = List {
+    message: "camt.053.001.08",
+    name: "statement",
+    byte: 1,
+    namespace: "urn:iso:std:iso:20022:tech:xsd:camt.053.001.08",
+    rows: &STATEMENT_ROWS,
+};
+
+pub static REPORT: List = List {
+    message: "camt.052.001.08",
+    name: "report",
+    byte: 2,
+    namespace: "urn:iso:std:iso:20022:tech:xsd:camt.052.001.08",
+    rows: &REPORT_ROWS,
+};
+
+pub static LISTS: [&List; 2] = [&STATEMENT, &REPORT];
+
+impl List {
+    /// The list whose kind byte this is.
+    pub fn of_byte(byte: u8) -> Option<&'static List> {
+        LISTS.into_iter().find(|list| list.byte == byte)
+    }
+
+    /// The list that a namespace chooses.
+    pub fn of_namespace(namespace: &[u8]) -> Option<&'static List> {
+        LISTS.into_iter().find(|list| list.namespace.as_bytes() == namespace)
+    }
+
+    /// The row of a number from 1.
+    pub fn find(&self, number: u8) -> Option<&'static Row> {
+        self.rows.get((number as usize).checked_sub(1)?)
+    }
+
+    pub fn root(&self) -> &'static Row {
+        &self.rows[0]
+    }
+
+    /// The rows below a parent, in row order; the only row below parent 0 is the root.
+    pub fn children(&self, parent: u8) -> impl Iterator<Item = &'static Row> {
+        self.rows.iter().filter(move |row| row.parent == parent)
+    }
+
+    /// The names from the root down, as `Document/BkToCstmrStmt/Stmt`.
+    pub fn path(&self, row: &Row) -> String {
+        match self.find(row.parent) {
+            Some(parent) => format!("{}/{}", self.path(parent), row.name),
+            None => row.name.to_string(),
+        }
+    }
 }
 
-/// The names from the root down, as `Document/BkToCstmrStmt/Stmt`.
-pub fn path(row: &Row) -> String {
-    match find(row.parent) {
-        Some(parent) => format!("{}/{}", path(parent), row.name),
-        None => row.name.to_string(),
+impl fmt::Debug for List {
+    fn fmt(&self, f: &mut fmt::Formatter) -> fmt::Result {
+        f.write_str(self.message)
     }
 }
 
@@ -156,20 +225,20 @@ mod tests {
     use super::*;
 
     /// "its well-formedness .. is one fact over that table"
-    #[test]
-    fn the_list_is_well_formed() {
+    fn is_well_formed(list: &List) {
         let name_start = |c: char| c.is_ascii_alphabetic() || c == '_';
         let name_rest = |c: char| c.is_ascii_alphanumeric() || "._-".contains(c);
-        for (index, row) in ROWS.iter().enumerate() {
+        assert!(list.rows.len() <= 255, "at most 255 rows");
+        for (index, row) in list.rows.iter().enumerate() {
             assert_eq!(row.number as usize, index + 1, "rows are numbered from 1");
             assert_eq!(row.parent == 0, row.number == 1, "row 1 is the only root");
             assert!(row.parent < row.number, "parents before children");
-            assert!(path(row).split('/').count() <= 16, "at most 16 levels");
+            assert!(list.path(row).split('/').count() <= 16, "at most 16 levels");
             assert!(row.name.starts_with(name_start) && row.name.chars().all(name_rest));
-            assert_eq!(children(row.number).count() == 0, row.kind.is_leaf());
-            let same_name = children(row.parent).filter(|other| other.name == row.name);
+            assert_eq!(list.children(row.number).count() == 0, row.kind.is_leaf());
+            let same_name = list.children(row.parent).filter(|other| other.name == row.name);
             assert_eq!(same_name.count(), 1, "names differ among siblings");
-            if let Some(parent) = find(row.parent) {
+            if let Some(parent) = list.find(row.parent) {
                 assert!(parent.kind != Choice || row.count == CHOSEN);
             }
             match row.kind {
@@ -187,9 +256,33 @@ mod tests {
     }
 
     #[test]
+    fn the_lists_are_well_formed() {
+        LISTS.into_iter().for_each(is_well_formed);
+    }
+
+    /// A namespace and a byte lead to one list each, and anything else to none.
+    #[test]
+    fn lists_are_chosen() {
+        for list in LISTS {
+            assert_eq!(List::of_byte(list.byte), Some(list));
+            assert_eq!(List::of_namespace(list.namespace.as_bytes()), Some(list));
+            assert!(list.namespace.ends_with(list.message));
+        }
+        assert_ne!(STATEMENT, REPORT);
+        for byte in [0, 3, 255] {
+            assert_eq!(List::of_byte(byte), None);
+        }
+        for other in ["", "camt.053.001.08", "urn:iso:std:iso:20022:tech:xsd:camt.054.001.08"] {
+            assert_eq!(List::of_namespace(other.as_bytes()), None);
+        }
+    }
+
+    #[test]
     fn paths_are_spelled_from_the_root() {
-        assert_eq!(path(find(24).unwrap()), "Document/BkToCstmrStmt/Stmt/Ntry/Amt");
-        assert_eq!(find(0), None);
-        assert_eq!(find(58), None);
+        let path = |list: &List| list.path(list.find(24).unwrap());
+        assert_eq!(path(&STATEMENT), "Document/BkToCstmrStmt/Stmt/Ntry/Amt");
+        assert_eq!(path(&REPORT), "Document/BkToCstmrAcctRpt/Rpt/Ntry/Amt");
+        assert_eq!(STATEMENT.find(0), None);
+        assert_eq!(REPORT.find(58), None);
     }
 }

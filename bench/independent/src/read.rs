@@ -4,8 +4,8 @@ use std::ops::Range;
 
 use crate::answer::{Answer, Code};
 use crate::bytes::find_value;
-use crate::content::{END, HEADER};
-use crate::list::find;
+use crate::content::{END, FORMER_VERSION, MARK, VERSION};
+use crate::list::{List, STATEMENT};
 use crate::order::Order;
 use crate::types::Value;
 use crate::LIMIT;
@@ -23,6 +23,8 @@ pub struct Item {
 /// The image at the beginning of a run.
 #[derive(Clone, PartialEq, Eq, Debug)]
 pub struct Image {
+    pub version: u16,
+    pub list: &'static List,
     pub items: Vec<Item>,
     pub length: usize,
 }
@@ -41,31 +43,43 @@ pub fn first_image(run: &[u8]) -> Result<Image, Answer> {
     if run.len() > LIMIT {
         return Err(Answer::new(Code::TooLong, 0, LIMIT));
     }
-    // "15 fewer than five bytes or no `KTO`, place 0"
-    if run.len() < HEADER.len() || run[..3] != HEADER[..3] {
-        return Err(Answer::new(Code::NotAnImage, 0, 0));
-    }
-    // "16 version not 1, place 3"
-    if run[3..5] != HEADER[3..5] {
-        return Err(Answer::new(Code::WrongVersion, 0, 3));
-    }
+    let (version, list, mut at) = front(run)?;
     let mut items = Vec::new();
-    let mut order = Order::start();
-    let mut at = HEADER.len();
+    let mut order = Order::start(list);
     loop {
         if run.get(at) == Some(&END) && order.may_end() {
-            return Ok(Image { items, length: at + 1 });
+            return Ok(Image { version, list, items, length: at + 1 });
         }
-        // "17 .. place 5 plus the bytes of the most whole items that begin some image"
-        let (item, length) = next_item(run, at, &mut order).ok_or(Answer::new(Code::NoWholeImage, 0, at))?;
+        // "17 .. place 5 plus the bytes of the most whole items that begin some image", and "item places in version 2 count from 6"
+        let (item, length) = next_item(list, run, at, &mut order).ok_or(Answer::new(Code::NoWholeImage, 0, at))?;
         items.push(item);
         at += length;
     }
 }
 
+/// What stands before the items of a run's first image: its version, and the list that its items go by; and where they begin.
+fn front(run: &[u8]) -> Result<(u16, &'static List, usize), Answer> {
+    // "15 fewer than five bytes or no `KTO`, place 0"
+    let version = match run {
+        [a, b, c, high, low, ..] if [*a, *b, *c] == *MARK => u16::from_be_bytes([*high, *low]),
+        _ => return Err(Answer::new(Code::NotAnImage, 0, 0)),
+    };
+    match version {
+        // "The reader takes versions 1 and 2": version 1 has no kind byte, and is document 01's message.
+        FORMER_VERSION => Ok((version, &STATEMENT, 5)),
+        // "a missing or bad kind byte is 17, place 5"
+        VERSION => match run.get(5).and_then(|byte| List::of_byte(*byte)) {
+            Some(list) => Ok((version, list, 6)),
+            None => Err(Answer::new(Code::NoWholeImage, 0, 5)),
+        },
+        // "16 now means version neither 1 nor 2"
+        _ => Err(Answer::new(Code::WrongVersion, 0, 3)),
+    }
+}
+
 /// The whole item at a place, if it can follow the items before it, and its length.
-fn next_item(run: &[u8], at: usize, order: &mut Order) -> Option<(Item, usize)> {
-    let row = find(*run.get(at)?)?;
+fn next_item(list: &List, run: &[u8], at: usize, order: &mut Order) -> Option<(Item, usize)> {
+    let row = list.find(*run.get(at)?)?;
     let values = at + 1;
     let (leaf, length) = if row.kind.is_leaf() {
         let found = find_value(row.kind, &run[values..])?;

@@ -4,48 +4,46 @@
 //! order, then the tests of its closing tag (11, 8, 12, 13). The first test that fails is the answer, at once.
 
 use crate::answer::{Answer, Code};
-use crate::content::Content;
+use crate::content::{Content, Message};
 use crate::house::{is_blank, resolve, Element, Part, Text};
-use crate::list::{children, find, Kind, Row, NAMESPACE, RULE_FIRST, RULE_ROW, RULE_SECOND};
+use crate::list::{Kind, List, Row, RULE_FIRST, RULE_ROW, RULE_SECOND};
 use crate::types::{code, value};
 
 /// The content of a message, or the first violation.
-pub fn walk(root: &Element) -> Result<Content, Answer> {
-    if !is_document(root) {
-        return Err(Answer::new(Code::WrongRoot, 1, root.at));
-    }
-    group(find(1).expect("the root's row"), root)
+pub fn walk(root: &Element) -> Result<Message, Answer> {
+    let list = list_of(root).ok_or(Answer::new(Code::WrongRoot, 1, root.at))?;
+    Ok(Message { list, root: group(list, list.root(), root)? })
 }
 
 /// "files carry `xmlns:xsi` and `xsi:schemaLocation` on the root"
 const PREFIX: &[u8] = b"xmlns:xsi";
 const LOCATION: &[u8] = b"xsi:schemaLocation";
 
-/// Code 4: "root not Document, or its only attribute isn't xmlns with [the namespace]"; but "the root may carry these two
-/// besides xmlns, with any text", and "an xsi attribute without its `xmlns:xsi` gives code 4". The namespace is compared as
-/// written: no entity spells a character of it.
-fn is_document(root: &Element) -> bool {
+/// The list that a message goes by; none is code 4: "root not Document, or its only attribute isn't xmlns with [the namespace]"; but
+/// "the root may carry these two besides xmlns, with any text", and "an xsi attribute without its `xmlns:xsi` gives code 4". "The
+/// namespace chooses the list": it is compared as written, for no entity spells a character of it.
+pub fn list_of(root: &Element) -> Option<&'static List> {
     let carried = |name: &[u8]| root.attributes.iter().find(|attribute| attribute.name == name);
     let known = |name: &[u8]| name == b"xmlns" || name == PREFIX || name == LOCATION;
-    root.name == b"Document"
+    let good = root.name == b"Document"
         && root.attributes.iter().all(|attribute| known(attribute.name))
-        && carried(b"xmlns").is_some_and(|space| space.raw == NAMESPACE.as_bytes())
-        && (carried(LOCATION).is_none() || carried(PREFIX).is_some())
+        && (carried(LOCATION).is_none() || carried(PREFIX).is_some());
+    carried(b"xmlns").filter(|_| good).and_then(|space| List::of_namespace(space.raw))
 }
 
 /// An element whose row is a group or a choice, after its opening tag was tested.
-fn group(row: &Row, element: &Element) -> Result<Content, Answer> {
+fn group(list: &List, row: &Row, element: &Element) -> Result<Content, Answer> {
     let mut contents: Vec<Content> = Vec::new();
     for part in &element.parts {
         match part {
             Part::Text(text) => no_text(row, text)?,
             Part::Child(child) => {
                 let last = contents.last().map(Content::row);
-                contents.push(child_of_group(row, last, child)?);
+                contents.push(child_of_group(list, row, last, child)?);
             }
         }
     }
-    closing_group(row, element, &contents)?;
+    closing_group(list, row, element, &contents)?;
     Ok(Content::Group { row: row.number, children: contents })
 }
 
@@ -58,13 +56,13 @@ fn no_text(row: &Row, text: &Text) -> Result<(), Answer> {
 }
 
 /// A child of a group whose children so far end in one of row `last`.
-fn child_of_group(parent: &Row, last: Option<u8>, child: &Element) -> Result<Content, Answer> {
-    let row = opening(parent, last, child)?;
+fn child_of_group(list: &List, parent: &Row, last: Option<u8>, child: &Element) -> Result<Content, Answer> {
+    let row = opening(list, parent, last, child)?;
     let currency = attributes(row, child)?;
     if row.kind.is_leaf() {
         leaf(row, child, currency)
     } else {
-        group(row, child)
+        group(list, row, child)
     }
 }
 
@@ -72,11 +70,11 @@ fn child_of_group(parent: &Row, last: Option<u8>, child: &Element) -> Result<Con
 ///
 /// The children before this one passed the same tests, so they are in row order: a later sibling was seen exactly if the
 /// last one is later, and this row was seen exactly if the last one has it.
-fn opening(parent: &Row, last: Option<u8>, child: &Element) -> Result<&'static Row, Answer> {
+fn opening(list: &List, parent: &Row, last: Option<u8>, child: &Element) -> Result<&'static Row, Answer> {
     // 5: "not a child of its parent", with the parent's row.
     let not_a_child = Answer::new(Code::NotAChild, parent.number, child.at);
     let named_so = |row: &&Row| row.name.as_bytes() == child.name;
-    let row = children(parent.number).find(named_so).ok_or(not_a_child)?;
+    let row = list.children(parent.number).find(named_so).ok_or(not_a_child)?;
     let Some(last) = last else {
         return Ok(row);
     };
@@ -130,14 +128,14 @@ fn leaf(row: &Row, element: &Element, currency: Option<[u8; 3]>) -> Result<Conte
 }
 
 /// The tests of a group's closing tag: 11, 8 and 13, each with the place of the opening tag's `<`.
-fn closing_group(row: &Row, element: &Element, contents: &[Content]) -> Result<(), Answer> {
+fn closing_group(list: &List, row: &Row, element: &Element, contents: &[Content]) -> Result<(), Answer> {
     let has = |number: u8| contents.iter().any(|child| child.row() == number);
     // 11: "no child in a group".
     if contents.is_empty() {
         return Err(Answer::new(Code::Empty, row.number, element.at));
     }
     // 8: "required child absent from a group that has some child", with the "lowest absent" row.
-    if let Some(absent) = children(row.number).find(|child| child.count.required && !has(child.number)) {
+    if let Some(absent) = list.children(row.number).find(|child| child.count.required && !has(child.number)) {
         return Err(Answer::new(Code::RequiredAbsent, absent.number, element.at));
     }
     // 13: "rows 47 and 48 are both present or both absent".

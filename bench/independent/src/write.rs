@@ -4,9 +4,9 @@ use std::iter::Peekable;
 use std::slice::Iter;
 
 use crate::answer::{Answer, Code};
-use crate::content::Content;
-use crate::list::{find, Kind, NAMESPACE};
-use crate::read::{first_image, Item};
+use crate::content::{Content, Message};
+use crate::list::{Kind, List};
+use crate::read::{first_image, Image, Item};
 use crate::types::{Amount, Date, DateTime, Value};
 use crate::LIMIT;
 
@@ -23,7 +23,7 @@ pub fn write(run: &[u8], out: &mut [u8]) -> Answer {
     if let Some(item) = image.items.iter().find(|item| is_finer(item)) {
         return Answer::new(Code::FinerThanAFile, item.row, item.at);
     }
-    let file = message(&image.items);
+    let file = file(&message(&image));
     // "then 19 where the file would be over 1,048,576 bytes", with "the bytes needed, row 0"
     if file.len() > LIMIT {
         return Answer::new(Code::FileTooLong, 0, file.len());
@@ -43,42 +43,47 @@ fn is_finer(item: &Item) -> bool {
     matches!(&item.leaf, Some((Value::Dtm(time), _)) if time.microsecond % 1000 != 0)
 }
 
-/// The message of an image's items. "no declaration": it begins with the root.
-pub fn message(items: &[Item]) -> String {
+/// The message that an image holds, whatever its version.
+pub fn message(image: &Image) -> Message {
+    Message { list: image.list, root: tree(image.list, &mut image.items.iter().peekable()) }
+}
+
+/// The file of a message. "no declaration": it begins with the root.
+fn file(message: &Message) -> String {
     let mut file = String::new();
-    write_element(&tree(&mut items.iter().peekable()), &mut file);
+    write_element(message.list, &message.root, &mut file);
     file
 }
 
 /// The content that begins with the next item. Every row has one parent, so an item is a child of the group that was
 /// begun last among those with its parent's row, and the first item that is none of a group's ends that group.
-fn tree(items: &mut Peekable<Iter<Item>>) -> Content {
+fn tree(list: &List, items: &mut Peekable<Iter<Item>>) -> Content {
     let Item { row, leaf, .. } = items.next().expect("an item for each row");
     match leaf {
         Some((value, _)) => Content::Leaf { row: *row, value: value.clone() },
         None => {
             let mut children = Vec::new();
-            while items.peek().is_some_and(|next| find(next.row).is_some_and(|next| next.parent == *row)) {
-                children.push(tree(items));
+            while items.peek().is_some_and(|next| list.find(next.row).is_some_and(|next| next.parent == *row)) {
+                children.push(tree(list, items));
             }
             Content::Group { row: *row, children }
         }
     }
 }
 
-/// "no blanks that could be left out, double quotes": a blank stands in front of an attribute alone. The root has xmlns, an
-/// amount Ccy, and nothing else has an attribute.
-fn write_element(content: &Content, file: &mut String) {
-    let row = find(content.row()).expect("a row of the list");
+/// "no blanks that could be left out, double quotes": a blank stands in front of an attribute alone. The root has xmlns, with
+/// the kind's namespace, an amount Ccy, and nothing else has an attribute.
+fn write_element(list: &List, content: &Content, file: &mut String) {
+    let row = list.find(content.row()).expect("a row of the list");
     let attribute = match content {
-        _ if row.parent == 0 => format!(" xmlns=\"{NAMESPACE}\""),
+        _ if row.parent == 0 => format!(" xmlns=\"{}\"", list.namespace),
         Content::Leaf { value: Value::Amt(amount), .. } => format!(" Ccy=\"{}\"", amount.currency()),
         _ => String::new(),
     };
     *file += &format!("<{}{attribute}>", row.name);
     match content {
         Content::Leaf { value, .. } => *file += &escaped(&characters(row.kind, value)),
-        Content::Group { children, .. } => children.iter().for_each(|child| write_element(child, file)),
+        Content::Group { children, .. } => children.iter().for_each(|child| write_element(list, child, file)),
     }
     *file += &format!("</{}>", row.name);
 }

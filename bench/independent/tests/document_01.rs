@@ -1,4 +1,4 @@
-//! Every worked example of document 01.
+//! Every worked example of document 01, with images as section 5 of document 02 has them written.
 
 mod support;
 
@@ -14,33 +14,33 @@ fn short_texts() {
     assert_eq!(judge("<Document/>"), (4, 1, 0));
 }
 
-/// "A whole one: .. Image, 67 bytes"
+/// "A whole one: .. Image, 67 bytes": "its 67 bytes are still read", and it "is then written as 68 bytes".
 #[test]
 fn the_whole_one() {
-    let image = whole_image();
-    assert_eq!(image.len(), 67);
-    assert_eq!(support::image(whole_example()), image);
-    assert_eq!(numbers(read(&image)), (0, 0, 67));
+    assert_eq!((former_image().len(), whole_image().len()), (67, 68));
+    assert_eq!(support::image(whole_example()), whole_image());
+    assert_eq!(numbers(read(&whole_image())), (0, 0, 68));
+    assert_eq!(numbers(read(&former_image())), (0, 0, 67));
 }
 
-/// "The image above: a 67-byte buffer accepts; 66 gives 14, place 67." With the bytes of the buffers.
+/// "a 68-byte buffer accepts, 67 gives 14, place 68". With the bytes of the buffers.
 #[test]
 fn room() {
-    let mut exact = [0xaa; 67];
-    assert_eq!(numbers(check(whole_example().as_bytes(), &mut exact)), (0, 0, 67));
+    let mut exact = [0xaa; 68];
+    assert_eq!(numbers(check(whole_example().as_bytes(), &mut exact)), (0, 0, 68));
     assert_eq!(exact[..], whole_image());
 
-    let mut short = [0xaa; 66];
-    assert_eq!(numbers(check(whole_example().as_bytes(), &mut short)), (14, 0, 67));
-    assert_eq!(short, [0xaa; 66]);
+    let mut short = [0xaa; 67];
+    assert_eq!(numbers(check(whole_example().as_bytes(), &mut short)), (14, 0, 68));
+    assert_eq!(short, [0xaa; 67]);
 
-    let mut more = [0xaa; 70];
-    assert_eq!(numbers(check(whole_example().as_bytes(), &mut more)), (0, 0, 67));
-    assert_eq!(more[..67], whole_image());
-    assert_eq!(more[67..], [0xaa; 3]);
+    let mut more = [0xaa; 71];
+    assert_eq!(numbers(check(whole_example().as_bytes(), &mut more)), (0, 0, 68));
+    assert_eq!(more[..68], whole_image());
+    assert_eq!(more[68..], [0xaa; 3]);
 
     let mut none = [];
-    assert_eq!(numbers(check(whole_example().as_bytes(), &mut none)), (14, 0, 67));
+    assert_eq!(numbers(check(whole_example().as_bytes(), &mut none)), (14, 0, 68));
 }
 
 /// "AMT accepted: `1250.50` (12505, scale 1), `-0.00` (0, 0), `.5`, `7.`, `0.000010` (1, 5), 18 nines."
@@ -98,8 +98,8 @@ fn easy_to_get_wrong() {
     assert_eq!(judge(debtor(&"&amp;".repeat(141))).0, 12);
     assert_eq!(judge(amount(&format!("123456789012.123{}", "0".repeat(30)))).0, 0);
     let long = "ABCDEFGHIJKLMNOPQRSTUVWXYZ012345678";
-    assert_eq!(image(message_id(long))[9..11], [0, 35]);
-    assert_eq!(image(message_id(long))[11..46], *long.as_bytes());
+    assert_eq!(image(message_id(long))[10..12], [0, 35]);
+    assert_eq!(image(message_id(long))[12..47], *long.as_bytes());
     assert_eq!(image(amount("5.0")), image(amount("5.00")));
     let mut none = [];
     let late = whole_example().replace("2024-02-29", "2023-02-29");
@@ -127,14 +127,15 @@ fn the_program_that_divides_a_run() {
     let other = image(message_id("M12"));
     let said = |run: &[&[u8]]| String::from_utf8(images_program(&run.concat())).unwrap();
     assert_eq!(said(&[]), "");
-    assert_eq!(said(&[&whole]), "0 67\n");
-    assert_eq!(said(&[&whole, &other, &whole]), "0 67\n67 68\n135 67\n");
-    assert_eq!(said(&[&whole, &other, b"x"]), "0 67\n67 68\nrefused 15 0 0\n");
-    assert_eq!(said(&[&other, &whole[..66]]), "0 68\nrefused 17 0 66\n");
-    assert_eq!(said(&[&whole, b"KTO\x00\x02", &whole[5..]]), "0 67\nrefused 16 0 3\n");
+    assert_eq!(said(&[&whole]), "0 68\n");
+    assert_eq!(said(&[&whole, &other, &whole]), "0 68\n68 69\n137 68\n");
+    assert_eq!(said(&[&former_image(), &whole, &former_image()]), "0 67\n67 68\n135 67\n");
+    assert_eq!(said(&[&whole, &other, b"x"]), "0 68\n68 69\nrefused 15 0 0\n");
+    assert_eq!(said(&[&other, &whole[..67]]), "0 69\nrefused 17 0 67\n");
+    assert_eq!(said(&[&whole, b"KTO\x00\x03", &whole[5..]]), "0 68\nrefused 16 0 3\n");
     assert_eq!(said(&[b"garbage"]), "refused 15 0 0\n");
     // "1 for a run over the same limit": judged on what is left, which is never more than at the start.
-    assert_eq!(said(&[&whole, &vec![0; LIMIT - 67]]), "0 67\nrefused 15 0 0\n");
-    assert_eq!(said(&[&whole, &vec![0; LIMIT - 66]]), "refused 1 0 1048576\n");
+    assert_eq!(said(&[&whole, &vec![0; LIMIT - 68]]), "0 68\nrefused 15 0 0\n");
+    assert_eq!(said(&[&whole, &vec![0; LIMIT - 67]]), "refused 1 0 1048576\n");
     assert_eq!(said(&[&whole, &vec![0; 2 * LIMIT]]), "refused 1 0 1048576\n");
 }

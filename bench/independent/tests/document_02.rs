@@ -1,10 +1,11 @@
-//! Section 1 of document 02, "Write the statement file", and section 2, "Files with schema hints", sentence by sentence. What
-//! must be written or answered stands here as a person reads it from the document; nothing of it is computed.
+//! Sections 1, 2, 3 and 5 of document 02, "Write the statement file", "Files with schema hints", "The retired six digits" and "Intraday
+//! reports", sentence by sentence. What must be written or answered stands here as a person reads it from the document; nothing of
+//! it is computed.
 
 mod support;
 
-use independent::program::write_program;
-use independent::{check, read, write, LIMIT};
+use independent::program::{images_program, program, write_program};
+use independent::{check, pick, read, write, Held, LIMIT};
 use support::*;
 
 /// The file that is written for an image, with room for any.
@@ -176,12 +177,12 @@ fn times() {
     );
 }
 
-/// The whole example's image with so many microseconds in its date-time, whose item stands at 13: behind the header, three
-/// groups, and the row byte, the length and the two letters of `M1`.
+/// The whole example's image with so many microseconds in its date-time, whose item stands at 14: after the header, the kind byte,
+/// three groups, and the row byte, the length and the two letters of `M1`.
 fn with_microseconds(microseconds: u32) -> Vec<u8> {
     let mut image = whole_image();
-    assert_eq!(image[13..27], *b"\x05\x07\xe8\x03\x01\x06\x00\x00\x00\x00\x00\x00\x03\x48");
-    image[21..25].copy_from_slice(&microseconds.to_be_bytes());
+    assert_eq!(image[14..28], *b"\x05\x07\xe8\x03\x01\x06\x00\x00\x00\x00\x00\x00\x03\x48");
+    image[22..26].copy_from_slice(&microseconds.to_be_bytes());
     image
 }
 
@@ -191,10 +192,10 @@ fn with_microseconds(microseconds: u32) -> Vec<u8> {
 fn finer_fractions() {
     for microseconds in [1, 10, 100, 999, 1_001, 120_500, 123_456, 500_001, 999_999] {
         let image = with_microseconds(microseconds);
-        assert_eq!(numbers(read(&image)), (0, 0, 67), "{microseconds}");
+        assert_eq!(numbers(read(&image)), (0, 0, 68), "{microseconds}");
         for room in [0, 1000] {
             let mut out = vec![0xaa; room];
-            assert_eq!(numbers(write(&image, &mut out)), (20, 5, 13), "{microseconds}");
+            assert_eq!(numbers(write(&image, &mut out)), (20, 5, 14), "{microseconds}");
             assert_eq!(out, vec![0xaa; room], "a refusal changes no byte");
         }
     }
@@ -223,13 +224,13 @@ fn finer_fractions() {
 #[test]
 fn finer_fractions_in_order() {
     let mut over = image_for_file_of(LIMIT + 1);
-    over[21..25].copy_from_slice(&1_u32.to_be_bytes());
-    assert_eq!(numbers(write(&over, &mut [])), (20, 5, 13));
+    over[22..26].copy_from_slice(&1_u32.to_be_bytes());
+    assert_eq!(numbers(write(&over, &mut [])), (20, 5, 14));
     let finer = with_microseconds(1);
-    assert_eq!(numbers(write(&finer[..66], &mut [])), (17, 0, 66));
-    assert_eq!(numbers(write(&[b"KTO\x00\x02", &finer[5..]].concat(), &mut [])), (16, 0, 3));
+    assert_eq!(numbers(write(&finer[..67], &mut [])), (17, 0, 67));
+    assert_eq!(numbers(write(&[b"KTO\x00\x03", &finer[5..]].concat(), &mut [])), (16, 0, 3));
     assert_eq!(numbers(write(&[&finer[..], &vec![0; LIMIT]].concat(), &mut [])), (1, 0, 1_048_576));
-    assert_eq!(numbers(write(&[&finer[..], b"behind"].concat(), &mut [])), (20, 5, 13));
+    assert_eq!(numbers(write(&[&finer[..], b"behind"].concat(), &mut [])), (20, 5, 14));
 }
 
 /// DATE, ENUM, IBAN and CCY have one spelling but for blanks around a DATE.
@@ -276,8 +277,8 @@ fn refused_as_in_the_reader() {
     let whole = whole_image();
     let mut runs: Vec<Vec<u8>> = (0..whole.len()).map(|length| whole[..length].to_vec()).collect();
     runs.push([b"KTP", &whole[3..]].concat());
-    runs.push([b"KTO\x00\x02", &whole[5..]].concat());
-    runs.push([&whole[..66], b"\x06"].concat());
+    runs.push([b"KTO\x00\x03", &whole[5..]].concat());
+    runs.push([&whole[..67], b"\x06"].concat());
     runs.push([&whole[..], &vec![0; LIMIT + 1 - whole.len()]].concat());
     for run in runs {
         for length in [0, 10, 1000] {
@@ -331,7 +332,7 @@ fn the_program() {
     let whole = whole_image();
     assert_eq!(write_program(&whole), file_of(&whole).into_bytes());
     assert_eq!(write_program(b""), b"refused 15 0 0\n");
-    assert_eq!(write_program(&whole[..66]), b"refused 17 0 66\n");
+    assert_eq!(write_program(&whole[..67]), b"refused 17 0 67\n");
     assert_eq!(write_program(&image_for_file_of(LIMIT)).len(), LIMIT);
     assert_eq!(write_program(&image_for_file_of(LIMIT + 1)), b"refused 19 0 1048577\n");
     for more in [1, 2, LIMIT] {
@@ -499,4 +500,305 @@ fn hints_below_the_root() {
     }
     let file = amount_element("<Amt xsi:Ccy=\"EUR\">5.00</Amt>");
     assert_eq!(judge(&file), (9, 19, place(&file, "<Amt ")));
+}
+
+// ---- Section 5.
+
+/// A statement as a report: "Root child BkToCstmrAcctRpt with Rpt in place of Stmt (ISO spelling, not source document 002's)".
+fn as_report(statement: &str) -> String {
+    statement
+        .replace("camt.053.001.08", "camt.052.001.08")
+        .replace("BkToCstmrStmt>", "BkToCstmrAcctRpt>")
+        .replace("Stmt>", "Rpt>")
+}
+
+/// Document 01's whole example as a report.
+fn whole_report() -> String {
+    as_report(&whole_example())
+}
+
+/// The same without its balance: "Bal 0..n".
+fn least_report() -> String {
+    whole_report().replace(BALANCE, "")
+}
+
+fn bytes(hexadecimal: &str) -> Vec<u8> {
+    let digits: String = hexadecimal.split_whitespace().collect();
+    (0..digits.len()).step_by(2).map(|i| u8::from_str_radix(&digits[i..i + 2], 16).unwrap()).collect()
+}
+
+/// The images of the two, version 2 and kind byte 2, and document 01's items after it.
+fn report_image() -> Vec<u8> {
+    bytes(
+        "4B544F0002 02 010203 0400024D31 0507E80301060000000000000348 06 0700025331 090A0C0D000139 \
+         0F10111202 13455552000000000000000005 1401 151607E8021D 00",
+    )
+}
+
+fn least_image() -> Vec<u8> {
+    bytes("4B544F0002 02 010203 0400024D31 0507E80301060000000000000348 06 0700025331 090A0C0D000139 00")
+}
+
+/// "camt.052.001.08 as a second message kind", "New images are version 2: after the version comes a kind byte, 1 for camt.053, 2 for
+/// camt.052."
+#[test]
+fn both_kinds_have_images() {
+    assert_eq!(image(whole_report()), report_image());
+    assert_eq!(image(least_report()), least_image());
+    assert_eq!(image(whole_example()), whole_image());
+    assert_eq!(numbers(read(&report_image())), (0, 0, 68));
+    assert_eq!(numbers(read(&least_image())), (0, 0, 42));
+    let differs: Vec<usize> = (0..68).filter(|at| report_image()[*at] != whole_image()[*at]).collect();
+    assert_eq!(differs, [5], "\"the kind being part of the content\"");
+    for (file, length) in [(whole_report(), 68), (least_report(), 42)] {
+        let mut exact = vec![0xaa; length];
+        assert_eq!(numbers(check(file.as_bytes(), &mut exact)), (0, 0, length));
+        let mut short = vec![0xaa; length - 1];
+        assert_eq!(numbers(check(file.as_bytes(), &mut short)), (14, 0, length));
+        assert_eq!(short, vec![0xaa; length - 1], "a refusal changes no byte");
+    }
+}
+
+/// "Bal 0..n": none, one and several; of a statement at least one, as before.
+#[test]
+fn balances_of_reports() {
+    let many = whole_report().replace(BALANCE, &BALANCE.repeat(3));
+    assert_eq!(judge(&many), (0, 0, 68 + 2 * 26), "a balance has 26 bytes");
+    let none = whole_example().replace(BALANCE, "");
+    assert_eq!(judge(&none), (8, 15, place(&none, "<Stmt>")));
+    let empty = whole_report().replace(BALANCE, "<Bal></Bal>");
+    assert_eq!(judge(&empty), (11, 15, place(&empty, "<Bal>")));
+    let before = whole_report().replace("<Acct>", "<Bal/><Acct>");
+    assert_eq!(judge(&before), (11, 15, place(&before, "<Bal/>")), "its own tests come before its later sibling's");
+    let entry_first = as_report(&document(&[header(), statement(&entry(""))].concat())).replace(BALANCE, "");
+    let late = entry_first.replace("</Ntry>", &format!("</Ntry>{BALANCE}"));
+    assert_eq!(judge(&entry_first).0, 0);
+    assert_eq!(judge(&late), (6, 15, place(&late, "<Bal>")));
+}
+
+/// ".. with OPBD, CLBD, PRCD, ITBD, Sts codes BOOK and PDNG": "place in its list from 1".
+#[test]
+fn words_of_reports() {
+    let balance = |file: String, word: &str| file.replace("CLBD", word);
+    for (word, byte) in [("OPBD", 1), ("CLBD", 2), ("PRCD", 3), ("ITBD", 4)] {
+        let image = image(balance(whole_report(), word));
+        assert_eq!(pick(&image, 18, 0).1, [byte], "{word}");
+        assert_eq!(file_of(&image), without_zeros(&balance(whole_report(), word)));
+    }
+    for word in ["ITAV", "itbd", "ITBD ", "OPBDITBD", "PDNG"] {
+        assert_eq!(judge(balance(whole_report(), word)).0, 12, "{word}");
+    }
+    let file = balance(whole_example(), "ITBD");
+    assert_eq!(judge(&file), (12, 18, place(&file, "<Cd>")), "no word of a statement");
+
+    let with_entry = document(&[header(), statement(&entry(""))].concat());
+    let status = |file: String, word: &str| file.replace("BOOK", word);
+    for (word, byte) in [("BOOK", 1), ("PDNG", 2)] {
+        let file = status(as_report(&with_entry), word);
+        assert_eq!(pick(&image(&file), 28, 0).1, [byte], "{word}");
+        assert_eq!(rewritten(&file), without_zeros(&file));
+    }
+    for word in ["INFO", "pdng", " PDNG", "ITBD"] {
+        assert_eq!(judge(status(as_report(&with_entry), word)).0, 12, "{word}");
+    }
+    let file = status(with_entry, "PDNG");
+    assert_eq!(judge(&file), (12, 28, place(&file, "<Cd>PDNG")), "no word of a statement");
+}
+
+/// "The namespace chooses the list." What belongs to the other list is no child here; an unknown namespace is 4.
+#[test]
+fn the_namespace_chooses() {
+    let statement_space = whole_report().replace("camt.052", "camt.053");
+    assert_eq!(judge(&statement_space), (5, 1, place(&statement_space, "<BkToCstmrAcctRpt>")));
+    let report_space = whole_example().replace("camt.053", "camt.052");
+    assert_eq!(judge(&report_space), (5, 1, place(&report_space, "<BkToCstmrStmt>")));
+    let inside = whole_report().replace("Rpt>", "Stmt>").replace("BkToCstmrAcctStmt", "BkToCstmrAcctRpt");
+    assert_eq!(judge(&inside), (5, 2, place(&inside, "<Stmt>")));
+    let inside = whole_example().replace("<Stmt>", "<Rpt>").replace("</Stmt>", "</Rpt>");
+    assert_eq!(judge(&inside), (5, 2, place(&inside, "<Rpt>")));
+    let spelling = whole_report().replace("BkToCstmrAcctRpt", "BkToCstmrRpt");
+    assert_eq!(
+        judge(&spelling),
+        (5, 1, place(&spelling, "<BkToCstmrRpt>")),
+        "\"ISO spelling, not source document 002's\""
+    );
+    for other in [
+        "camt.052.001.02", "camt.052.001.0", "camt.052.001.080", "camt.054.001.08", "camt.051.001.08", "camt.52.001.08",
+    ] {
+        assert_eq!(judge(whole_report().replace("camt.052.001.08", other)), (4, 1, 0), "{other}");
+    }
+    let hinted = whole_report().replace("<Document ", "<Document xmlns:xsi='camt.053' ");
+    assert_eq!(image(hinted), report_image(), "hints choose nothing");
+    assert_eq!(program(whole_report().as_bytes()), report_image());
+}
+
+/// "the rest of the house list as it is": the same files, as reports, get the same answers but for the bytes of the tags that have
+/// other names.
+#[test]
+fn the_rest_of_the_list() {
+    let files = [
+        transaction("<Refs><EndToEndId>E</EndToEndId><MndtId>M</MndtId></Refs>"),
+        transaction("<Amt Ccy='EUR'>1</Amt><CdtDbtInd>DBIT</CdtDbtInd>"),
+        transaction("<Amt Ccy='EUR'>1</Amt>"),
+        transaction("<RmtInf><Ustrd>a</Ustrd><Ustrd>b</Ustrd></RmtInf>"),
+        transaction("<RmtInf></RmtInf>"),
+        debtor("Müller &amp; Söhne"),
+        debtor("`"),
+        amount("-0.01"),
+        amount("1250.50"),
+        message_id("A//B"),
+        whole_example().replace("<Id>S1</Id>", ""),
+        whole_example().replace("<Acct>", "<ElctrncSeqNb>7</ElctrncSeqNb><Acct>"),
+        whole_example().replace("<GrpHdr>", "<GrpHdr>x"),
+        whole_example().replace("<Othr><Id>9</Id></Othr>", "<IBAN>AT611</IBAN><Othr/>"),
+    ];
+    for file in files {
+        let (code, row, at) = judge(&file);
+        let (code_of_report, row_of_report, at_of_report) = judge(as_report(&file));
+        assert_eq!((code_of_report, row_of_report), (code, row), "{file}");
+        if code == 0 {
+            let (one, other) = (image(&file), image(as_report(&file)));
+            assert_eq!((&one[..5], one[5], &one[6..]), (&other[..5], 1, &other[6..]), "{file}");
+            assert_eq!(other[5], 2);
+            assert_eq!(at_of_report, at);
+        } else {
+            assert_eq!(at_of_report, as_report(&file[..at]).len(), "{file}");
+        }
+    }
+}
+
+/// "The reader takes versions 1 and 2": "16 now means version neither 1 nor 2".
+#[test]
+fn versions() {
+    let items = &former_image()[5..];
+    let with = |version: u16, rest: &[u8]| [b"KTO", &version.to_be_bytes()[..], rest].concat();
+    assert_eq!(numbers(read(&with(1, items))), (0, 0, 67));
+    for kind in [1, 2] {
+        assert_eq!(numbers(read(&with(2, &[&[kind], items].concat()))), (0, 0, 68));
+    }
+    for version in [0, 3, 4, 255, 256, 257, 258, 512, 513, 0x0101, 0x0202, u16::MAX] {
+        for rest in [items, &[&[1], items].concat()[..], &[&[2], items].concat(), b""] {
+            let run = with(version, rest);
+            assert_eq!(numbers(read(&run)), (16, 0, 3), "{version}");
+            assert_eq!(numbers(pick(&run, 4, 0).0), (16, 0, 3), "{version}");
+            assert_eq!(numbers(write(&run, &mut [])), (16, 0, 3), "{version}");
+        }
+    }
+    assert_eq!(numbers(read(b"KTO\x00")), (15, 0, 0), "fewer than five bytes");
+    assert_eq!(numbers(read(b"KTX\x00\x02\x01")), (15, 0, 0));
+}
+
+/// "a missing or bad kind byte is 17, place 5; item places in version 2 count from 6."
+#[test]
+fn kind_bytes() {
+    let items = &former_image()[5..];
+    for bad in [&b""[..], b"\x00", b"\x03", b"\x04", b"\x10", b"\x80", b"\xff"] {
+        let run = match bad {
+            b"" => b"KTO\x00\x02".to_vec(),
+            _ => [b"KTO\x00\x02", bad, items].concat(),
+        };
+        let mut room = [0xaa; 1000];
+        assert_eq!(numbers(read(&run)), (17, 0, 5), "{bad:?}");
+        assert_eq!((numbers(pick(&run, 4, 0).0), pick(&run, 4, 0).1), ((17, 0, 5), &b""[..]), "{bad:?}");
+        assert_eq!(numbers(write(&run, &mut room)), (17, 0, 5), "{bad:?}");
+        assert_eq!(room, [0xaa; 1000]);
+        let mut held = Held::new(&run, 0);
+        assert_eq!((numbers(held.read()), held.place()), ((17, 0, 5), 0));
+    }
+    // Version 2 without one: the root's row byte is taken for it, and `BkToCstmrStmt` can't be the first item.
+    assert_eq!(numbers(read(&[b"KTO\x00\x02", items].concat())), (17, 0, 6));
+    // Version 1 with one: the byte 1 is an item, the root, and no root stands in it; the byte 2 can't be the first item.
+    assert_eq!(numbers(read(&[b"KTO\x00\x01\x01", items].concat())), (17, 0, 6));
+    assert_eq!(numbers(read(&[b"KTO\x00\x01\x02", items].concat())), (17, 0, 5));
+    // Nothing, an early 0, and another row after a good kind byte.
+    for rest in [&b""[..], b"\x00", b"\x02", b"\x3a", b"\xff"] {
+        assert_eq!(numbers(read(&[b"KTO\x00\x02\x02", rest].concat())), (17, 0, 6));
+        assert_eq!(numbers(read(&[b"KTO\x00\x01", rest].concat())), (17, 0, 5));
+    }
+    // Where each cut of the image stops: after the whole items, which begin at these places in version 2.
+    let places = [6, 7, 8, 9, 14, 28, 29, 34, 35, 36, 37, 41, 42, 43, 44, 46, 59, 61, 62, 67];
+    for image in [whole_image(), report_image()] {
+        for length in 6..68 {
+            let stop = places.iter().rev().find(|place| **place <= length).unwrap();
+            assert_eq!(numbers(read(&image[..length])), (17, 0, *stop), "{length}");
+        }
+    }
+    for length in 5..67 {
+        let stop = places.iter().rev().map(|place| place - 1).find(|place| *place <= length).unwrap();
+        assert_eq!(numbers(read(&former_image()[..length])), (17, 0, stop), "{length}");
+    }
+}
+
+/// Items go by the list of their kind: a report without balances, ITBD and PDNG are no statement's, in either version.
+#[test]
+fn items_go_by_the_kind() {
+    let front = |image: &[u8], front: &[u8]| [front, &image[6..]].concat();
+    let with_entry = as_report(&document(&[header(), statement(&entry(""))].concat()));
+    let itbd = image(whole_report().replace("CLBD", "ITBD"));
+    let pdng = image(with_entry.replace("BOOK", "PDNG"));
+    // The bytes before the item that can't follow: the closing 0, and the balance's and the status's words.
+    for (report, stop) in [(least_image(), 41), (itbd, 44), (pdng, 84)] {
+        assert_eq!(numbers(read(&report)), (0, 0, report.len()));
+        assert_eq!(numbers(read(&front(&report, b"KTO\x00\x02\x01"))), (17, 0, stop));
+        assert_eq!(numbers(read(&front(&report, b"KTO\x00\x01"))), (17, 0, stop - 1));
+        assert_eq!(numbers(write(&front(&report, b"KTO\x00\x02\x01"), &mut [])), (17, 0, stop));
+        assert_eq!(numbers(pick(&front(&report, b"KTO\x00\x01"), 4, 0).0), (17, 0, stop - 1));
+    }
+    for (word, code) in [(0, 17), (4, 0), (5, 17)] {
+        let mut changed = report_image();
+        assert_eq!(changed[44..46], [18, 2]);
+        changed[45] = word;
+        assert_eq!(read(&changed).code.number(), code, "{word}");
+    }
+}
+
+/// "only 2 is written from now on": the file of a version 1 image is that of version 2, and has its image. Each kind is written with its
+/// own namespace and names.
+#[test]
+fn written_from_either_version_and_kind() {
+    assert_eq!(file_of(&former_image()), file_of(&whole_image()));
+    assert_eq!(image(file_of(&former_image())), whole_image(), "\"the version 2 image of that content\"");
+    let expected = "<Document xmlns=\"urn:iso:std:iso:20022:tech:xsd:camt.052.001.08\"><BkToCstmrAcctRpt>\
+                    <GrpHdr><MsgId>M1</MsgId><CreDtTm>2024-03-01T06:00:00Z</CreDtTm></GrpHdr>\
+                    <Rpt><Id>S1</Id><Acct><Id><Othr><Id>9</Id></Othr></Id></Acct></Rpt></BkToCstmrAcctRpt></Document>";
+    assert_eq!(file_of(&least_image()), expected);
+    assert_eq!(file_of(&report_image()), without_zeros(&whole_report()));
+    assert_ne!(file_of(&report_image()), file_of(&whole_image()), "equal trees of different kinds");
+    assert_eq!(image(file_of(&report_image())), report_image());
+    assert_eq!(write_program(&least_image()), expected.as_bytes());
+    for length in [0, expected.len() - 1] {
+        assert_eq!(numbers(write(&least_image(), &mut vec![0; length])), (14, 0, expected.len()));
+    }
+    let mut finer = report_image();
+    finer[22..26].copy_from_slice(&123_456_u32.to_be_bytes());
+    assert_eq!(numbers(write(&finer, &mut [])), (20, 5, 14), "places in version 2");
+    let mut finer = former_image();
+    finer[21..25].copy_from_slice(&123_456_u32.to_be_bytes());
+    assert_eq!(numbers(write(&finer, &mut [])), (20, 5, 13), "places in version 1");
+}
+
+/// Picking counts from the start of the run in each version; the rows are those of the list, whatever the kind.
+#[test]
+fn picked_from_either_version_and_kind() {
+    for (run, at) in [(former_image(), 11), (whole_image(), 12), (report_image(), 12), (least_image(), 12)] {
+        assert_eq!((numbers(pick(&run, 4, 0).0), pick(&run, 4, 0).1), ((0, 4, at), &b"M1"[..]));
+        assert_eq!((numbers(pick(&run, 7, 0).0), pick(&run, 7, 0).1), ((0, 7, at + 20), &b"S1"[..]));
+        assert_eq!(numbers(pick(&run, 6, 0).0), (18, 0, 0));
+    }
+    assert_eq!(numbers(pick(&report_image(), 22, 0).0), (0, 22, 63));
+    assert_eq!(numbers(pick(&least_image(), 22, 0).0), (18, 0, 0));
+}
+
+/// A run of mixed versions and kinds is divided in one way.
+#[test]
+fn mixed_runs() {
+    let run = [former_image(), report_image(), whole_image(), least_image(), former_image()].concat();
+    assert_eq!(images_program(&run), b"0 67\n67 68\n135 68\n203 42\n245 67\n");
+    let behind = images_program(&[&run[..], b"KTO\x00\x02\x03"].concat());
+    assert_eq!(behind, b"0 67\n67 68\n135 68\n203 42\n245 67\nrefused 17 0 5\n");
+    let mut held = Held::new(&run, 135);
+    assert_eq!((numbers(held.read()), held.place()), ((0, 0, 68), 203));
+    assert_eq!(held.pick(22, 0).0.code.number(), 18, "the report without a balance is next");
+    assert_eq!((numbers(held.read()), held.place()), ((0, 0, 42), 245));
+    assert_eq!(held.pick(22, 0).0.code.number(), 0);
 }

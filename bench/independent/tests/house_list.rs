@@ -1,6 +1,7 @@
-//! The table of rows against document 01's own words: the house list stands below as the document prints it.
+//! The tables of rows against the documents' own words: the house list stands below as document 01 prints it, and document 02's changes
+//! as replacements in that text.
 
-use independent::list::{Count, Kind, Row, ROWS};
+use independent::list::{Count, Kind, List, Row, REPORT, STATEMENT};
 
 const PRINTED: &str = "
 1 Document - 1..1 G        2 BkToCstmrStmt 1 1..1 G
@@ -52,7 +53,7 @@ fn parse<'a>(words: &mut impl Iterator<Item = &'a str>) -> Option<(u8, &'a str, 
 }
 
 /// A kind as the document prints it, an ENUM with its words.
-fn printed(row: &Row) -> String {
+fn kind_in_words(row: &Row) -> String {
     match row.kind {
         Kind::Group => "G".to_string(),
         Kind::Choice => "C".to_string(),
@@ -71,7 +72,29 @@ fn printed(row: &Row) -> String {
 
 #[test]
 fn the_table_is_the_printed_list() {
-    let mut words = PRINTED.split_whitespace().peekable();
+    is_printed(&STATEMENT, PRINTED);
+}
+
+/// "Root child BkToCstmrAcctRpt with Rpt in place of Stmt (ISO spelling, not source document 002's), Bal 0..n with OPBD, CLBD, PRCD, ITBD,
+/// Sts codes BOOK and PDNG, the rest of the house list as it is."
+#[test]
+fn the_table_of_reports_is_the_changed_list() {
+    let changes = [
+        ("2 BkToCstmrStmt 1 1..1 G", "2 BkToCstmrAcctRpt 1 1..1 G"),
+        ("6 Stmt 2 1..n G", "6 Rpt 2 1..n G"),
+        ("15 Bal 6 1..n G", "15 Bal 6 0..n G"),
+        ("ENUM OPBD CLBD PRCD", "ENUM OPBD CLBD PRCD ITBD"),
+        ("ENUM BOOK", "ENUM BOOK PDNG"),
+    ];
+    let changed = changes.iter().fold(PRINTED.to_string(), |printed, (old, new)| {
+        assert_eq!(printed.matches(old).count(), 1, "{old}");
+        printed.replace(old, new)
+    });
+    is_printed(&REPORT, &changed);
+}
+
+fn is_printed(list: &List, printed: &str) {
+    let mut words = printed.split_whitespace().peekable();
     let mut rows = 0;
     while let Some((number, name, parent, count, kind)) = parse(&mut words) {
         let mut kind = kind.to_string();
@@ -79,10 +102,10 @@ fn the_table_is_the_printed_list() {
         while let Some(word) = words.next_if(|word| kind.starts_with("ENUM") && word.parse::<u8>().is_err()) {
             kind += &format!(" {word}");
         }
-        let row = &ROWS[rows];
+        let row = &list.rows[rows];
         assert_eq!((row.number, row.name, row.parent, row.count), (number, name, parent, count));
-        assert_eq!(printed(row), kind, "row {number}");
+        assert_eq!(kind_in_words(row), kind, "row {number}");
         rows += 1;
     }
-    assert_eq!(rows, ROWS.len());
+    assert_eq!(rows, list.rows.len());
 }

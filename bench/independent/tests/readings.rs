@@ -224,8 +224,8 @@ fn point_13_attributes() {
 /// Point 14: "REF, TXT, IBAN, CCY and ENUM lose no blanks .. Entities are resolved before a value is judged."
 #[test]
 fn point_14_no_blanks_lost() {
-    assert_eq!(image(message_id(" /A/ "))[11..16], *b" /A/ ");
-    assert_eq!(image(message_id("A&apos;B"))[11..14], *b"A'B");
+    assert_eq!(image(message_id(" /A/ "))[12..17], *b" /A/ ");
+    assert_eq!(image(message_id("A&apos;B"))[12..15], *b"A'B");
     assert_eq!(judge(message_id("A\tB")).0, 12);
     assert_eq!(image(debtor(" a ")).windows(6).filter(|w| *w == b"\x34\x00\x03 a ").count(), 1);
     assert_eq!(judge(debtor("a\n")).0, 12);
@@ -319,8 +319,14 @@ fn point_20_most_whole_items() {
     let file = transaction("<Amt Ccy='EUR'>1</Amt><CdtDbtInd>CRDT</CdtDbtInd><RmtInf><Ustrd>x</Ustrd></RmtInf>");
     let items = items(&image(file));
     let row = |row: u8| items.iter().position(|item| item[0] == row).unwrap();
-    let stop = |items: &[Vec<u8>]| numbers(read(&[b"KTO\0\x01", &items.concat()[..], b"\0"].concat()));
-    let bytes_before = |index: usize| 5 + items[..index].concat().len();
+    // In version 2 places count from 6; in version 1 the same items stop one byte earlier.
+    let stop = |items: &[Vec<u8>]| {
+        let stop = |front: &[u8]| numbers(read(&[front, &items.concat()[..], b"\0"].concat()));
+        let (code, row, place) = stop(b"KTO\0\x02\x01");
+        assert_eq!(stop(b"KTO\0\x01"), (code, row, place - 1));
+        (code, row, place)
+    };
+    let bytes_before = |index: usize| 6 + items[..index].concat().len();
     assert_eq!(stop(&items).0, 0);
 
     // An item left out: the next one skips a required sibling, or comes without 47, or a group is left without a child.
@@ -349,8 +355,10 @@ fn point_20_most_whole_items() {
         assert_eq!(stop(&changed), (17, 0, bytes_before(row(19))));
     }
     let image = whole_image();
-    assert_eq!(numbers(read(&image[..66])), (17, 0, 66), "the closing 0 is missing");
-    assert_eq!(numbers(read(&image[..65])), (17, 0, 61), "the last item is cut short");
+    assert_eq!(numbers(read(&image[..67])), (17, 0, 67), "the closing 0 is missing");
+    assert_eq!(numbers(read(&image[..66])), (17, 0, 62), "the last item is cut short");
+    assert_eq!(numbers(read(&former_image()[..66])), (17, 0, 66));
+    assert_eq!(numbers(read(&former_image()[..65])), (17, 0, 61));
 }
 
 /// Headers: 15 and 16 before 17.
@@ -359,9 +367,10 @@ fn point_20_headers() {
     for short in [&b""[..], b"K", b"KTO", b"KTO\0", b"XTO\0\x01", b"KTX\0\x02"] {
         assert_eq!(numbers(read(short)), (15, 0, 0));
     }
-    assert_eq!(numbers(read(b"KTO\0\x02")), (16, 0, 3));
+    assert_eq!(numbers(read(b"KTO\0\x03")), (16, 0, 3));
     assert_eq!(numbers(read(b"KTO\x01\x01")), (16, 0, 3));
     assert_eq!(numbers(read(b"KTO\0\x01")), (17, 0, 5));
+    assert_eq!(numbers(read(b"KTO\0\x02\x01")), (17, 0, 6));
     assert_eq!(numbers(read(&vec![0; LIMIT + 1])), (1, 0, 1_048_576));
     assert_eq!(numbers(read(&vec![0; LIMIT])), (15, 0, 0));
 }
@@ -372,7 +381,7 @@ fn point_21_no_file_size() {
     let mut items = items(&image(transaction("<RmtInf><Ustrd>x</Ustrd></RmtInf>")));
     let remittance = b"\x39\x00\x01x".to_vec();
     items.extend(std::iter::repeat_n(remittance, 200_000));
-    let run = [b"KTO\0\x01", &items.concat()[..], b"\0"].concat();
+    let run = [b"KTO\0\x02\x01", &items.concat()[..], b"\0"].concat();
     assert!(run.len() <= LIMIT && 200_000 * "<Ustrd>x</Ustrd>".len() > LIMIT);
     assert_eq!(numbers(read(&run)), (0, 0, run.len()));
 }
@@ -386,24 +395,26 @@ fn point_22_picks() {
         let (answer, part) = pick(run, row, n);
         (numbers(answer), part.to_vec())
     };
-    assert_eq!(picked(&image, 4, 0), ((0, 4, 11), b"M1".to_vec()));
-    assert_eq!(picked(&image, 7, 0), ((0, 7, 31), b"S1".to_vec()));
-    assert_eq!(picked(&image, 19, 0), ((0, 19, 46), b"EUR\0\0\0\0\0\0\0\0\x05".to_vec()));
-    assert_eq!(picked(&image, 20, 0), ((0, 20, 59), vec![1]));
-    assert_eq!(picked(&image, 22, 0), ((0, 22, 62), b"\x07\xe8\x02\x1d".to_vec()));
+    for (run, more) in [(former_image(), 0), (whole_image(), 1)] {
+        assert_eq!(picked(&run, 4, 0), ((0, 4, 11 + more), b"M1".to_vec()));
+        assert_eq!(picked(&run, 7, 0), ((0, 7, 31 + more), b"S1".to_vec()));
+        assert_eq!(picked(&run, 19, 0), ((0, 19, 46 + more), b"EUR\0\0\0\0\0\0\0\0\x05".to_vec()));
+        assert_eq!(picked(&run, 20, 0), ((0, 20, 59 + more), vec![1]));
+        assert_eq!(picked(&run, 22, 0), ((0, 22, 62 + more), b"\x07\xe8\x02\x1d".to_vec()));
+    }
     for (row, n) in [(0, 0), (1, 0), (6, 0), (58, 0), (300, 0), (260, 0), (u64::MAX, 0), (4, 1), (4, u64::MAX), (11, 0)]
     {
         assert_eq!(picked(&image, row, n), ((18, 0, 0), vec![]), "{row} {n}");
     }
-    assert_eq!(picked(&image[..66], 4, 0), ((17, 0, 66), vec![]), "the whole image is judged first");
-    assert_eq!(picked(&image[..66], 300, 0), ((17, 0, 66), vec![]));
+    assert_eq!(picked(&image[..67], 4, 0), ((17, 0, 67), vec![]), "the whole image is judged first");
+    assert_eq!(picked(&image[..67], 300, 0), ((17, 0, 67), vec![]));
     assert_eq!(picked(b"KTO\0\x03", 4, 0), ((16, 0, 3), vec![]));
     assert_eq!(picked(b"", 4, 0), ((15, 0, 0), vec![]));
     assert_eq!(picked(&vec![0; LIMIT + 1], 4, 0), ((1, 0, 1_048_576), vec![]));
     let two = [&image[..], &image].concat();
     assert_eq!(picked(&two, 4, 1), ((18, 0, 0), vec![]), "only the first image counts");
     let part = pick(&image, 4, 0).1;
-    assert!(std::ptr::eq(part, &image[11..13]), "a part of the lent image itself");
+    assert!(std::ptr::eq(part, &image[12..14]), "a part of the lent image itself");
 }
 
 /// Point 23: "The held reader: the size limit is judged on the rest of the run. A place at the end or past it answers 15 for reading
@@ -413,11 +424,11 @@ fn point_23_held() {
     let other = image(message_id("M22"));
     let run = [&whole_image()[..], &other, b"rest"].concat();
     let mut held = Held::new(&run, 0);
-    assert_eq!((numbers(held.read()), held.place()), ((0, 0, 67), 67));
-    assert_eq!(numbers(held.pick(4, 0).0), (0, 4, 11), "places count from the start of the rest");
-    assert_eq!((held.pick(4, 0).1, held.place()), (&b"M22"[..], 67), "picking stays");
-    assert_eq!((numbers(held.read()), held.place()), ((0, 0, 68), 135));
-    assert_eq!((numbers(held.read()), held.place()), ((15, 0, 0), 135), "refusing stays");
+    assert_eq!((numbers(held.read()), held.place()), ((0, 0, 68), 68));
+    assert_eq!(numbers(held.pick(4, 0).0), (0, 4, 12), "places count from the start of the rest");
+    assert_eq!((held.pick(4, 0).1, held.place()), (&b"M22"[..], 68), "picking stays");
+    assert_eq!((numbers(held.read()), held.place()), ((0, 0, 69), 137));
+    assert_eq!((numbers(held.read()), held.place()), ((15, 0, 0), 137), "refusing stays");
     assert_eq!(numbers(held.pick(4, 0).0), (15, 0, 0));
     for place in [run.len(), run.len() + 1, usize::MAX] {
         let mut past = Held::new(&run, place);
@@ -428,7 +439,7 @@ fn point_23_held() {
     long.extend(whole_image());
     long.resize(10 + LIMIT, 0);
     assert_eq!(numbers(Held::new(&long, 0).read()), (1, 0, 1_048_576));
-    assert_eq!(numbers(Held::new(&long, 10).read()), (0, 0, 67), "the rest is within the limit");
+    assert_eq!(numbers(Held::new(&long, 10).read()), (0, 0, 68), "the rest is within the limit");
 }
 
 /// Point 24: "Code 14 cannot arise in [the program]: an image of the house list is never longer than its file."
@@ -445,6 +456,6 @@ fn point_24_images_are_no_longer_than_files() {
 fn the_limit() {
     let mut file = whole_example();
     file += &" ".repeat(LIMIT - file.len());
-    assert_eq!(judge(&file), (0, 0, 67));
+    assert_eq!(judge(&file), (0, 0, 68));
     assert_eq!(judge(file + " "), (1, 0, 1_048_576));
 }

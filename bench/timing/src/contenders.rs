@@ -27,6 +27,15 @@ impl Contender {
             Input::Image => &file.image,
         }
     }
+
+    pub fn accepts(&self, file: &File) -> bool {
+        (self.judge)(self.input(file))
+    }
+
+    /// A unit that was built before need not know every kind of message and every version of an image: it is left out where it refuses one.
+    pub fn takes_part(&self, file: &File) -> bool {
+        !self.name.starts_with("before ") || self.accepts(file)
+    }
 }
 
 /// The unit's check comes first: the others are compared with it.
@@ -154,20 +163,23 @@ mod unit {
 #[cfg(others)]
 mod others {
     use super::{Contender, Input};
-    use std::ffi::{c_char, c_int, CString};
+    use std::ffi::{c_char, c_int};
+    use std::fs;
 
     extern "C" {
-        fn others_schema(path: *const c_char) -> c_int;
+        fn others_schema(of_reports: c_int, text: *const c_char, length: usize) -> c_int;
         fn others_expat(file: *const u8, length: usize) -> c_int;
         fn others_tree(file: *const u8, length: usize) -> c_int;
         fn others_stream(file: *const u8, length: usize) -> c_int;
     }
 
     pub fn add(all: &mut Vec<Contender>, schema: &str) -> Result<(), String> {
-        let path = CString::new(schema).map_err(|_| "the schema's path holds a zero byte".to_string())?;
-        // SAFETY: the path ends with a zero byte and lives until the call is over; the same of the files below, with their lengths.
-        if unsafe { others_schema(path.as_ptr()) } == 0 {
-            return Err(format!("the schema {schema} can't be read"));
+        let of_statements = fs::read_to_string(schema).map_err(|error| format!("{schema}: {error}"))?;
+        for (number, text) in [&of_statements, &of_reports(&of_statements)?].into_iter().enumerate() {
+            // SAFETY: the length is that of the text, which lives until the call is over; the same of the files below.
+            if unsafe { others_schema(number as c_int, text.as_ptr().cast(), text.len()) } == 0 {
+                return Err(format!("the schema {schema}, number {number}, can't be read"));
+            }
         }
         all.push(Contender {
             name: "expat",
@@ -191,6 +203,23 @@ mod others {
             judge: |file| unsafe { others_stream(file.as_ptr(), file.len()) == 1 },
         });
         Ok(())
+    }
+
+    /// The schema of reports, from that of statements: "Root child BkToCstmrAcctRpt with Rpt in place of Stmt .., Bal 0..n with OPBD, CLBD,
+    /// PRCD, ITBD, Sts codes BOOK and PDNG, the rest of the house list as it is."
+    fn of_reports(schema: &str) -> Result<String, String> {
+        let changes = [
+            ("camt.053.001.08", "camt.052.001.08"),
+            ("name=\"BkToCstmrStmt\"", "name=\"BkToCstmrAcctRpt\""),
+            ("name=\"Stmt\"", "name=\"Rpt\""),
+            ("name=\"Bal\" ", "name=\"Bal\" minOccurs=\"0\" "),
+            ("<xs:enumeration value=\"PRCD\"/>", "<xs:enumeration value=\"PRCD\"/><xs:enumeration value=\"ITBD\"/>"),
+            ("<xs:enumeration value=\"BOOK\"/>", "<xs:enumeration value=\"BOOK\"/><xs:enumeration value=\"PDNG\"/>"),
+        ];
+        changes.iter().try_fold(schema.to_string(), |text, (old, new)| match text.contains(old) {
+            true => Ok(text.replace(old, new)),
+            false => Err(format!("{old} is missing in the schema")),
+        })
     }
 }
 

@@ -1,4 +1,4 @@
-//! What is judged: statements of an Austrian rent account, as long as wanted, in four styles.
+//! What is judged: statements of an Austrian rent account, as long as wanted, in four styles, and reports of one, in one style.
 
 const LARGE: usize = independent::LIMIT;
 const SMALL: usize = 4096;
@@ -16,20 +16,48 @@ pub struct File {
     pub image: Vec<u8>,
 }
 
-/// How a statement is laid out: two blanks for each level and a line for each tag, or no blank at all; with one short text to an entry, or
+/// How a message is laid out: two blanks for each level and a line for each tag, or no blank at all; with one short text to an entry, or
 /// with eight full ones, numbered.
 #[derive(Clone, Copy)]
 struct Style {
     name: &'static str,
+    kind: &'static Kind,
     indented: bool,
     full_text: Option<&'static str>,
 }
 
-const STYLES: [Style; 4] = [
-    Style { name: "indented", indented: true, full_text: None },
-    Style { name: "dense", indented: false, full_text: None },
-    Style { name: "long texts", indented: false, full_text: Some(LONG) },
-    Style { name: "Austrian texts", indented: false, full_text: Some(AUSTRIAN) },
+/// What a statement (camt.053) and a report (camt.052) have different.
+struct Kind {
+    namespace: &'static str,
+    body: &'static str,
+    account: &'static str,
+    closing: &'static str,
+    /// The status of every second entry; the others are booked.
+    second: &'static str,
+}
+
+const STATEMENT: Kind = Kind {
+    namespace: "urn:iso:std:iso:20022:tech:xsd:camt.053.001.08",
+    body: "BkToCstmrStmt",
+    account: "Stmt",
+    closing: "CLBD",
+    second: "BOOK",
+};
+
+const REPORT: Kind = Kind {
+    namespace: "urn:iso:std:iso:20022:tech:xsd:camt.052.001.08",
+    body: "BkToCstmrAcctRpt",
+    account: "Rpt",
+    closing: "ITBD",
+    second: "PDNG",
+};
+
+const STYLES: [Style; 5] = [
+    Style { name: "indented", kind: &STATEMENT, indented: true, full_text: None },
+    Style { name: "dense", kind: &STATEMENT, indented: false, full_text: None },
+    Style { name: "long texts", kind: &STATEMENT, indented: false, full_text: Some(LONG) },
+    Style { name: "Austrian texts", kind: &STATEMENT, indented: false, full_text: Some(AUSTRIAN) },
+    Style { name: "report, indented", kind: &REPORT, indented: true, full_text: None },
 ];
 
 pub fn all() -> Vec<File> {
@@ -45,21 +73,21 @@ pub fn all() -> Vec<File> {
 /// As many entries as fit into the size, and, where texts are full ones, as many more of these in the last entry as fit.
 fn file(name: String, style: Style, size: usize) -> File {
     let mut entries = 0;
-    let mut text = statement(style, entries, 0);
+    let mut text = message(style, entries, 0);
     loop {
         // An entry's length changes by a few bytes with its number: go on until one more is too much.
-        let more = statement_with_room(style, entries, size, text.len());
+        let more = entries_with_room(style, entries, size, text.len());
         if more == entries {
             break;
         }
         entries = more;
-        text = statement(style, entries, 0);
+        text = message(style, entries, 0);
     }
     if let Some(full) = style.full_text {
         let mut extra = 0;
         while text.len() + line(0, full).len() + "<Ustrd></Ustrd>".len() <= size {
             extra += 1;
-            text = statement(style, entries, extra);
+            text = message(style, entries, extra);
         }
     }
     let foreign = text.replace("Document", "Fragment").into_bytes();
@@ -71,8 +99,8 @@ fn file(name: String, style: Style, size: usize) -> File {
     File { name, text, foreign, image }
 }
 
-fn statement_with_room(style: Style, entries: usize, size: usize, length: usize) -> usize {
-    let one = statement(style, entries + 1, 0).len() - length;
+fn entries_with_room(style: Style, entries: usize, size: usize, length: usize) -> usize {
+    let one = message(style, entries + 1, 0).len() - length;
     let fit = (size - length) / (one + 8);
     if fit > 0 {
         entries + fit
@@ -83,17 +111,18 @@ fn statement_with_room(style: Style, entries: usize, size: usize, length: usize)
     }
 }
 
-/// A statement with so many entries, the last of them with some more long texts.
-fn statement(style: Style, entries: usize, extra: usize) -> String {
+/// A message with so many entries, the last of them with some more long texts.
+fn message(style: Style, entries: usize, extra: usize) -> String {
+    let kind = style.kind;
     let mut page =
         Page { text: String::from("<?xml version=\"1.0\" encoding=\"UTF-8\"?>"), level: 0, indented: style.indented };
-    page.group("Document xmlns=\"urn:iso:std:iso:20022:tech:xsd:camt.053.001.08\"", |page| {
-        page.group("BkToCstmrStmt", |page| {
+    page.group(&format!("Document xmlns=\"{}\"", kind.namespace), |page| {
+        page.group(kind.body, |page| {
             page.group("GrpHdr", |page| {
                 page.leaf("MsgId", "KA-20240329-00471");
                 page.leaf("CreDtTm", "2024-03-29T21:14:05.125+01:00");
             });
-            page.group("Stmt", |page| {
+            page.group(kind.account, |page| {
                 page.leaf("Id", "2024/003/L12");
                 page.leaf("ElctrncSeqNb", "3");
                 page.group("Acct", |page| {
@@ -101,14 +130,15 @@ fn statement(style: Style, entries: usize, extra: usize) -> String {
                     page.leaf("Ccy", "EUR");
                 });
                 balance(page, "OPBD", "8412.07");
-                balance(page, "CLBD", "12837.32");
+                balance(page, kind.closing, "12837.32");
                 for number in 1..=entries {
                     let more = if number == entries { extra } else { 0 };
                     let texts = match style.full_text {
                         Some(full) => (0..8 + more).map(|n| line(n, full)).collect(),
                         None => vec![format!("Miete M\u{e4}rz 2024 Top {number}")],
                     };
-                    entry(page, number, &texts);
+                    let status = if number % 2 == 0 { kind.second } else { "BOOK" };
+                    entry(page, number, status, &texts);
                 }
             });
         });
@@ -131,12 +161,12 @@ fn line(number: usize, full: &str) -> String {
     format!("{number:02} {full}")
 }
 
-fn entry(page: &mut Page, number: usize, texts: &[String]) {
+fn entry(page: &mut Page, number: usize, status: &str, texts: &[String]) {
     let day = format!("2024-03-{:02}", number % 28 + 1);
     page.group("Ntry", |page| {
         page.leaf("Amt Ccy=\"EUR\"", &format!("{}.{:02}", 500 + number % 700, number % 100));
         page.leaf("CdtDbtInd", "CRDT");
-        page.group("Sts", |page| page.leaf("Cd", "BOOK"));
+        page.group("Sts", |page| page.leaf("Cd", status));
         page.group("BookgDt", |page| page.leaf("Dt", &day));
         page.group("ValDt", |page| page.leaf("Dt", &day));
         page.leaf("AcctSvcrRef", &format!("202403-{number:06}"));

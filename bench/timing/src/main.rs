@@ -4,7 +4,8 @@
 //!     timing write DIR            writes the files there, with what each contender of the unit is handed: NAME, then a dot, then its number
 //!     timing once NUMBER FILE     has that contender of the unit judge a file once, so that its instructions can be counted
 //!
-//! Every contender judges every file once before any clock runs, and has to accept it: a program that refuses early would look fast.
+//! Every contender judges every file once before any clock runs, and has to accept it: a program that refuses early would look fast. A
+//! unit that was built before is left out where it refuses what it didn't know.
 //! Samples are interleaved, so that a slow moment of the machine falls on all of them, and the median counts.
 
 mod clock;
@@ -36,8 +37,7 @@ fn time_all(schema: &str) {
     let files = files::all();
     for file in &files {
         for contender in &contenders {
-            let input = contender.input(file);
-            if !(contender.judge)(input) {
+            if contender.takes_part(file) && !contender.accepts(file) {
                 fail(&format!("{} does not accept the file {}", contender.name, file.name));
             }
         }
@@ -50,7 +50,7 @@ fn time_all(schema: &str) {
 /// A line for each file and each contender of the unit: its number and name, the file's name, the bytes that it is handed, where they are.
 fn write_files(folder: &str) {
     for file in files::all() {
-        for (number, contender) in contenders::units().iter().enumerate() {
+        for (number, contender) in contenders::units().iter().enumerate().filter(|(_, unit)| unit.takes_part(&file)) {
             let path = format!("{folder}/{}.{number}", file.name.replace([' ', ','], "-"));
             let input = contender.input(&file);
             if let Err(fault) = fs::write(&path, input) {
@@ -83,7 +83,7 @@ fn measure(contenders: &[Contender], files: &[File], rounds: usize) -> Vec<Vec<S
     let mut samples = vec![vec![Sample::default(); contenders.len()]; files.len()];
     for _ in 0..rounds {
         for (file, row) in files.iter().zip(&mut samples) {
-            for (contender, sample) in contenders.iter().zip(row) {
+            for (contender, sample) in contenders.iter().zip(row).filter(|(contender, _)| contender.takes_part(file)) {
                 let input = contender.input(file);
                 sample.add(clock::megabytes_per_second((contender.counts)(input), || (contender.judge)(input)));
             }
@@ -103,6 +103,10 @@ fn print_table(contenders: &[Contender], files: &[File], samples: &[Vec<Sample>]
         print!("| {} | {} | {} |", file.name, file.text.len(), file.image.len());
         let check = row[0].median();
         for (contender, sample) in contenders.iter().zip(row) {
+            if !contender.takes_part(file) {
+                print!(" - |");
+                continue;
+            }
             let median = sample.median();
             if contender.takes == Input::File {
                 print!(" {median:.0} ({:.1}) |", check / median);
@@ -122,7 +126,8 @@ fn print_table(contenders: &[Contender], files: &[File], samples: &[Vec<Sample>]
 fn print_stack(contenders: &[Contender], files: &[File]) {
     println!();
     for contender in contenders.iter().filter(|contender| contender.is_unit) {
-        let deepest = files.iter().map(|file| stack::used(contender.judge, contender.input(file))).max().unwrap_or(0);
+        let accepted = files.iter().filter(|file| contender.takes_part(file));
+        let deepest = accepted.map(|file| stack::used(contender.judge, contender.input(file))).max().unwrap_or(0);
         println!("{}: at most {deepest} bytes of stack below the entry, over these files", contender.name);
     }
 }

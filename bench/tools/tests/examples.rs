@@ -4,6 +4,7 @@ use std::fs;
 use std::path::{Path, PathBuf};
 
 use cases::feed::Case;
+use cases::runs::former;
 use independent::LIMIT;
 use tools::grade::find_files;
 
@@ -36,6 +37,19 @@ fn every_file_gives_its_answer() {
 fn hints_change_no_image() {
     let image = |name: &str| Case::check(LIMIT, fs::read(examples().join(name)).unwrap()).answer().1;
     assert_eq!(image("schema-hints.xml"), image("several-statements.xml"));
+}
+
+/// "The reader takes versions 1 and 2; only 2 is written from now on": one stored image is of version 1.
+#[test]
+fn stored_images_are_those_of_the_files() {
+    for name in ["rent-account", "intraday", "several-statements"] {
+        let image = Case::check(LIMIT, fs::read(examples().join(name).with_extension("xml")).unwrap()).answer().1;
+        let stored = fs::read(examples().join("written").join(name).with_extension("kto")).unwrap();
+        match name {
+            "several-statements" => assert_eq!(stored, former(&image)),
+            _ => assert_eq!(stored, image, "{name}"),
+        }
+    }
 }
 
 #[test]

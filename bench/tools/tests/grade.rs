@@ -65,12 +65,15 @@ fn images_are_kept_and_shown() {
     let folder = empty_folder("images");
     assert_eq!(grade(&["--write", folder.to_str().unwrap(), "."]).0, Some(1));
     let kept = ["rent-account.kto", "several-statements.kto"].map(|name| folder.join(name));
-    assert_eq!(fs::read_dir(&folder).unwrap().count(), 6, "the four statements, and two as they are written");
+    assert_eq!(fs::read_dir(&folder).unwrap().count(), 8, "five files, and three as they are written");
 
     let (status, tree) = grade(&["show", kept[0].to_str().unwrap()]);
     assert_eq!(status, Some(0));
-    for line in ["image 1 at byte 0, 3948 bytes", "      ElctrncSeqNb: 3", "                  Nm: Müller & Söhne OG"]
-    {
+    for line in [
+        "image 1 at byte 0, 3949 bytes, version 2, statement (camt.053.001.08)",
+        "      ElctrncSeqNb: 3",
+        "                  Nm: Müller & Söhne OG",
+    ] {
         assert!(tree.contains(&format!("\n{line}\n")), "{line} in {tree}");
     }
 
@@ -79,12 +82,12 @@ fn images_are_kept_and_shown() {
     fs::write(&joined, images.concat()).unwrap();
     let (status, tree) = grade(&["show", joined.to_str().unwrap()]);
     assert_eq!(status, Some(0));
-    assert!(tree.contains("image 2 at byte 3948, 1170 bytes"), "{tree}");
+    assert!(tree.contains("image 2 at byte 3949, 1171 bytes"), "{tree}");
 
     fs::write(&joined, [&images[0][..], &images[1][..500]].concat()).unwrap();
     let (status, tree) = grade(&["show", joined.to_str().unwrap()]);
     assert_eq!(status, Some(1));
-    assert!(tree.contains("image 2 at byte 3948: refused 17 BROKEN_IMAGE, no whole image"), "{tree}");
+    assert!(tree.contains("image 2 at byte 3949: refused 17 BROKEN_IMAGE, no whole image"), "{tree}");
 }
 
 #[test]
@@ -97,7 +100,7 @@ fn images_are_written_as_files_and_none_is_written_over() {
     assert_eq!(grade(&["write", &path("both.kto")]).0, Some(0), "beside the images");
     let (status, said) = grade(&["write", "--write", &path("more"), &path("both.kto"), &path("both.kto")]);
     assert_eq!(status, Some(0));
-    assert!(said.contains("image 2 at byte 3948: written as"), "{said}");
+    assert!(said.contains("image 2 at byte 3949: written as"), "{said}");
     for (written, image) in [("both.xml", 0), ("both-2.xml", 1), ("more/both.xml", 0), ("more/both-4.xml", 1)] {
         let folder = format!("again/{written}");
         assert_eq!(grade(&["--write", &path(&folder), &path(written)]).0, Some(0));
@@ -119,16 +122,16 @@ fn a_file_that_is_not_written_says_where_or_how_long() {
     let examples = Path::new(env!("CARGO_MANIFEST_DIR")).join("../../examples/written");
     let image = |name: &str| fs::read(examples.join(name)).unwrap();
     let (before, mut finer) = (image("several-statements.kto"), image("rent-account.kto"));
-    // The header has five bytes, three groups one each, MsgId its row, two of length and 17 of text: CreDtTm's item stands at 28, and its
+    // The header has six bytes, three groups one each, MsgId its row, two of length and 17 of text: CreDtTm's item stands at 29, and its
     // microseconds after the row byte, the day and the time of day.
-    finer[36..40].copy_from_slice(&123_456_u32.to_be_bytes());
+    finer[37..41].copy_from_slice(&123_456_u32.to_be_bytes());
     let run = folder.join("run.kto");
     fs::write(&run, [&before[..], &finer].concat()).unwrap();
     let (status, said) = grade(&["write", run.to_str().unwrap()]);
     assert_eq!(status, Some(1));
     assert!(said.contains("image 1 at byte 0: written as"), "{said}");
     let refused = "image 2 at byte 1170: refused 20 TOO_FINE, fraction finer than a file says, row 5 \
-                   Document/BkToCstmrStmt/GrpHdr/CreDtTm, byte 1198\n";
+                   Document/BkToCstmrStmt/GrpHdr/CreDtTm, byte 1199\n";
     assert!(said.ends_with(refused), "{said}");
     assert_eq!(fs::read_dir(&folder).unwrap().count(), 2, "the run and the first image's file");
 
@@ -164,11 +167,13 @@ fn a_closed_pipe_ends_it_quietly() {
 fn one_object_for_each_file() {
     let (status, said) = grade(&["--json", ".", "no-such-file.xml"]);
     assert_eq!(status, Some(2));
-    assert_eq!(said.lines().count(), 28);
+    assert_eq!(said.lines().count(), 38);
     assert!(said.lines().all(|line| line.starts_with("{\"file\":\"") && line.ends_with('}')), "{said}");
     assert!(
-        said.contains("{\"file\":\"./rent-account.xml\",\"code\":0,\"name\":\"ACCEPTED\",\"meaning\":\"accepted\",\"row\":0,\"place\":3948}")
+        said.contains("{\"file\":\"./rent-account.xml\",\"code\":0,\"name\":\"ACCEPTED\",\"meaning\":\"accepted\",\"row\":0,\"place\":3949,\"kind\":\"camt.053.001.08\"}")
     );
+    let report = said.lines().find(|line| line.contains("./intraday.xml")).unwrap();
+    assert!(report.ends_with("\"code\":0,\"name\":\"ACCEPTED\",\"meaning\":\"accepted\",\"row\":0,\"place\":1721,\"kind\":\"camt.052.001.08\"}"));
     let refused = said.lines().find(|line| line.contains("12-bad-value")).unwrap();
     assert_eq!(between(refused, "\"code\":", ",\"name\""), "12");
     assert_eq!(between(refused, "\"line\":", ",\"text\""), "786,\"column\":11");
@@ -182,7 +187,7 @@ fn a_page_for_a_browser() {
     let page = folder.join("report.html");
     assert_eq!(grade(&["--html", page.to_str().unwrap(), "."]).0, Some(1));
     let text = fs::read_to_string(&page).unwrap();
-    assert_eq!(text.matches("<article>").count(), 21);
+    assert_eq!(text.matches("<article>").count(), 29);
     assert_eq!(text.matches("<section id=\"code-").count(), 13);
     let section = between(&text, "<section id=\"code-12\">", "</section>");
     assert!(
@@ -196,8 +201,25 @@ fn a_page_for_a_browser() {
 fn made_statements_get_the_answers_of_their_table() {
     let folder = empty_folder("made");
     let path = folder.to_str().unwrap();
-    let (status, said) = grade(&["make", "--code", "all", "--seed", "77", "--entries", "7", "--files", "20", path]);
+    let reports = folder.join("reports");
+    let both = [(path, &[][..]), (reports.to_str().unwrap(), &["--report"])];
+    for (path, more) in both {
+        made_files_get_their_answers(path, more);
+    }
+    let (status, _) = grade(&["make", path]);
+    assert_eq!(status, Some(2), "no file is written over");
+    for bad in [&["make"][..], &["make", "--code", "14", path], &["--seed", "1", "."], &["make", "--code", "x", path]] {
+        assert_eq!(grade(bad).0, Some(2), "{bad:?}");
+    }
+    assert_eq!(grade(&["--report", "."]).0, Some(2), "a word of make's");
+}
+
+fn made_files_get_their_answers(path: &str, more: &[&str]) {
+    let words =
+        [&["make", "--code", "all", "--seed", "77", "--entries", "7", "--files", "20"][..], more, &[path]].concat();
+    let (status, said) = grade(&words);
     assert_eq!(status, Some(0), "{said}");
+    let folder = Path::new(path);
     let table = fs::read_to_string(folder.join("ANSWERS.txt")).unwrap();
     let (_, judged) = grade(&["--json", path]);
     let lines: Vec<Vec<&str>> =
@@ -209,11 +231,8 @@ fn made_statements_get_the_answers_of_their_table() {
         assert_eq!(answer, line[1..3], "{object}");
         assert!(object.contains(&format!("\"place\":{}", line[3])), "{object}");
     }
-    let (status, _) = grade(&["make", path]);
-    assert_eq!(status, Some(2), "no file is written over");
-    for bad in [&["make"][..], &["make", "--code", "14", path], &["--seed", "1", "."], &["make", "--code", "x", path]] {
-        assert_eq!(grade(bad).0, Some(2), "{bad:?}");
-    }
+    let kind = if more.is_empty() { "camt.053.001.08" } else { "camt.052.001.08" };
+    assert!(judged.lines().next().unwrap().ends_with(&format!("\"kind\":\"{kind}\"}}")), "{judged}");
 }
 
 /// A dense file of a good message is the one that is written from its image: written once more, it is the same.

@@ -22,7 +22,7 @@ const FAULTS: &[Fault] = &[
     (
         "walk.rs",
         "if contents.is_empty() {",
-        "if contents.is_empty() && children(row.number).all(|child| !child.count.required) {",
+        "if contents.is_empty() && list.children(row.number).all(|child| !child.count.required) {",
     ),
     // A test order swapped: 3 before 2.
     (
@@ -78,7 +78,7 @@ const FAULTS: &[Fault] = &[
     // U+FFFF taken.
     ("house/characters.rs", "[0xef, 0xbf] => Some((0x80, 0xbd)),", "[0xef, 0xbf] => Some((0x80, 0xbf)),"),
     // A group closed without its required children.
-    ("order.rs", "self.last != 0 && !self.lacks_between(self.last, u8::MAX)", "self.last != 0"),
+    ("order.rs", "self.last != 0 && !self.lacks_between(list, self.last, u8::MAX)", "self.last != 0"),
     // 48 without 47 in an image.
     (
         "order.rs",
@@ -135,6 +135,42 @@ const FAULTS: &[Fault] = &[
     ("write.rs", "*file += &format!(\"</{}>\", row.name);", "*file += &format!(\"</{}>\\n\", row.name);"),
     // The currency of every amount.
     ("write.rs", "amount.currency())", "\"EUR\")"),
+    // The namespace of statements for a report.
+    ("write.rs", "list.namespace)", "crate::list::STATEMENT.namespace)"),
+    // Version 3 let through.
+    ("read.rs", "// \"16 now means version neither 1 nor 2\"", "3 => Ok((version, &STATEMENT, 6)),"),
+    // Version 1 with a kind byte.
+    (
+        "read.rs",
+        "FORMER_VERSION => Ok((version, &STATEMENT, 5)),",
+        "FORMER_VERSION => Ok((version, &STATEMENT, if run.get(5..7) == Some(&[1, 1]) { 6 } else { 5 })),",
+    ),
+    // The kind byte taken for an item.
+    ("read.rs", "Some(list) => Ok((version, list, 6)),", "Some(list) => Ok((version, list, 5)),"),
+    // A bad kind byte counted.
+    (
+        "read.rs",
+        "None => Err(Answer::new(Code::NoWholeImage, 0, 5)),",
+        "None => Err(Answer::new(Code::NoWholeImage, 0, run.len().min(6))),",
+    ),
+    // Item places from 5 in version 2.
+    (
+        "read.rs",
+        "ok_or(Answer::new(Code::NoWholeImage, 0, at))",
+        "ok_or(Answer::new(Code::NoWholeImage, 0, at - usize::from(version == VERSION)))",
+    ),
+    // Version 1 written.
+    ("content.rs", "&VERSION.to_be_bytes()", "&FORMER_VERSION.to_be_bytes()"),
+    // The kind byte of statements for a report.
+    ("content.rs", "&[message.list.byte]", "&[1]"),
+    // The wrong list for a namespace.
+    ("walk.rs", "List::of_namespace(space.raw)", "List::of_namespace(space.raw).map(|_| &crate::list::STATEMENT)"),
+    // Pending entries in a statement.
+    ("list.rs", "const BOOKED: Kind = Kind::Enum(&[\"BOOK\"]);", "const BOOKED: Kind = BOOKED_OR_PENDING;"),
+    // A report that must have a balance.
+    ("list.rs", "row(15, \"Bal\", 6, ANY, Group)", "row(15, \"Bal\", 6, MANY, Group)"),
+    // The order of a report's words.
+    ("list.rs", "\"PRCD\", \"ITBD\"]", "\"ITBD\", \"PRCD\"]"),
 ];
 
 #[test]

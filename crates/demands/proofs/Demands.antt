@@ -2,7 +2,7 @@
 use mathlib.Core.Path.{_≡_, refl, sym, _∙_, ap, ap₂, subst}
 use mathlib.Core.Logic.{_⊎_, _↔_, inl, inr}
 use mathlib.Core.Bool.{Bool, true, false}
-use mathlib.Core.List.{List, [], _∷_, _++_, append-nil}
+use mathlib.Core.List.{List, [], _∷_, _++_, append-assoc, append-nil}
 use Prim.Native.Nat.{ℕ, _+_, _≤_, _<_}
 use native.Mathlib.Omega.{arith}
 use lib.Dec.{eqb}
@@ -12,11 +12,14 @@ use Rattle.answer.specs.declared.Answer.{Answer}
 use Rattle.answer.specs.Table.{accepted, limit, notUtf8, notHouseXml, noRoom, brokenImage}
 use Rattle.answer.specs.Table as table
 use Rattle.text_characters.specs.Utf8.{Utf8, LongestUtf8}
+use Rattle.list.specs.Listing.{Leaf, Listing}
+use Rattle.list.specs.WellFormed.{WellFormed}
 use Rattle.list.specs.Content.{Content, Meets}
-use Rattle.list_house.specs.House.{house}
-use Rattle.list_house.proofs.HouseSound.{house-well}
+use Rattle.list.specs.Within.{Among}
+use Rattle.list_house.specs.Lists.{asked, stored}
+use Rattle.list_house.proofs.Lists.{asked-well, kept-well, bytes-tell}
 use Rattle.xml.specs.House.{HouseXml, Longest}
-use Rattle.xml.specs.Message.{messageOf, rootAt}
+use Rattle.xml.specs.Message.{Inside, messageOf, rootAt}
 use Rattle.xml.proofs.Coded.{house-utf8}
 use Rattle.value.specs.Value.{Value, IsValue}
 use Rattle.value.specs.Moment.{present}
@@ -27,28 +30,30 @@ use Rattle.file_walk.specs.First.{First, firstViolation}
 use Rattle.file_walk.proofs.violation.Accept as walk
 use Rattle.file_walk.proofs.violation.Judges.{first-one}
 use Rattle.file_walk.proofs.bytes.Root.{one-element}
+use Rattle.image.specs.Image.{header, body, image}
 use Rattle.image.specs.Kinds.{values}
-use Rattle.image.specs.Place.{over, foreign, version, broken, wholeImage}
+use Rattle.image.specs.Place.{current, over, foreign, version, kindless, broken, wholeImage}
 use Rattle.image.specs.Pick.{refused, missing, found as at}
 use Rattle.image.proofs.types.Lawful.{lawful}
-use Rattle.image.proofs.content.Images.{told, image-long}
-use Rattle.image.proofs.answers.One.{image-begins}
-use Rattle.image_reading.specs.Reads.{stored, HouseAccepts, HouseReads, HousePicks}
+use Rattle.image.proofs.content.Images.{image-long}
+use Rattle.image.proofs.answers.Heads.{front-long, apart}
+use Rattle.image.proofs.answers.One.{told-kinds}
+use Rattle.image_reading.specs.Reads.{HouseAccepts, HouseReads, HousePicks}
 use Rattle.image_reading.proofs.House.{house-reads-some, house-reads-one, house-reads-exactly, house-begins, house-picks-some, house-picks-one}
 use Rattle.image_hold.proofs.Holding.{next-one, next-some}
 use Rattle.file.specs.Instance.{houseTypes, houseKinds}
 use Rattle.file.specs.File.{Whole, messageIn}
-use Rattle.file.specs.Checks.{Checks, Finds, long, badBytes, markup, violation, room, imaged}
+use Rattle.file.specs.Checks.{Answers, Chosen, Checks, Finds, long, badBytes, markup, violation, room, imaged}
 use Rattle.file.proofs.Codes.{violation-code}
-use Rattle.file.proofs.One.{of-long, of-bytes, of-markup, of-violation, of-room}
-use Rattle.file.proofs.Accepted as general
-use Rattle.file.proofs.House.{spelling, houseJudge, deciding, image-no-longer, one-content, checks-one, finds-one, accepted-image}
+use Rattle.file.proofs.One.{message-one, of-long, of-bytes, of-markup, of-violation, of-room}
+use Rattle.file.proofs.Chosen.{checks-over, filed-answers}
+use Rattle.file.proofs.House.{spelling, houseJudge, deciding, image-no-longer, one-content, checks-one, finds-one, taken, taken-filed, accepted-image, written-image, images-tell}
 use Rattle.file.proofs.Some.{checks-some}
 use Rattle.file_letter.specs.Letter.{treeOf, letterOf}
 use Rattle.file_letter.proofs.Meeting.{meets-on, said-is, has-said}
 use Rattle.file_letter.proofs.Has.{letter-has}
 use Rattle.file_letter.proofs.Good.{letter-good}
-use Rattle.demands.specs.Demands.{HouseFile, houseImage, Within, FileRefused, RunRefused, PickRefused, Demand1, Told, Begins, Message, Demand2, Written, Imaged, Laid, Tells, Demand3}
+use Rattle.demands.specs.Demands.{Kinded, HouseFile, houseImage, Within, FileRefused, RunRefused, PickRefused, Demand1, WalkedBy, Told, Stored, Begins, Message, Demand2, Written, Imaged, Laid, Divides, Tells, Demand3}
 use Rattle.demands.proofs.Causes.{causes}
 
 code : {a x : Answer} → a ≡ x → a .code ≡ x .code
@@ -57,40 +62,47 @@ code e = ap (λ (y : Answer). y .code) e
 place : {a x : Answer} → a ≡ x → a .place ≡ x .place
 place e = ap (λ (y : Answer). y .place) e
 
--- ---- demand 1
-
 pair : {A B : Type 0} {x y : A} {u v : B} → (x ≡ y) × (u ≡ v) → _≡_ {A = A × B} (x, u) (y, v)
 pair e = λ i. (e .0 i, e .1 i)
+
+-- ---- demand 1
 
 -- a line of the table has its place
 line : (a : Answer) (f : ℕ → Answer) (n : ℕ) → f n .place ≡ n → a ≡ f n → a ≡ f (a .place)
 line a f n h e = e ∙ ap f (sym (place e ∙ h))
 
-lines : (s d : List ℕ) (a : Answer) (d′ : List ℕ) → Checks s d a d′ → (length d′ ≡ length d) × ((a ≡ accepted (a .place)) ⊎ (FileRefused a × (d′ ≡ d)))
-lines s d a d′ (long h e f) = (ap length f, inr (inl e, f))
-lines s d a d′ (badBytes h u n p e f) = (ap length f, inr (inr (inl (line a notUtf8 n refl e)), f))
-lines s d a d′ (markup h u x n p e f) = (ap length f, inr (inr (inr (inl (line a notHouseXml n refl e))), f))
-lines s d a d′ (violation w p f) =
-    let v = violation-code houseTypes house (messageIn w) a p in
-    (ap length f, inr (inr (inr (inr (inl (v .0, v .1)))), f))
-lines s d a d′ (room c w h e f) = (ap length f, inr (inr (inr (inr (inr (line a noRoom (length (houseImage c)) refl e)))), f))
-lines s d a d′ (imaged c w h e f) =
-    let x = houseImage c in
-    (omega (arith, ap length f, length-append x (drop (length x) d), length-drop (length x) d), inl (line a accepted (length x) refl e))
+module _ (l : Listing) where
+  lines : (s d : List ℕ) (a : Answer) (d′ : List ℕ) → Answers houseKinds l s d a d′ → (length d′ ≡ length d) × ((a ≡ accepted (a .place)) ⊎ (FileRefused a × (d′ ≡ d)))
+  lines s d a d′ (long h e f) = (ap length f, inr (inl e, f))
+  lines s d a d′ (badBytes h u n p e f) = (ap length f, inr (inr (inl (line a notUtf8 n refl e)), f))
+  lines s d a d′ (markup h u x n p e f) = (ap length f, inr (inr (inr (inl (line a notHouseXml n refl e))), f))
+  lines s d a d′ (violation w p f) =
+      let v = violation-code houseTypes l (messageIn w) a p in
+      (ap length f, inr (inr (inr (inr (inl (v .0, v .1)))), f))
+  lines s d a d′ (room c w h e f) = (ap length f, inr (inr (inr (inr (inr (line a noRoom (length (houseImage (l, c))) refl e)))), f))
+  lines s d a d′ (imaged c w h e f) =
+      let x = houseImage (l, c) in
+      (omega (arith, ap length f, length-append x (drop (length x) d), length-drop (length x) d), inl (line a accepted (length x) refl e))
 
--- the answer to a buffer as long as the file is the answer to every longer one
-longer : (s : List ℕ) (a : Answer) (e′ d : List ℕ) → length s ≤ length d → Checks s s a e′ → (d′ : List ℕ) × Checks s d a d′
-longer s a e′ d g (long h e f) = (d, long h e refl)
-longer s a e′ d g (badBytes h u n p e f) = (d, badBytes h u n p e refl)
-longer s a e′ d g (markup h u x n p e f) = (d, markup h u x n p e refl)
-longer s a e′ d g (violation w p f) = (d, violation w p refl)
-longer s a e′ d g (room c w h e f) = absurd (omega (arith, image-no-longer s c w))
-longer s a e′ d g (imaged c w h e f) = (houseImage c ++ drop (length (houseImage c)) d, imaged c w (omega arith) e refl)
+  -- the answer to a buffer as long as the file is the answer to every longer one
+  longer : Among l asked → (s : List ℕ) (a : Answer) (e′ d : List ℕ) → length s ≤ length d → Answers houseKinds l s s a e′ → (d′ : List ℕ) × Answers houseKinds l s d a d′
+  longer i s a e′ d g (long h e f) = (d, long h e refl)
+  longer i s a e′ d g (badBytes h u n p e f) = (d, badBytes h u n p e refl)
+  longer i s a e′ d g (markup h u x n p e f) = (d, markup h u x n p e refl)
+  longer i s a e′ d g (violation w p f) = (d, violation w p refl)
+  longer i s a e′ d g (room c w h e f) = absurd (omega (arith, image-no-longer s l c (record { among = i; file = w })))
+  longer i s a e′ d g (imaged c w h e f) = (houseImage (l, c) ++ drop (length (houseImage (l, c))) d, imaged c w (omega arith) e refl)
+
+longer-checks : (s : List ℕ) (a : Answer) (e′ d : List ℕ) → length s ≤ length d → Checks s s a e′ → (d′ : List ℕ) × Checks s d a d′
+longer-checks s a e′ d g p =
+    let o = longer (p .list) (p .among) s a e′ d g (p .answers) in
+    (o .0, record { list = p .list; among = p .among; chosen = p .chosen; answers = o .1 })
 
 run-lines : (run : List ℕ) (a : Answer) → HouseReads run a → (a ≡ accepted (a .place)) ⊎ RunRefused a
 run-lines run a (over h e) = inr (inl e)
 run-lines run a (foreign h x e) = inr (inr (inl e))
-run-lines run a (version h x y w e) = inr (inr (inr (inl e)))
+run-lines run a (version h x y w v e) = inr (inr (inr (inl e)))
+run-lines run a (kindless h x y e) = inr (inr (inr (inr (line a brokenImage 5 refl e))))
 run-lines run a (broken h l i t q s x n y e) = inr (inr (inr (inr (line a brokenImage (length t + n) refl e))))
 run-lines run a (wholeImage h n w e) = inl (line a accepted n refl e)
 
@@ -106,8 +118,8 @@ pick-lines run r n a part (at h k w p u e) = inl (line a (table.picked r) p refl
 pub demand1 : Demand1
 demand1 = record {
   checks = λ s d. let x = checks-some s d in record { result = (x .0, x .1); fits = x .2; one = λ o p. pair (checks-one s d (o .0) (x .0) (o .1) (x .1) p (x .2)) };
-  checked = lines;
-  finds = λ s. let x = checks-some s s in let f : Finds s (x .0) = record { roomy = λ d g. longer s (x .0) (x .1) d g (x .2) } in record { result = x .0; fits = f; one = λ a p. finds-one s a (x .0) p f };
+  checked = λ s d a d′ p. lines (p .list) s d a d′ (p .answers);
+  finds = λ s. let x = checks-some s s in let f : Finds s (x .0) = record { roomy = λ d g. longer-checks s (x .0) (x .1) d g (x .2) } in record { result = x .0; fits = f; one = λ a p. finds-one s a (x .0) p f };
   reads = λ run. let x = house-reads-some run in record { result = x .0; fits = x .1; one = λ a p. house-reads-one run a (x .0) p (x .1) };
   read = run-lines;
   picks = λ run r n. let x = house-picks-some run r n in record { result = (x .0, x .1); fits = x .2; one = λ o p. pair (house-picks-one run r n (o .0) (x .0) (o .1) (x .1) p (x .2)) };
@@ -125,15 +137,15 @@ Choice false A B = B
 module _ (s d : List ℕ) where
   -- what stands behind an answer, by its code
   abbrev Walked : Answer → Type 0
-  Walked a = (w : Whole s) × First houseTypes house (messageIn w) (Violation a)
+  Walked a = (l : Listing) × (w : WalkedBy s l) × First houseTypes l (messageIn (w .whole)) (Violation a)
 
   abbrev Why : Answer → Type 0
   Why a =
-      Choice (eqb (a .code) 0) ((c : Content Value) × HouseFile s c × (a .place ≡ length (houseImage c)) × (a .place ≤ length d))
+      Choice (eqb (a .code) 0) ((c : Kinded) × HouseFile s c × (a .place ≡ length (houseImage c)) × (a .place ≤ length d))
       (Choice (eqb (a .code) 1) (limit < length s)
       (Choice (eqb (a .code) 2) ((length s ≤ limit) × (Utf8 s → ⊥) × LongestUtf8 s (a .place))
       (Choice (eqb (a .code) 3) ((length s ≤ limit) × Utf8 s × (HouseXml s → ⊥) × Longest s (a .place))
-      (Choice (eqb (a .code) 14) ((c : Content Value) × HouseFile s c × (a .place ≡ length (houseImage c)) × (length d < a .place)) (Walked a)))))
+      (Choice (eqb (a .code) 14) ((c : Kinded) × HouseFile s c × (a .place ≡ length (houseImage c)) × (length d < a .place)) (Walked a)))))
 
   -- of a violation it is the walk
   on-walk : (a : Answer) → Within 4 13 a → Why a ↔ Walked a
@@ -146,136 +158,231 @@ module _ (s d : List ℕ) where
   ) ((λ x. x), (λ x. x))
 
   module _ (a : Answer) (d′ : List ℕ) where
-    why : Checks s d a d′ → Why a
-    why (long h e f) = subst Why (sym e) h
-    why (badBytes h u n p e f) = subst Why (sym e) (h, u, p)
-    why (markup h u x n p e f) = subst Why (sym e) (h, u, x, p)
-    why (violation w p f) =
-        let v = violation-code houseTypes house (messageIn w) a p in
-        on-walk a (v .0, v .1) .1 (w, p)
-    why (room c w h e f) = subst Why (sym e) (c, w, refl, h)
-    why (imaged c w h e f) = subst Why (sym e) (c, w, refl, h)
+    why-by : (l : Listing) → Among l asked → ((w : Whole s) → Chosen (messageIn w) l) → Answers houseKinds l s d a d′ → Why a
+    why-by l i q (long h e f) = subst Why (sym e) h
+    why-by l i q (badBytes h u n p e f) = subst Why (sym e) (h, u, p)
+    why-by l i q (markup h u x n p e f) = subst Why (sym e) (h, u, x, p)
+    why-by l i q (violation w p f) =
+        let v = violation-code houseTypes l (messageIn w) a p in
+        on-walk a (v .0, v .1) .1 (l, record { whole = w; among = i; chosen = q w }, p)
+    why-by l i q (room c w h e f) = subst Why (sym e) ((l, c), record { among = i; file = w }, refl, h)
+    why-by l i q (imaged c w h e f) = subst Why (sym e) ((l, c), record { among = i; file = w }, refl, h)
 
-    gives-image : Checks s d a d′ → (n : ℕ) → a ≡ accepted n → (c : Content Value) → HouseFile s c → d′ ≡ houseImage c ++ drop n d
-    gives-image p n z c f =
-        let t = general.taken houseKinds house s d a d′ p (code z) in
-        t .buffer ∙ ap₂ (λ (x : Content Value) (k : ℕ). houseImage x ++ drop k d) (one-content s (t .content) c (t .file) f) (sym (place (t .is)) ∙ place z)
+    module _ (p : Checks s d a d′) where
+      why : Why a
+      why = why-by (p .list) (p .among) (p .chosen) (p .answers)
 
-    cause : Checks s d a d′ → Within 4 13 a → Walked a
-    cause p h = on-walk a h .0 (why p)
+      by-list : (l : Listing) (w : WalkedBy s l) → Answers houseKinds l s d a d′
+      by-list l w = checks-over s d a d′ p l (w .among) (λ v. subst (λ (m : Inside). Chosen m l) (message-one s (w .whole) v) (w .chosen))
 
-    all-told : Checks s d a d′ → Told s d a d′
-    all-told p = record {
-      exactly = λ n. ((λ z. subst Why z (why p)), λ g. accepted-image s d a d′ p (g .0) (g .1) (omega (arith, g .2, g .3)) .0 ∙ ap accepted (sym (g .2)));
-      gives = gives-image p;
-      long = ((λ z. subst Why z (why p)), λ h. of-long houseKinds spelling house house-well s d a d′ h p .answer);
-      bytes = λ n. ((λ z. subst Why z (why p)), λ g. of-bytes houseKinds spelling house house-well s d a d′ (g .0) (g .1) n (g .2) p .answer);
-      markup = λ n. ((λ z. subst Why z (why p)), λ g. of-markup houseKinds spelling house house-well s d a d′ (g .0) (g .1) (g .2) n (g .3) p .answer);
-      walked = λ b h. ((λ z. on-walk b h .0 (subst Why z (why p))), λ g. of-violation houseKinds spelling house house-well s d a d′ (g .0) b (g .1) p .answer);
-      room = λ n. ((λ z. subst Why z (why p)), λ g. of-room houseKinds spelling house house-well s d a d′ (g .0) (g .1) (omega (arith, g .2, g .3)) p .answer ∙ ap noRoom (sym (g .2)));
-      value = λ e. let v = cause p (omega arith, omega arith) in (v .0, causes (messageIn (v .0)) a (v .1) .0 e);
-      attributes = λ e. let v = cause p (omega arith, omega arith) in (v .0, causes (messageIn (v .0)) a (v .1) .1 e);
-    }
+      gives-image : (n : ℕ) → a ≡ accepted n → (c : Kinded) → HouseFile s c → d′ ≡ houseImage c ++ drop n d
+      gives-image n z c f =
+          let t = taken s d a d′ p (code z) in
+          t .buffer ∙ ap₂ (λ (x : Kinded) (k : ℕ). houseImage x ++ drop k d) (pair (one-content s (p .list) (c .0) (t .content) (c .1) (taken-filed s d a d′ p t) f)) (sym (place (t .is)) ∙ place z)
+
+      cause : Within 4 13 a → Walked a
+      cause h = on-walk a h .0 why
+
+      well : (l : Listing) → WalkedBy s l → WellFormed l
+      well l w = asked-well l (w .among)
+
+      its : WellFormed (p .list)
+      its = asked-well (p .list) (p .among)
+
+      all-told : Told s d a d′
+      all-told = record {
+        exactly = λ n. ((λ z. subst Why z why), λ g. accepted-image s d a d′ p (g .0 .0) (g .0 .1) (g .1) (omega (arith, g .2, g .3)) .0 ∙ ap accepted (sym (g .2)));
+        gives = gives-image;
+        long = ((λ z. subst Why z why), λ h. of-long houseKinds spelling (p .list) its s d a d′ h (p .answers) .answer);
+        bytes = λ n. ((λ z. subst Why z why), λ g. of-bytes houseKinds spelling (p .list) its s d a d′ (g .0) (g .1) n (g .2) (p .answers) .answer);
+        markup = λ n. ((λ z. subst Why z why), λ g. of-markup houseKinds spelling (p .list) its s d a d′ (g .0) (g .1) (g .2) n (g .3) (p .answers) .answer);
+        walked = λ b h. (
+          (λ z. on-walk b h .0 (subst Why z why)),
+          (λ g. of-violation houseKinds spelling (g .0) (well (g .0) (g .1)) s d a d′ (g .1 .whole) b (g .2) (by-list (g .0) (g .1)) .answer),
+        );
+        room = λ n. (
+          (λ z. subst Why z why),
+          (λ g. of-room houseKinds spelling (g .0 .0) (asked-well (g .0 .0) (g .1 .among)) s d a d′ (g .0 .1) (g .1 .file) (omega (arith, g .2, g .3)) (filed-answers s (g .0 .0) (g .0 .1) (g .1) d a d′ p) .answer ∙ ap noRoom (sym (g .2))),
+        );
+        value = λ e. let v = cause (omega arith, omega arith) in (v .0, v .1, causes (v .0) (well (v .0) (v .1)) (messageIn (v .1 .whole)) a (v .2) .0 e);
+        attributes = λ e. let v = cause (omega arith, omega arith) in (v .0, v .1, causes (v .0) (well (v .0) (v .1)) (messageIn (v .1 .whole)) a (v .2) .1 e);
+      }
 
 -- the reader accepts what begins with an image
 module _ (run : List ℕ) (n : ℕ) where
-  begins : HouseAccepts run n → (c : Content Value) × Meets IsValue house c × Begins run n c
-  begins w = let o = house-begins run n w in (w .holds .content, o .0, record { rest = w .holds .rest; at = o .1; long = o .2 })
+  begins : HouseAccepts run n → Begins IsValue run n
+  begins w =
+      let o = house-begins run n w in
+      record {
+        image = w .head ++ body values (w .list) (w .holds .content);
+        content = (w .list, w .holds .content);
+        held = record { among = w .among; meets = o .0; head = w .head; front = w .front; is = refl };
+        rest = w .holds .rest;
+        at = o .1;
+        long = o .2;
+      }
 
-  begun : (c : Content Value) → Meets IsValue house c → Begins run n c → HouseAccepts run n
-  begun c m b =
-      subst (λ (s : List ℕ). HouseAccepts s n) (sym (b .at)) (subst (HouseAccepts (houseImage c ++ b .rest)) (sym (b .long)) (image-begins values stored house (inl refl) c m (b .rest)))
+  begun : Begins IsValue run n → HouseAccepts run n
+  begun b =
+      let c = b .content in
+      let k = body values (c .0) (c .1) in
+      record {
+        list = c .0;
+        among = b .held .among;
+        head = b .held .head;
+        front = b .held .front;
+        behind = k ++ b .rest;
+        at = b .at ∙ ap (λ (x : List ℕ). x ++ b .rest) (b .held .is) ∙ append-assoc (b .held .head) k (b .rest);
+        size = length k;
+        holds = record { content = c .1; meets = b .held .meets; rest = b .rest; at = refl; long = refl };
+        long = b .long ∙ ap length (b .held .is) ∙ length-append (b .held .head) k;
+      }
 
-reads-image : (run : List ℕ) (a : Answer) → HouseReads run a → (n : ℕ) → (a ≡ accepted n) ↔ ((length run ≤ limit) × ((c : Content Value) × Meets IsValue house c × Begins run n c))
+reads-image : (run : List ℕ) (a : Answer) → HouseReads run a → (n : ℕ) → (a ≡ accepted n) ↔ ((length run ≤ limit) × Begins IsValue run n)
 reads-image run a r n = (
   (λ z. let w = house-reads-exactly run a r n .0 (code z, place z) in (w .0, begins run n (w .1))),
-  (λ g. house-reads-one run a (accepted n) r (wholeImage (g .0) n (begun run n (g .1 .0) (g .1 .1) (g .1 .2)) refl)),
+  (λ g. house-reads-one run a (accepted n) r (wholeImage (g .0) n (begun run n (g .1)) refl)),
 )
 
--- every content that meets the rules, by the present one of date-times, has a message, the one that is written for it; and what has one meets them
-message : (c : Content Value) → Meets (Spelled present) house c → Message (letterOf house c) c
-unfolding letterOf
-message c s =
-    let m = said-is house c s in
-    let h = letter-has house house-well c s in
-    let g = letter-good house house-well c m in
-    let n = messageOf (treeOf house c) in
-    let f : First houseTypes house n (firstViolation houseJudge house n) = record { judge = houseJudge; decides = deciding; is = refl } in
-    record {
-      utf8 = house-utf8 (record { tree = treeOf house c; good = g; is = refl });
-      xml = record { tree = treeOf house c; good = g; is = refl };
-      good = subst (First houseTypes house n) (walk.accepted houseTypes spelling house house-well n c m h (firstViolation houseJudge house n) f) f;
-      has = h;
-    }
-
-rules : (c : Content Value) (s : List ℕ) → Message s c → Meets IsValue house c
-rules c s w =
-    let t = w .xml .tree in
-    let o = walk.accept houseTypes spelling house house-well (messageOf t) (one-element (t .root) (rootAt t) (w .xml .good .one)) (w .good) in
-    subst (Meets IsValue house) (walk.unique houseTypes spelling house house-well (messageOf t) (o .0) c (o .2) (w .has)) (o .1)
-
 -- what images hold is what one of the two rules spells
-by-either : (c : Content Value) → Meets IsValue house c ↔ Meets SpelledByEither house c
-by-either c = (meets-on house IsValue SpelledByEither (λ k v. both-rules k v .0) c, meets-on house SpelledByEither IsValue (λ k v. both-rules k v .1) c)
+by-either : (l : Listing) (c : Content Value) → Meets IsValue l c ↔ Meets SpelledByEither l c
+by-either l c = (meets-on l IsValue SpelledByEither (λ k v. both-rules k v .0) c, meets-on l SpelledByEither IsValue (λ k v. both-rules k v .1) c)
+
+-- by other values that meet a list alike
+begins-on : (P Q : Leaf → Value → Type 0) → ((l : Listing) (c : Content Value) → Meets P l c → Meets Q l c) → (run : List ℕ) (n : ℕ) → Begins P run n → Begins Q run n
+begins-on P Q f run n b = record {
+  image = b .image;
+  content = b .content;
+  held = record { among = b .held .among; meets = f (b .content .0) (b .content .1) (b .held .meets); head = b .held .head; front = b .held .front; is = b .held .is };
+  rest = b .rest;
+  at = b .at;
+  long = b .long;
+}
+
+-- every content that meets the rules, by the present one of date-times, has a message, the one that is written for it; and what has one meets them
+module _ (l : Listing) (wf : WellFormed l) (c : Content Value) where
+  message : Meets (Spelled present) l c → Message (letterOf l c) (l, c)
+  unfolding letterOf
+  message s =
+      let m = said-is l c s in
+      let h = letter-has l wf c s in
+      let g = letter-good l wf c m in
+      let n = messageOf (treeOf l c) in
+      let f : First houseTypes l n (firstViolation houseJudge l n) = record { judge = houseJudge; decides = deciding; is = refl } in
+      record {
+        utf8 = house-utf8 (record { tree = treeOf l c; good = g; is = refl });
+        xml = record { tree = treeOf l c; good = g; is = refl };
+        good = subst (First houseTypes l n) (walk.accepted houseTypes spelling l wf n c m h (firstViolation houseJudge l n) f) f;
+        has = h;
+      }
+
+  rules : (s : List ℕ) → Message s (l, c) → Meets IsValue l c
+  rules s w =
+      let t = w .xml .tree in
+      let o = walk.accept houseTypes spelling l wf (messageOf t) (one-element (t .root) (rootAt t) (w .xml .good .one)) (w .good) in
+      subst (Meets IsValue l) (walk.unique houseTypes spelling l wf (messageOf t) (o .0) c (o .2) (w .has)) (o .1)
+
+  messages : Meets (Spelled present) l c ↔ ((s : List ℕ) × Message s (l, c))
+  messages = ((λ m. (letterOf l c, message m)), (λ w. has-said l (messageOf (w .1 .xml .tree)) c (rules (w .0) (w .1)) (w .1 .has)))
 
 pub demand2 : Demand2
 demand2 = record {
   told = all-told;
-  judges = λ j d m f. (
-    (λ x. first-one houseTypes house m (firstViolation j house m) f (record { judge = j; decides = d; is = refl }) x),
+  judges = λ j d l m f. (
+    (λ x. first-one houseTypes l m (firstViolation j l m) f (record { judge = j; decides = d; is = refl }) x),
     (λ e. record { judge = j; decides = d; is = e }),
   );
   judge = (houseJudge, deciding);
   reads = reads-image;
   values = both-rules;
-  messages = λ c. ((λ m. (letterOf house c, message c m)), (λ w. has-said house (messageOf (w .1 .xml .tree)) c (rules c (w .0) (w .1)) (w .1 .has)));
-  spelt = λ run a r n. (
-    (λ z. let g = reads-image run a r n .0 z in (g .0, (g .1 .0, by-either (g .1 .0) .0 (g .1 .1), g .1 .2))),
-    (λ g. reads-image run a r n .1 (g .0, (g .1 .0, by-either (g .1 .0) .1 (g .1 .1), g .1 .2))),
-  );
   same = by-either;
+  spelt = λ run a r n. (
+    (λ z. let g = reads-image run a r n .0 z in (g .0, begins-on IsValue SpelledByEither (λ l c. by-either l c .0) run n (g .1))),
+    (λ g. reads-image run a r n .1 (g .0, begins-on SpelledByEither IsValue (λ l c. by-either l c .1) run n (g .1))),
+  );
+  messages = λ l i c. messages l (asked-well l i) c;
 }
 
 -- ---- demand 3
 
--- what stands for a content is its image
-module _ (For : List ℕ → Content Value → Type 0) (is : (x : List ℕ) (c : Content Value) → For x c → Imaged x c) where
-  cut : (x y : List ℕ) (c e : Content Value) → For x c → For y e → (u v : List ℕ) → x ++ u ≡ y ++ v → (x ≡ y) × (c ≡ e) × (u ≡ v)
-  cut x y c e p q u v z =
-      let i = is x c p in
-      let j = is y e q in
-      let t = told values house lawful house-well c e u v (i .meets) (j .meets) (ap (λ (w : List ℕ). w ++ u) (sym (i .is)) ∙ z ∙ ap (λ (w : List ℕ). w ++ v) (j .is)) in
-      (i .is ∙ ap houseImage (t .0) ∙ sym (j .is), t .0, t .1)
+-- where a run begins with two that stand for contents, they are one, so are the contents, and what follows is the same; and none is empty
+pub record Cuts (For : List ℕ → Kinded → Type 0) : Type 0 where
+  pub long : (x : List ℕ) (c : Kinded) → For x c → 0 < length x
+  pub cut : (x y : List ℕ) (c e : Kinded) → For x c → For y e → (u v : List ℕ) → x ++ u ≡ y ++ v → (x ≡ y) × (c ≡ e) × (u ≡ v)
 
-  -- no image is empty
-  nothing : {A : Type 0} (x : List ℕ) (c : Content Value) (rest : List ℕ) → For x c → [] ≡ x ++ rest → A
-  nothing x c rest p z = absurd (omega (arith, image-long values house c, ap length (is x c p .is), ap length z, length-append x rest))
+module _ (For : List ℕ → Kinded → Type 0) (cuts : Cuts For) where
+  nothing : {A : Type 0} (x : List ℕ) (c : Kinded) (rest : List ℕ) → For x c → [] ≡ x ++ rest → A
+  nothing x c rest p z = absurd (omega (arith, cuts .long x c p, ap length z, length-append x rest))
 
-  division : (run : List ℕ) (ps qs : List (List ℕ × Content Value)) → Laid For run ps → Laid For run qs → ps ≡ qs
+  division : (run : List ℕ) (ps qs : List (List ℕ × Kinded)) → Laid For run ps → Laid For run qs → ps ≡ qs
   division run [] [] g h = refl
   division run [] (q ∷ qs) g h = nothing (q .0) (q .1) (h .1 .0) (h .0) (sym g ∙ h .1 .1)
   division run (p ∷ ps) [] g h = nothing (p .0) (p .1) (g .1 .0) (g .0) (sym h ∙ g .1 .1)
   division run (p ∷ ps) (q ∷ qs) g h =
-      let k = cut (p .0) (q .0) (p .1) (q .1) (g .0) (h .0) (g .1 .0) (h .1 .0) (sym (g .1 .1) ∙ h .1 .1) in
+      let k = cuts .cut (p .0) (q .0) (p .1) (q .1) (g .0) (h .0) (g .1 .0) (h .1 .0) (sym (g .1 .1) ∙ h .1 .1) in
       ap₂ _∷_ (pair (k .0, k .1)) (division (g .1 .0) ps qs (g .1 .2) (subst (λ (r : List ℕ). Laid For r qs) (sym (k .2)) (h .1 .2)))
 
-  tells : Tells For
-  tells = record {
-    equal = λ x y c e p q. (
-      (λ z. cut x y c e p q [] [] (ap (λ (i : List ℕ). i ++ []) z) .1),
-      (λ z. is x c p .is ∙ ap houseImage z ∙ sym (is y e q .is)),
-    );
-    apart = λ x y c e p q u z. cut x y c e p q u [] (z ∙ sym (append-nil y)) .2;
+  parted : Divides For
+  parted = record {
+    one = λ x c e p q. cuts .cut x x c e p q [] [] refl .1;
+    apart = λ x y c e p q u z. cuts .cut x y c e p q u [] (z ∙ sym (append-nil y)) .2;
     divides = division;
   }
 
-written : (x : List ℕ) (c : Content Value) → Written x c → Imaged x c
-written x c w =
-    let t = general.taken houseKinds house (w .file) (w .lent) (w .answer) (w .left) (w .checks) (w .good) in
-    record {
-      meets = w .content .meets;
-      is = w .is ∙ general.written houseKinds house (w .file) (w .lent) (w .answer) (w .left) t ∙ ap houseImage (one-content (w .file) (t .content) c (t .file) (w .content));
-    }
+  -- where each is the image of its content
+  tells : ((x : List ℕ) (c : Kinded) → For x c → x ≡ houseImage c) → Tells For
+  tells is = record {
+    equal = λ x y c e p q. (
+      (λ z. cuts .cut x y c e p q [] [] (ap (λ (i : List ℕ). i ++ []) z) .1),
+      (λ z. is x c p ∙ ap houseImage z ∙ sym (is y e q)),
+    );
+    divided = parted;
+  }
+
+image-some : (x : List ℕ) (c : Kinded) → x ≡ houseImage c → 0 < length x
+image-some x c e = omega (arith, image-long values (c .0) (c .1), ap length e)
+
+-- of either version
+stored-cuts : Cuts (Stored IsValue)
+stored-cuts = record {
+  long = λ x c p. omega (arith, front-long (c .0) (p .head) (p .front), ap length (p .is), length-append (p .head) (body values (c .0) (c .1)));
+  cut = λ x y c e p q u v z.
+      let o =
+      told-kinds values stored lawful kept-well (apart stored bytes-tell) (c .0) (e .0) (p .among) (q .among) (p .head) (q .head) (p .front) (q .front) (c .1) (e .1) (p .meets) (q .meets) u v
+      (ap (λ (w : List ℕ). w ++ u) (sym (p .is)) ∙ z ∙ ap (λ (w : List ℕ). w ++ v) (q .is)) in
+      let k : c ≡ e = pair (o .0, o .2) in
+      (p .is ∙ ap₂ (λ (h : List ℕ) (b : Kinded). h ++ body values (b .0) (b .1)) (o .1) k ∙ sym (q .is), k, o .3);
+}
+
+-- version 2 is one of them
+imaged-stored : (x : List ℕ) (c : Kinded) → Imaged x c → Stored IsValue x c
+unfolding image
+imaged-stored x c i = record { among = i .among; meets = i .meets; head = header (c .0); front = current refl; is = i .is }
+
+imaged-cuts : Cuts Imaged
+imaged-cuts = record {
+  long = λ x c p. image-some x c (p .is);
+  cut = λ x y c e p q. stored-cuts .cut x y c e (imaged-stored x c p) (imaged-stored y e q);
+}
+
+written : (x : List ℕ) (c : Kinded) → Written x c → x ≡ houseImage c
+written x c w = w .is ∙ written-image (w .file) (w .lent) (w .answer) (w .left) (w .checks) (w .good) (c .0) (c .1) (w .content)
+
+written-cuts : Cuts Written
+written-cuts = record {
+  long = λ x c p. image-some x c (written x c p);
+  cut = λ x y c e p q u v z.
+      let o =
+      images-tell (p .file) (p .lent) (p .answer) (p .left) (p .checks) (p .good) (q .file) (q .lent) (q .answer) (q .left) (q .checks) (q .good) (c .0) (c .1) (p .content) (e .0) (e .1) (q .content) u v
+      (ap (λ (w : List ℕ). w ++ u) (sym (p .is)) ∙ z ∙ ap (λ (w : List ℕ). w ++ v) (q .is)) in
+      let k : c ≡ e = pair (o .0, o .1) in
+      (written x c p ∙ ap houseImage k ∙ sym (written y e q), k, o .2);
+}
 
 pub demand3 : Demand3
-demand3 = record { files = tells Written written; contents = tells Imaged (λ x c i. i) }
+demand3 = record {
+  files = tells Written written-cuts written;
+  contents = tells Imaged imaged-cuts (λ x c i. i .is);
+  kinds = λ x y l m c p q z. ap (λ (k : Kinded). k .0) (imaged-cuts .cut x y (l, c) (m, c) p q [] [] (ap (λ (i : List ℕ). i ++ []) z) .1);
+  versions = parted (Stored IsValue) stored-cuts;
+}

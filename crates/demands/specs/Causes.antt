@@ -3,7 +3,6 @@ use mathlib.Core.Path.{_≡_}
 use mathlib.Core.List.{List, []}
 use Prim.Native.Nat.{ℕ}
 use Rattle.list.specs.Listing.{Leaf, Kind, group, choice, leaf, Listing, rowAt, child}
-use Rattle.list_house.specs.House.{house}
 use Rattle.xml.specs.Message.{Attrs, Inside, nothingInside, character, element}
 use Rattle.value.specs.Value.{Value, Spelt}
 use Rattle.file_walk.specs.First.{currencyGiven, textOf}
@@ -30,17 +29,17 @@ inner (character o x k) = nothingInside
 inner (element o n ats i k) = i
 
 -- 12: "value breaks its type": the characters of a leaf, entities resolved, spell no value of its type
-pub record BadValue (p : ℕ) (m : Inside) (r o : ℕ) : Type 0 where
+pub record BadValue (l : Listing) (p : ℕ) (m : Inside) (r o : ℕ) : Type 0 where
   pub attrs : Attrs
   pub parts : Inside
-  pub stands : Stands house r o attrs parts p m
+  pub stands : Stands l r o attrs parts p m
   pub type : Leaf
-  pub kind : rowAt house r .kind ≡ leaf type
+  pub kind : rowAt l r .kind ≡ leaf type
   pub none : (v : Value) → Spelt type (currencyGiven attrs) (textOf parts) v → ⊥
 
 -- 9: "attributes not exactly the type's, or bad Ccy"
-pub record BadAttributes (p : ℕ) (m : Inside) (r o : ℕ) : Type 0 where
+pub record BadAttributes (l : Listing) (p : ℕ) (m : Inside) (r o : ℕ) : Type 0 where
   pub attrs : Attrs
   pub parts : Inside
-  pub stands : Stands house r o attrs parts p m
-  pub wrong : AttrsOf (rowAt house r .kind) attrs → ⊥
+  pub stands : Stands l r o attrs parts p m
+  pub wrong : AttrsOf (rowAt l r .kind) attrs → ⊥

@@ -32,7 +32,7 @@ test-coded : (b : Bool) (a : Answer) (g : Found) → Line a → Coded g → Code
 test-coded true a g h i = h
 test-coded false a g h i = i
 
--- one of a line behind 4
+-- one of a line after 4
 later : (b : Bool) (a : Answer) (g : Found) → 5 ≤ a .code → a .code ≤ 13 → Coded g → Coded (orElse (refuse b a) g)
 later b a g h i = test-coded b a g (omega arith, i, λ e. absurd (omega arith))
 

@@ -1,4 +1,4 @@
--- Files that differ in schema hints alone have one content and one image. Assumes nothing.
+-- Files that differ in schema hints alone have one content. Assumes nothing.
 use mathlib.Core.Path.{_≡_, refl, sym, _∙_, ap, subst}
 use mathlib.Core.Bool.{Bool, true, false, cond}
 use mathlib.Core.List.{List, [], _∷_}
@@ -7,17 +7,15 @@ use native.Mathlib.Omega.{arith}
 use lib.ListN.{length}
 use Rattle.text_characters.specs.Pieces.{spell, resolved, resolvedAll}
 use Rattle.list.specs.Listing.{Kind, group, choice, leaf, Listing, rowAt}
-use Rattle.list.specs.WellFormed.{WellFormed}
 use Rattle.list.specs.Content.{Content, end, value, node}
 use Rattle.xml.specs.House.{Attr, Tag, tag, Markup as Tags, noMore as over, piece, emptyTag, full, render, OneElement, Tree}
 use Rattle.xml.specs.Message.{Attrs, Inside, attrsOf, partsOf, rootAt}
-use Rattle.file_walk.specs.Types.{Types, Spelling}
+use Rattle.file_walk.specs.Types.{Types}
 use Rattle.file_walk.specs.First.{textOf, isHint, unhinted, bound, currencyGiven}
 use Rattle.file_walk.specs.Denotes.{plain, RootAttrs, Spells, Denotes, Has}
 use Rattle.file.specs.Instance.{Kinds}
-use Rattle.file.specs.File.{Whole, messageIn, File, imageOf}
-use Rattle.file.specs.Hints.{bareAttrs, bareTag, bareRoot, HintsAlone, rootOf}
-use Rattle.file.proofs.One.{content-one}
+use Rattle.file.specs.File.{Whole, messageIn, rootOf, File}
+use Rattle.file.specs.Hints.{bareAttrs, bareTag, bareRoot, HintsAlone}
 
 -- ---- at other places the same
 
@@ -88,7 +86,7 @@ full-inside : (g g′ : Tag) (i i′ : Tags) (b b′ : List ℕ) (k k′ : Tags)
 full-inside g g′ i i′ b b′ k k′ e = cc
 
 module _ (t : Types) (l : Listing) where
-  has-bound : (m : Inside) (c : Content (t .A)) → Has t l m c → bound (rootOf m) ≡ true
+  pub has-bound : (m : Inside) (c : Content (t .A)) → Has t l m c → bound (rootOf m) ≡ true
   has-bound Inside.nothingInside c h = absurd h
   has-bound (Inside.character o x k) c h = absurd h
   has-bound (Inside.element o n ats i k) c h = h .attrs .tied
@@ -129,11 +127,3 @@ module _ (k : Kinds) (l : Listing) where
         has = has-moved (k .types) l (m .root) (m′ .root) (rootAt m) (rootAt m′) c (ap (λ (x : Tree). x .root) e) (w .xml .good .one) b (f .has);
         meets = f .meets;
       }
-
-  -- good files that differ in hints alone have one content, and one image
-  pub hints-free : Spelling (k .types) → WellFormed l → (s s′ : List ℕ) (c c′ : Content (k .types .A)) (f : File k l s c) (f′ : File k l s′ c′) → HintsAlone (f .whole) (f′ .whole)
-      → (c ≡ c′) × (imageOf k l c ≡ imageOf k l c′)
-  hints-free y wf s s′ c c′ f f′ e =
-      let g = hints-kept s s′ c f (f′ .whole) e (has-bound (k .types) l (messageIn (f′ .whole)) c′ (f′ .has)) in
-      let z = content-one k y l wf s′ c c′ g f′ in
-      (z, ap (imageOf k l) z)

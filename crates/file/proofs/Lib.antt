@@ -1,17 +1,19 @@
 -- The theorems about what `check` may answer.
 -- only one answer fits
 pub mod One
+-- the list that a message's namespace chooses
+pub mod Chosen
 -- the codes of violations
 pub mod Codes
 -- a refusal leaves every byte; accepted exactly when good
 pub mod Accepted
 -- demand 3 and reading back, for what check writes
 pub mod Images
--- files that differ in schema hints alone have one content and one image
+-- files that differ in schema hints alone have one content
 pub mod Hints
 -- an image is no longer than its file
 pub mod Short
--- all of it for document 01's types and list
+-- all of it for document 01's types and the list that a file chooses
 pub mod House
 -- a computed test for good trees
 pub mod Trees

@@ -42,7 +42,7 @@ fine-found f a e g = absurd (true≢false (ap isFine (sym e ∙ g)))
 violation-one : (a b : Answer) → Violation a ≡ Violation b → a ≡ b
 violation-one a b e = cc
 
--- the answer and the buffer behind the call are these
+-- the answer and the buffer after the call are these
 pub record Is (x : Answer) (z : List ℕ) (a : Answer) (d′ : List ℕ) : Type 0 where
   pub answer : a ≡ x
   pub buffer : d′ ≡ z

@@ -188,7 +188,7 @@ module _ (k : Kinds) (y : Spelling (k .types)) (l : Listing) (wf : WellFormed l)
         weigh j d (o + (length (tag t) + 2)) r e (g .1) (h .2),
       )
 
-  image-many : (c e : Content (k .types .A)) → c ≡ node 1 e end → length (imageOf k l c) ≡ 7 + many (items e)
+  image-many : (c e : Content (k .types .A)) → c ≡ node 1 e end → length (imageOf k l c) ≡ 8 + many (items e)
   unfolding image
   image-many c e h =
       let x = itemsBytes (valuesOf k) l (items c) in

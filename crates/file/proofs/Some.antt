@@ -1,5 +1,5 @@
 -- Some answer fits every file and every buffer, over any types and any well-formed list; with `answers-one`: exactly one. Assumes nothing.
-use mathlib.Core.Path.{_≡_, refl, sym, _∙_, ap}
+use mathlib.Core.Path.{_≡_, refl, sym, _∙_, ap, subst}
 use mathlib.Core.Logic.{_⊎_, inl, inr}
 use mathlib.Core.Bool.{Bool, true, false, true≢false, false≢true}
 use mathlib.Core.List.{List, [], _∷_, _++_}
@@ -11,14 +11,16 @@ use Rattle.answer.specs.declared.Answer.{Answer}
 use Rattle.answer.specs.Table.{accepted, limit, tooLong, notUtf8, notHouseXml, noRoom}
 use Rattle.text_characters.specs.Utf8.{LongestUtf8}
 use Rattle.text_characters.specs.mirror.Decoding.{decoded}
-use Rattle.text_characters.proofs.Longest.{stop, more}
+use Rattle.text_characters.proofs.Longest.{stop, more, whole-utf8}
 use Rattle.list.specs.Listing.{Listing}
 use Rattle.list.specs.WellFormed.{WellFormed}
 use Rattle.list.specs.Content.{Content}
+use Rattle.list.specs.Within.{Among}
 use Rattle.list_house.specs.House.{house}
-use Rattle.list_house.proofs.HouseSound.{house-well}
+use Rattle.list_house.specs.Lists.{asked}
+use Rattle.list_house.proofs.Lists.{house-asked, asked-well}
 use Rattle.xml.specs.House.{HouseXml}
-use Rattle.xml.specs.Message.{rootAt}
+use Rattle.xml.specs.Message.{Inside, rootAt}
 use Rattle.xml.specs.mirror.Auto.{done, start, first, before, root, declare, name, tail, gap, attr, equals, quote, value, within, slash, content, part, less, close, St, dead, at, run, liveLen}
 use Rattle.xml.proofs.Theorem as xml
 use Rattle.file_walk.specs.declared.found.Found.{Found}
@@ -28,9 +30,10 @@ use Rattle.file_walk.specs.First.{First, firstViolation}
 use Rattle.file_walk.proofs.violation.Accept.{accept}
 use Rattle.file.specs.Instance.{Kinds, houseKinds}
 use Rattle.file.specs.File.{Whole, messageIn, File, imageOf}
-use Rattle.file.specs.Checks.{Answers, Checks, long, badBytes, markup, violation, room, imaged}
+use Rattle.file.specs.Checks.{Answers, Chosen, Checks, long, badBytes, markup, violation, room, imaged}
 use Rattle.file.proofs.House.{spelling, houseJudge, deciding}
-use Rattle.file.proofs.One.{answers-one}
+use Rattle.file.proofs.One.{message-one, answers-one}
+use Rattle.file.proofs.Chosen.{listFor, list-among, list-chosen}
 use Rattle.file_walk.proofs.bytes.Root.{one-element}
 use Rattle.file.proofs.Early.{says-bytes, all-utf8}
 
@@ -146,6 +149,29 @@ module _ (k : Kinds) (y : Spelling (k .types)) (j : Judge) (x : Decides (k .type
   pub the-answer : (a : Answer) (d′ : List ℕ) → Answers k l s d a d′ → (a ≡ some-answer .answer) × (d′ ≡ some-answer .buffer)
   the-answer a d′ p = answers-one k y l wf s d a (some-answer .answer) d′ (some-answer .buffer) p (some-answer .fits)
 
--- with document 01's types and its house list
+-- ---- with document 01's types, and the list that the file chooses
+
+whole-or-not : (s : List ℕ) → Whole s ⊎ (Whole s → ⊥)
+whole-or-not s = elim (decLt limit (length s)) [
+  | yes h ↦ inr (λ w. omega (arith, w .size))
+  | no h ↦ let u = some-utf8 (length s) s (omega arith) in elim (decLt (u .0) (length s)) [
+    | yes i ↦ inr (λ w. omega (arith, whole-utf8 s (u .0) (u .1) (w .utf8)))
+    | no i ↦ elim (house-or-not s) [
+      | inl z ↦ inl (record { size = omega arith; utf8 = all-utf8 s (u .0) (u .1) (omega arith); xml = z })
+      | inr z ↦ inr (λ w. z (w .xml))
+    ]
+  ]
+]
+
+-- a list that the file's message chooses; where it has none, any
+pub list-some : (s : List ℕ) → (l : Listing) × Among l asked × ((w : Whole s) → Chosen (messageIn w) l)
+list-some s = elim (whole-or-not s) [
+  | inl z ↦ (listFor (messageIn z), list-among (messageIn z), λ w. subst (λ (m : Inside). Chosen m (listFor (messageIn z))) (message-one s z w) (list-chosen (messageIn z)))
+  | inr z ↦ (house, house-asked, λ w. absurd (z w))
+]
+
 pub checks-some : (s d : List ℕ) → (a : Answer) × (d′ : List ℕ) × Checks s d a d′
-checks-some s d = let o = some-answer houseKinds spelling houseJudge deciding house house-well s d in (o .answer, o .buffer, o .fits)
+checks-some s d =
+    let l = list-some s in
+    let o = some-answer houseKinds spelling houseJudge deciding (l .0) (asked-well (l .0) (l .1)) s d in
+    (o .answer, o .buffer, record { list = l .0; among = l .1; chosen = l .2; answers = o .fits })

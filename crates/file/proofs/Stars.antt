@@ -1,5 +1,5 @@
--- The starred examples hold of the definitions: one statement over the table, by one computed test. Assumes nothing.
-use mathlib.Core.Path.{_≡_, refl, sym, _∙_, ap}
+-- The starred examples hold of the definitions: one statement over each table, by one computed test. Assumes nothing.
+use mathlib.Core.Path.{_≡_, refl, sym, _∙_, ap, subst}
 use mathlib.Core.Bool.{Bool, true, false, _&&_, not, xor, true≢false, false≢true}
 use mathlib.Core.List.{List, [], _∷_, _++_}
 use Prim.Native.Nat.{ℕ}
@@ -17,15 +17,15 @@ use Rattle.text_characters.specs.Utf8.{encode}
 use Rattle.text_characters.specs.Pieces.{Piece, char}
 use Rattle.text.proofs.Classes.{and-is}
 use Rattle.list.specs.Words.{firstFrom}
-use Rattle.list.specs.Listing.{rowAt, child, nextDue}
+use Rattle.list.specs.Listing.{Listing, rowAt, child, nextDue}
 use Rattle.list.specs.Sound.{firstOf, secondOf}
 use Rattle.list.specs.Content.{Content as Kept}
-use Rattle.list_house.specs.House.{house}
+use Rattle.list_house.specs.House.{house, report}
 use Rattle.list.specs.Test.{every as all, begins}
-use Rattle.list_house.proofs.HouseSound.{house-well}
+use Rattle.list_house.proofs.Lists.{house-asked, asked-well}
 use Rattle.list.proofs.rows.Words.{same-eq}
 use Rattle.xml.specs.House.{double, Tag, Markup, noMore, piece, emptyTag, full, OneElement, whole}
-use Rattle.xml.specs.Message.{messageOf}
+use Rattle.xml.specs.Message.{Inside, messageOf}
 use Rattle.xml.specs.mirror.Auto.{at, start, step, next, lead, run, liveLen}
 use Rattle.xml.proofs.Theorem.{longest, refused}
 use Rattle.xml_tags.specs.Story.{events}
@@ -46,9 +46,11 @@ use Rattle.image.specs.Image.{header, itemsBytes, image}
 use Rattle.image.specs.Kinds.{values}
 use Rattle.file.specs.Instance.{houseTypes, houseKinds}
 use Rattle.file.specs.File.{Whole, File, imageOf}
-use Rattle.file.specs.Checks.{Checks}
+use Rattle.file.specs.Checks.{Answers, Chosen, Checks}
 use Rattle.file.specs.Checks as checks
-use Rattle.file.specs.Stars.{Buffers, every, from, under, Lent, Star, Shows, stars, times}
+use Rattle.file.specs.Stars.{Buffers, every, from, under, Lent, Star, Shows, stars, times, reports}
+use Rattle.file.proofs.One.{message-one}
+use Rattle.file.proofs.Chosen.{listFor, list-among, list-chosen}
 use Rattle.file.proofs.House.{spelling, computing, houseJudge, deciding}
 use Rattle.file.proofs.Trees.{contentTest, rootTree, tree-good, asciiTest, ascii-utf8, not-is}
 use Rattle.file_walk.proofs.bytes.Root.{one-element}
@@ -80,12 +82,24 @@ oneTest (piece p k) = false
 oneTest (emptyTag t k) = isEnd k
 oneTest (full t i g k) = isEnd k
 
--- the first violation of a tree's message, and the image of the items that the walk hands out
+-- a tree's message, the list that it chooses, its first violation by that, and the image of the items that the walk hands out
+abbrev told : Markup → Inside
+told i = messageOf (rootTree i)
+
+abbrev listIn : Markup → Listing
+listIn i = listFor (told i)
+
+abbrev foundBy : Listing → Markup → Found
+foundBy l i = firstViolation houseJudge l (told i)
+
+abbrev imageBy : Listing → Markup → List ℕ
+imageBy l i = header l ++ (itemsBytes values l (emits (spellerOf houseTypes spell) l before (events (told i) [])) ++ (0 ∷ []))
+
 abbrev foundIn : Markup → Found
-foundIn i = firstViolation houseJudge house (messageOf (rootTree i))
+foundIn i = foundBy (listIn i) i
 
 abbrev imageIn : Markup → List ℕ
-imageIn i = header house ++ (itemsBytes values house (emits (spellerOf houseTypes spell) house before (events (messageOf (rootTree i)) [])) ++ (0 ∷ []))
+imageIn i = imageBy (listIn i) i
 
 abbrev fits : Star → List ℕ → Buffers → Bool
 fits e x every = false
@@ -135,7 +149,7 @@ one-is (emptyTag g k) t = end-is k t
 one-is (full g i h k) t = end-is k t
 
 module _ (e : Star) (chars : asciiTest (e .file) ≡ true) (size : leb (length (e .file)) limit ≡ true) (d : List ℕ) where
-  -- the buffer behind the call
+  -- the buffer after the call
   abbrev left : List ℕ → List ℕ
   left x = x ++ drop (length x) d
 
@@ -146,45 +160,61 @@ module _ (e : Star) (chars : asciiTest (e .file) ≡ true) (size : leb (length (
     file : Whole (e .file)
     file = record { size = leb-true (length (e .file)) limit size; utf8 = ascii-utf8 (e .file) chars; xml = record { tree = rootTree i; good = tree-good i good one; is = is } }
 
+    l : Listing
+    l = listIn i
+
+    -- what is answered by the list that its message chooses
+    by-list : (a : Answer) (d′ : List ℕ) → Answers houseKinds l (e .file) d a d′ → Checks (e .file) d a d′
+    unfolding file l
+    by-list a d′ p = record {
+      list = l;
+      among = list-among (told i);
+      chosen = λ w. subst (λ (m : Inside). Chosen m l) (message-one (e .file) file w) (list-chosen (told i));
+      answers = p;
+    }
+
     -- its content, and that its image is the one tested
     record Right : Type 0 where
       content : Kept Value
-      its : File houseKinds house (e .file) content
-      pictured : imageOf houseKinds house content ≡ imageIn i
+      its : File houseKinds l (e .file) content
+      pictured : imageOf houseKinds l content ≡ imageIn i
 
     right : foundIn i ≡ Fine → Right
-    unfolding file image
+    unfolding file image l
     right z =
-        let c = accept houseTypes spelling house house-well (messageOf (rootTree i)) (one-element i 0 one) (record { judge = houseJudge; decides = deciding; is = z }) in
+        let wf = asked-well l (list-among (told i)) in
+        let c = accept houseTypes spelling l wf (told i) (one-element i 0 one) (record { judge = houseJudge; decides = deciding; is = z }) in
         record {
           content = c .0;
           its = record { whole = file; has = c .2; meets = c .1 };
-          pictured = ap (λ is′. header house ++ (itemsBytes values house is′ ++ (0 ∷ []))) (sym (items-are houseTypes spell computing house house-well (messageOf (rootTree i)) (c .0) (c .2)));
+          pictured = ap (λ is′. header l ++ (itemsBytes values l is′ ++ (0 ∷ []))) (sym (items-are houseTypes spell computing l wf (told i) (c .0) (c .2)));
         }
 
     fits-shown : foundIn i ≡ Fine → (b : Buffers) → Lent b d → fits e (imageIn i) b ≡ true → Checks (e .file) d (e .answer) (left (e .image))
     fits-shown z every h t = absurd (false≢true t)
     fits-shown z (from m) h t =
         let r = right z in
-        let n : length (imageOf houseKinds house (r .content)) ≡ length (imageIn i) = ap length (r .pictured) in
+        let n : length (imageOf houseKinds l (r .content)) ≡ length (imageIn i) = ap length (r .pictured) in
         let o = and-is (leb (length (imageIn i)) m) (sameAnswer (e .answer) (accepted (length (imageIn i))) && same (e .image) (imageIn i)) t in
         let a = and-is (sameAnswer (e .answer) (accepted (length (imageIn i)))) (same (e .image) (imageIn i)) (o .1) in
-        checks.imaged (r .content) (r .its) (omega (arith, n, h, leb-true (length (imageIn i)) m (o .0))) (same-answer (e .answer) (accepted (length (imageIn i))) (a .0) ∙ ap accepted (sym n))
-        (ap left (same-eq (e .image) (imageIn i) (a .1) ∙ sym (r .pictured)))
+        by-list (e .answer) (left (e .image))
+        (checks.imaged (r .content) (r .its) (omega (arith, n, h, leb-true (length (imageIn i)) m (o .0))) (same-answer (e .answer) (accepted (length (imageIn i))) (a .0) ∙ ap accepted (sym n))
+        (ap left (same-eq (e .image) (imageIn i) (a .1) ∙ sym (r .pictured))))
     fits-shown z (under m) h t =
         let r = right z in
-        let n : length (imageOf houseKinds house (r .content)) ≡ length (imageIn i) = ap length (r .pictured) in
+        let n : length (imageOf houseKinds l (r .content)) ≡ length (imageIn i) = ap length (r .pictured) in
         let o = and-is (leb m (length (imageIn i))) (sameAnswer (e .answer) (noRoom (length (imageIn i))) && isNil (e .image)) t in
         let a = and-is (sameAnswer (e .answer) (noRoom (length (imageIn i)))) (isNil (e .image)) (o .1) in
-        checks.room (r .content) (r .its) (omega (arith, n, h, leb-true m (length (imageIn i)) (o .0))) (same-answer (e .answer) (noRoom (length (imageIn i))) (a .0) ∙ ap noRoom (sym n))
-        (kept (a .1))
+        by-list (e .answer) (left (e .image))
+        (checks.room (r .content) (r .its) (omega (arith, n, h, leb-true m (length (imageIn i)) (o .0))) (same-answer (e .answer) (noRoom (length (imageIn i))) (a .0) ∙ ap noRoom (sym n))
+        (kept (a .1)))
 
     walked-shown : Lent (e .lent) d → (f : Found) → foundIn i ≡ f → walked e (imageIn i) f ≡ true → Checks (e .file) d (e .answer) (left (e .image))
-    unfolding file
-    walked-shown l Fine z t = fits-shown z (e .lent) l t
-    walked-shown l (Violation v) z t =
+    unfolding file l
+    walked-shown h Fine z t = fits-shown z (e .lent) h t
+    walked-shown h (Violation v) z t =
         let a = and-is (sameAnswer (e .answer) v) (isNil (e .image)) t in
-        checks.violation file (record { judge = houseJudge; decides = deciding; is = z ∙ ap Violation (sym (same-answer (e .answer) v (a .0))) }) (kept (a .1))
+        by-list (e .answer) (left (e .image)) (checks.violation file (record { judge = houseJudge; decides = deciding; is = z ∙ ap Violation (sym (same-answer (e .answer) v (a .0))) }) (kept (a .1)))
 
   way-shown : Lent (e .lent) d → (w : Way) → wayTest e w ≡ true → Checks (e .file) d (e .answer) (left (e .image))
   way-shown l (tree i) t =
@@ -196,8 +226,13 @@ module _ (e : Star) (chars : asciiTest (e .file) ≡ true) (size : leb (length (
       let n = liveLen (at start) (e .file) in
       let a = and-is (not (isDone (run (at start) (e .file)))) (sameAnswer (e .answer) (notHouseXml n) && isNil (e .image)) t in
       let b = and-is (sameAnswer (e .answer) (notHouseXml n)) (isNil (e .image)) (a .1) in
-      checks.markup (leb-true (length (e .file)) limit size) (ascii-utf8 (e .file) chars)
-      (refused (e .file) (λ r. true≢false (ap isDone (sym r) ∙ not-is (isDone (run (at start) (e .file))) (a .0)))) n (longest (e .file)) (same-answer (e .answer) (notHouseXml n) (b .0)) (kept (b .1))
+      let none = refused (e .file) (λ r. true≢false (ap isDone (sym r) ∙ not-is (isDone (run (at start) (e .file))) (a .0))) in
+      record {
+        list = house;
+        among = house-asked;
+        chosen = λ w. absurd (none (w .xml));
+        answers = checks.markup (leb-true (length (e .file)) limit size) (ascii-utf8 (e .file) chars) none n (longest (e .file)) (same-answer (e .answer) (notHouseXml n) (b .0)) (kept (b .1));
+      }
 
 shown : (es : List Star) (ws : List Way) → tableTest es ws ≡ true → Each Shows es
 shown [] ws t = tt
@@ -222,8 +257,8 @@ abbrev named : String → Tag
 named n = record { name = ascii n; attributes = []; gap = [] }
 
 -- with an attribute
-abbrev marked : String → String → String → Tag
-marked n a v = record { name = ascii n; attributes = record { gap = 32 ∷ []; name = ascii a; before = []; after = []; quote = double; value = pieces (ascii v) } ∷ []; gap = [] }
+abbrev marked : String → String → List ℕ → Tag
+marked n a v = record { name = ascii n; attributes = record { gap = 32 ∷ []; name = ascii a; before = []; after = []; quote = double; value = pieces v } ∷ []; gap = [] }
 
 abbrev element : String → Markup → Markup → Markup
 element n i k = full (named n) i [] k
@@ -231,13 +266,21 @@ element n i k = full (named n) i [] k
 abbrev leaf : String → String → Markup → Markup
 leaf n v k = element n (text (ascii v)) k
 
+abbrev amountTree : String → Markup → Markup
+amountTree a k = full (marked "Amt" "Ccy" (ascii "EUR")) (text (ascii a)) [] (leaf "CdtDbtInd" "CRDT" k)
+
+abbrev messageTree : String → String → String → String → String → Markup → Markup
+messageTree n b p t m rest =
+    full (marked "Document" "xmlns" (ascii "urn:iso:std:iso:20022:tech:xsd:camt." ++ ascii n))
+    (element b (element "GrpHdr" (leaf "MsgId" m (leaf "CreDtTm" t noMore))
+    (element p (leaf "Id" "S1" (element "Acct" (element "Id" (element "Othr" (leaf "Id" "9" noMore) noMore) noMore) rest)) noMore)) noMore) [] noMore
+
+abbrev balanceTree : String → String → Markup → Markup
+balanceTree b a k =
+    element "Bal" (element "Tp" (element "CdOrPrtry" (leaf "Cd" b noMore) noMore) (amountTree a (element "Dt" (leaf "Dt" "2024-02-29" noMore) noMore))) k
+
 abbrev statementTreeAt : String → String → String → Markup
-statementTreeAt t m a =
-    full (marked "Document" "xmlns" "urn:iso:std:iso:20022:tech:xsd:camt.053.001.08")
-    (element "BkToCstmrStmt" (element "GrpHdr" (leaf "MsgId" m (leaf "CreDtTm" t noMore))
-    (element "Stmt" (leaf "Id" "S1" (element "Acct" (element "Id" (element "Othr" (leaf "Id" "9" noMore) noMore) noMore)
-    (element "Bal" (element "Tp" (element "CdOrPrtry" (leaf "Cd" "CLBD" noMore) noMore)
-    (full (marked "Amt" "Ccy" "EUR") (text (ascii a)) [] (leaf "CdtDbtInd" "CRDT" (element "Dt" (leaf "Dt" "2024-02-29" noMore) noMore)))) noMore))) noMore)) noMore) [] noMore
+statementTreeAt t m a = messageTree "053.001.08" "BkToCstmrStmt" "Stmt" t m (balanceTree "CLBD" a noMore)
 
 abbrev statementTree : String → String → Markup
 statementTree m a = statementTreeAt "2024-03-01T06:00:00Z" m a
@@ -254,7 +297,7 @@ ways =
 
 -- every row of the table shows
 pub all-stars : Each Shows stars
-unfolding stars liveLen run step next lead all begins encode isBlank isCapital isDigit isLetter isNameStart isNamePart firstViolation inside childRows absentRow child firstFrom same rowAt house xor decimalFrom isRef isTxt textFrom readOf signedOf pointOf wholeOf fracOf judged spell frontOff backOff passesFrom placeFrom dayOf fractionOf zoneOf momentOf header bigEndian fresh advance emits nextDue firstOf secondOf ways
+unfolding stars liveLen run step next lead all begins encode isBlank isCapital isDigit isLetter isNameStart isNamePart firstViolation inside childRows absentRow child firstFrom same rowAt house report listFor xor decimalFrom isRef isTxt textFrom readOf signedOf pointOf wholeOf fracOf judged spell frontOff backOff passesFrom placeFrom dayOf fractionOf zoneOf momentOf header bigEndian fresh advance emits nextDue firstOf secondOf ways
 all-stars = shown stars ways refl
 
 -- date-times
@@ -268,5 +311,34 @@ moments =
     time "2024-03-01T06:00:00.12Z" ∷ time "2024-03-01T06:00:00.120Z" ∷ time "2024-03-01T06:00:00.120000Z" ∷ []
 
 pub all-times : Each Shows times
-unfolding times liveLen run step next lead all begins encode isBlank isCapital isDigit isLetter isNameStart isNamePart firstViolation inside childRows absentRow child firstFrom same rowAt house xor decimalFrom isRef isTxt textFrom readOf signedOf pointOf wholeOf fracOf judged spell frontOff backOff passesFrom placeFrom dayOf fractionOf zoneOf momentOf header bigEndian fresh advance emits nextDue firstOf secondOf moments
+unfolding times liveLen run step next lead all begins encode isBlank isCapital isDigit isLetter isNameStart isNamePart firstViolation inside childRows absentRow child firstFrom same rowAt house report listFor xor decimalFrom isRef isTxt textFrom readOf signedOf pointOf wholeOf fracOf judged spell frontOff backOff passesFrom placeFrom dayOf fractionOf zoneOf momentOf header bigEndian fresh advance emits nextDue firstOf secondOf moments
 all-times = shown times moments refl
+
+-- intraday reports
+
+abbrev kindTree : String → String → String → Markup → Way
+kindTree n b p rest = tree (messageTree n b p "2024-03-01T06:00:00Z" "M1" rest)
+
+abbrev booked : Markup → Way
+booked rest = kindTree "053.001.08" "BkToCstmrStmt" "Stmt" rest
+
+abbrev intraday : Markup → Way
+intraday rest = kindTree "052.001.08" "BkToCstmrAcctRpt" "Rpt" rest
+
+abbrev entryTree : String → Markup
+entryTree b =
+    element "Ntry" (amountTree "5.00" (element "Sts" (leaf "Cd" b noMore)
+    (element "BkTxCd" (element "Domn" (leaf "Cd" "PMNT" (element "Fmly" (leaf "Cd" "RCDT" (leaf "SubFmlyCd" "ESCT" noMore)) noMore)) noMore) noMore))) noMore
+
+abbrev closing : Markup → Markup
+closing k = balanceTree "CLBD" "5.00" k
+
+unfoldable kinds : List Way
+kinds =
+    intraday noMore ∷ booked noMore ∷ intraday (balanceTree "ITBD" "5.00" noMore) ∷ booked (balanceTree "ITBD" "5.00" noMore) ∷
+    intraday (entryTree "PDNG") ∷ booked (closing (entryTree "PDNG")) ∷
+    kindTree "052.001.08" "BkToCstmrStmt" "Stmt" (closing noMore) ∷ kindTree "054.001.08" "BkToCstmrStmt" "Stmt" (closing noMore) ∷ []
+
+pub all-reports : Each Shows reports
+unfolding reports liveLen run step next lead all begins encode isBlank isCapital isDigit isLetter isNameStart isNamePart firstViolation inside childRows absentRow child firstFrom same rowAt house report listFor xor decimalFrom isRef isTxt textFrom readOf signedOf pointOf wholeOf fracOf judged spell frontOff backOff passesFrom placeFrom dayOf fractionOf zoneOf momentOf header bigEndian fresh advance emits nextDue firstOf secondOf kinds
+all-reports = shown reports kinds refl

@@ -4,7 +4,6 @@ use mathlib.Core.Bool.{cond}
 use mathlib.Core.List.{List, [], _∷_}
 use Prim.Native.Nat.{ℕ}
 use Rattle.xml.specs.House.{Attr, Tag, Markup, noMore, piece, emptyTag, full, Tree}
-use Rattle.xml.specs.Message.{Attrs, Inside, nothingInside, character, element}
 use Rattle.file_walk.specs.First.{isHint}
 use Rattle.file.specs.File.{Whole}
 
@@ -28,9 +27,3 @@ bareTree m = record { declared = m .declared; before = m .before; root = bareRoo
 -- without the hints on their roots both files are the same text
 abbrev pub HintsAlone : {s s′ : List ℕ} → Whole s → Whole s′ → Type 0
 HintsAlone w w′ = bareTree (w .xml .tree) ≡ bareTree (w′ .xml .tree)
-
--- the attributes of a message's root
-abbrev pub rootOf : Inside → Attrs
-rootOf nothingInside = []
-rootOf (character o x k) = []
-rootOf (element o n ats i k) = ats

@@ -203,7 +203,7 @@ module _ (cm : Computed) (t pool s : List ℕ) (sd : Sound t pool) (x : HouseXml
         gone : Went t pool s (w .st) full step
         gone = went d (w .st) full at g
 
-        -- the tag is behind the blanks
+        -- the tag is after the blanks
         at-less : o ≡ mark .less
         at-less = e ∙ ap (λ (n : ℕ). n + span isBlank (drop n s)) (sym (w .behind)) ∙ blanks-less s (full .at) t (full .level .row) in-group (known t pool s (w .st) full (goes-on d (w .st) full at g) .0)
 

@@ -2,7 +2,7 @@
 use mathlib.Core.Path.{_≡_, refl, sym, _∙_, ap, subst}
 use mathlib.Core.Logic.{_≢_}
 use mathlib.Core.Bool.{Bool, true, false}
-use mathlib.Core.List.{List, [], _∷_, _++_}
+use mathlib.Core.List.{List, [], _∷_}
 use Prim.Native.Nat.{ℕ, _+_, _-_, _≤_, _<_}
 use native.Mathlib.Omega.{arith}
 use lib.ListN.{length, drop}
@@ -11,7 +11,6 @@ use Rattle.answer.specs.Table.{accepted}
 use Rattle.text.specs.Bytes.{isBlank}
 use Rattle.text.specs.Lists.{span}
 use Rattle.text.specs.Pasting.{pasted}
-use Rattle.text.specs.Puts.{Puts}
 use Rattle.text_characters.specs.Pieces.{less, greater, solidus}
 use Rattle.list.specs.Table.{cell, listOf}
 use Rattle.list.specs.Listing.{child}
@@ -25,13 +24,11 @@ use Rattle.xml_tags.specs.declared.skim.Tag.{Tag}
 use Rattle.xml_tags.specs.mirror.Skimmed.{tagOf}
 use Rattle.file_walk.specs.Numbers.{isGroupIn}
 use Rattle.file_walk.specs.mirror.Begin.{beginIn}
-use Rattle.image.specs.Image.{header}
 use Rattle.file.specs.Instance.{houseKinds}
 use Rattle.file.proofs.House.{spelling}
 use Rattle.file_check.specs.declared.fill.Spot.{Spot}
-use Rattle.file_measure.specs.Measured.{Faultless}
-use Rattle.file_measure.specs.Pass.{Shuts, Ready}
-use Rattle.file_check.specs.Fill.{spotAt, Comes, FilledIn}
+use Rattle.file_measure.specs.Pass.{Shuts}
+use Rattle.file_check.specs.Fill.{HeadPut, spotAt, Comes, Fillable, FilledIn}
 use Rattle.file_measure.proofs.Coin.{coins}
 use Rattle.file_measure.proofs.End.{filled-of}
 use Rattle.file_measure.proofs.House.{houseComputed}
@@ -41,17 +38,18 @@ use Rattle.file_check.proofs.Going.{Writing, first-spot, tag-in, place-
 abbrev pub WritingOn : List ℕ → List ℕ → List ℕ → List ℕ → ℕ → List ℕ → Spot → ℕ → Type 0
 WritingOn t pool s d₁ a₁ d here at = (sd : Sound t pool) (x : HouseXml s) → Writing houseComputed t pool s sd x d₁ a₁ d here at
 
-pub fill-first : (t pool s : List ℕ) → Ready t pool s × Faultless houseKinds (listOf t pool) s → (first : Turn) → first ≡ beginIn t pool s → (here : Spot) → here ≡ spotAt 1 0 (first .here .at)
-    → (d₀ : List ℕ) (a₁ : ℕ) (d₁ : List ℕ) → Puts d₀ 0 (header (listOf t pool) ++ (1 ∷ [])) a₁ d₁ → WritingOn t pool s d₁ a₁ d₁ here a₁
-fill-first t pool s pre first e here h d₀ a₁ d₁ p sd x =
-    subst (λ (u : Spot). Writing houseComputed t pool s sd x d₁ a₁ d₁ u a₁) (sym h) (first-spot houseComputed t pool s sd x d₁ a₁ coins (pre .1 x) d₀ p first e)
+pub fill-first : (t pool s : List ℕ) → (n : ℕ) → Fillable houseKinds t pool s n → (first : Turn) → first ≡ beginIn t pool s → (here : Spot) → here ≡ spotAt 1 0 (first .here .at)
+    → (d₀ : List ℕ) (a₁ : ℕ) (d₁ : List ℕ) → HeadPut n d₀ a₁ d₁ → WritingOn t pool s d₁ a₁ d₁ here a₁
+fill-first t pool s n pre first e here h d₀ a₁ d₁ p sd x =
+    subst (λ (u : Spot). Writing houseComputed t pool s sd x d₁ a₁ d₁ u a₁) (sym h) (first-spot houseComputed t pool s sd x d₁ a₁ coins (pre .none x) d₀ (p (listOf t pool) (pre .kind)) first e)
 
 -- what a turn has been told when it stands before a tag: the buffer began as d₁ with the head up to a₁, and is d now
 pub record AtTag : Type 0 where
   pub t : List ℕ
   pub pool : List ℕ
   pub s : List ℕ
-  pub pre : Ready t pool s × Faultless houseKinds (listOf t pool) s
+  pub byte : ℕ
+  pub pre : Fillable houseKinds t pool s byte
   pub d₁ : List ℕ
   pub a₁ : ℕ
   pub d : List ℕ
@@ -62,48 +60,48 @@ pub record AtTag : Type 0 where
   pub blanks : o ≡ here .at + span isBlank (drop (here .at) s)
 
 module _ (turn : AtTag) where
-  open AtTag turn using (t, pool, s, pre, d₁, a₁, d, here, at, stands, o, blanks)
+  open AtTag turn using (t, pool, s, byte, pre, d₁, a₁, d, here, at, stands, o, blanks)
 
   abbrev sd : Sound t pool
-  sd = pre .0 .sound
+  sd = pre .ready .sound
 
   abbrev x : HouseXml s
-  x = pre .0 .xml
+  x = pre .ready .xml
 
   pub name-in : o < length s
-  name-in = tag-in houseComputed t pool s sd x d₁ a₁ coins (pre .1 x) d here at (stands sd x) o blanks
+  name-in = tag-in houseComputed t pool s sd x d₁ a₁ coins (pre .none x) d here at (stands sd x) o blanks
 
   pub fill-low : at ≤ 1000000000000
-  fill-low = place-low houseComputed t pool s sd x d₁ a₁ coins (pre .1 x) d here at (stands sd x) o blanks (pre .0 .small)
+  fill-low = place-low houseComputed t pool s sd x d₁ a₁ coins (pre .none x) d here at (stands sd x) o blanks (pre .ready .small)
 
-  pub fill-room : length d ≡ length d₁
-  fill-room = same-room houseComputed t pool s sd x d₁ a₁ coins (pre .1 x) d here at (stands sd x) o blanks
+  pub fill-room : (d₀ : List ℕ) → HeadPut byte d₀ a₁ d₁ → length d ≡ length d₀
+  fill-room d₀ p = same-room houseComputed t pool s sd x d₁ a₁ coins (pre .none x) d here at (stands sd x) o blanks ∙ p (listOf t pool) (pre .kind) .long
 
   -- a closing tag
   module _ (c : Bool) (closes : c ≡ headIs solidus (drop (o + 1) s)) (y : c ≡ true) where
-    pub fill-ends : here .row ≡ 1 → (d₀ : List ℕ) → Puts d₀ 0 (header (listOf t pool) ++ (1 ∷ [])) a₁ d₁ → (d′ : List ℕ) → d′ ≡ pasted d at (0 ∷ [])
+    pub fill-ends : here .row ≡ 1 → (d₀ : List ℕ) → HeadPut byte d₀ a₁ d₁ → (d′ : List ℕ) → d′ ≡ pasted d at (0 ∷ [])
         → FilledIn houseKinds (listOf t pool) s d₀ d′
     fill-ends r d₀ p d′ f q m h =
         filled-of houseKinds (listOf t pool) spelling (sd .well) s q m d₀ (accepted (at + 1)) d′
-        (spot-ends houseComputed t pool s sd (m .xml) d₁ a₁ coins (pre .1 (m .xml)) d here at (stands sd (m .xml)) o blanks (sym closes ∙ y) r spelling d₀ p d′ f) h
+        (spot-ends houseComputed t pool s sd (m .xml) d₁ a₁ coins (pre .none (m .xml)) d here at (stands sd (m .xml)) o blanks (sym closes ∙ y) r spelling d₀ (p (listOf t pool) (pre .kind)) d′ f) h
 
     module _ (r : here .row ≢ 1) (p : ℕ) (f : p ≡ cell t (here .row) 0) (z : ℕ) (g : z ≡ behind greater (o + 1) (drop (o + 1) s)) (here′ : Spot) (h : here′ ≡ spotAt p (here .row) z) where
       pub fill-out-less : length s - here′ .at < length s - here .at
       fill-out-less =
-          let n = out-less houseComputed t pool s sd x d₁ a₁ coins (pre .1 x) d here at (stands sd x) o blanks (sym closes ∙ y) r in
+          let n = out-less houseComputed t pool s sd x d₁ a₁ coins (pre .none x) d here at (stands sd x) o blanks (sym closes ∙ y) r in
           omega (arith, n, g, ap (λ (u : Spot). u .at) h)
 
       pub fill-out : WritingOn t pool s d₁ a₁ d here′ at
       fill-out sd x =
           subst (λ (u : Spot). Writing houseComputed t pool s sd x d₁ a₁ d u at) (sym (h ∙ ap (λ (n : ℕ). spotAt n (here .row) z) f ∙ ap (λ (n : ℕ). spotAt (cell t (here .row) 0) (here .row) n) g))
-          (spot-out houseComputed t pool s sd x d₁ a₁ coins (pre .1 x) d here at (stands sd x) o blanks (sym closes ∙ y) r)
+          (spot-out houseComputed t pool s sd x d₁ a₁ coins (pre .none x) d here at (stands sd x) o blanks (sym closes ∙ y) r)
 
   -- an opening tag
   module _ (c : Bool) (closes : c ≡ headIs solidus (drop (o + 1) s)) (y : c ≡ false) (tag : Tag) (f : tag ≡ tagOf (openAt o (drop o s))) where
     pub fill-comes : Comes t pool (here .row) (here .last) (slice (o + 1) (tag .stop) s)
     fill-comes =
         subst (λ (u : Tag). Comes t pool (here .row) (here .last) (slice (o + 1) (u .stop) s)) (sym f)
-        (comes houseComputed t pool s sd x d₁ a₁ coins (pre .1 x) d here at (stands sd x) o blanks (sym closes ∙ y) (openAt o (drop o s)) refl)
+        (comes houseComputed t pool s sd x d₁ a₁ coins (pre .none x) d here at (stands sd x) o blanks (sym closes ∙ y) (openAt o (drop o s)) refl)
 
 -- what a turn has been told when the tag opens an element of row r, and whether that is a group
 pub record AtOpening : Type 0 where
@@ -122,13 +120,13 @@ pub record AtOpening : Type 0 where
 
 module _ (opening : AtOpening) where
   open AtOpening opening using (turn, c, closes, opens, tag, reads, r, names, v, kind, g, group)
-  open AtTag turn using (t, pool, s, pre, d₁, a₁, d, here, at, stands, o, blanks)
+  open AtTag turn using (t, pool, s, byte, pre, d₁, a₁, d, here, at, stands, o, blanks)
 
   abbrev sound : Sound t pool
-  sound = pre .0 .sound
+  sound = pre .ready .sound
 
   abbrev house : HouseXml s
-  house = pre .0 .xml
+  house = pre .ready .xml
 
   abbrev token : Token
   token = openAt o (drop o s)
@@ -143,19 +141,19 @@ module _ (opening : AtOpening) where
   kind-is = ap isGroupIn (sym kind) ∙ sym group
 
   pub fill-row : r ≤ 255
-  fill-row = row-low houseComputed t pool s sound house d₁ a₁ coins (pre .1 house) d here at (stands sound house) o blanks (sym closes ∙ opens) token refl r row-is
+  fill-row = row-low houseComputed t pool s sound house d₁ a₁ coins (pre .none house) d here at (stands sound house) o blanks (sym closes ∙ opens) token refl r row-is
 
   -- of a group
   module _ (j : g ≡ true) (here′ : Spot) (h : here′ ≡ spotAt r 0 (tag .end)) where
     pub fill-in-less : length s - here′ .at < length s - here .at
     fill-in-less =
-        let n = in-less houseComputed t pool s sound house d₁ a₁ coins (pre .1 house) d here at (stands sound house) o blanks (sym closes ∙ opens) token refl r row-is (kind-is ∙ j) in
+        let n = in-less houseComputed t pool s sound house d₁ a₁ coins (pre .none house) d here at (stands sound house) o blanks (sym closes ∙ opens) token refl r row-is (kind-is ∙ j) in
         omega (arith, n, end-is, ap (λ (u : Spot). u .at) h)
 
     pub fill-in : (n : ℕ) → n ≡ r → (d′ : List ℕ) → d′ ≡ pasted d at (n ∷ []) → WritingOn t pool s d₁ a₁ d′ here′ (at + 1)
     fill-in n m d′ p sd x =
         subst (λ (u : Spot). Writing houseComputed t pool s sd x d₁ a₁ d′ u (at + 1)) (sym (h ∙ ap (λ (n : ℕ). spotAt r 0 n) end-is))
-        (spot-in houseComputed t pool s sd x d₁ a₁ coins (pre .1 x) d here at (stands sd x) o blanks (sym closes ∙ opens) token refl r row-is (kind-is ∙ j) n m d′ p)
+        (spot-in houseComputed t pool s sd x d₁ a₁ coins (pre .none x) d here at (stands sd x) o blanks (sym closes ∙ opens) token refl r row-is (kind-is ∙ j) n m d′ p)
 
   -- of a leaf
   module _ (j : g ≡ false) where
@@ -167,16 +165,16 @@ module _ (opening : AtOpening) where
       text-is = l ∙ ap (λ (u : Tag). u .end + span (but less) (drop (u .end) s)) reads
 
       pub fill-close : z < length s
-      fill-close = close-in houseComputed t pool s sound house d₁ a₁ coins (pre .1 house) d here at (stands sound house) o blanks (sym closes ∙ opens) token refl r row-is (kind-is ∙ j) z text-is
+      fill-close = close-in houseComputed t pool s sound house d₁ a₁ coins (pre .none house) d here at (stands sound house) o blanks (sym closes ∙ opens) token refl r row-is (kind-is ∙ j) z text-is
 
       module _ (n : ℕ) (m : n ≡ behind greater (z + 1) (drop (z + 1) s)) (here′ : Spot) (h : here′ ≡ spotAt (here .row) r n) where
         pub fill-past-less : length s - here′ .at < length s - here .at
         fill-past-less =
-            let u = leaf-less houseComputed t pool s sound house d₁ a₁ coins (pre .1 house) d here at (stands sound house) o blanks (sym closes ∙ opens) token refl r row-is (kind-is ∙ j) z text-is in
+            let u = leaf-less houseComputed t pool s sound house d₁ a₁ coins (pre .none house) d here at (stands sound house) o blanks (sym closes ∙ opens) token refl r row-is (kind-is ∙ j) z text-is in
             omega (arith, u, m, ap (λ (u : Spot). u .at) h)
 
         pub fill-past : (a′ : ℕ) (d′ : List ℕ) → Shuts houseKinds t pool r (slice (tag .value) (tag .quote) s) (slice (tag .end) z s) d at a′ d′ → WritingOn t pool s d₁ a₁ d′ here′ a′
         fill-past a′ d′ p sd x =
             subst (λ (u : Spot). Writing houseComputed t pool s sd x d₁ a₁ d′ u a′) (sym (h ∙ ap (λ (i : ℕ). spotAt (here .row) r i) m))
-            (spot-past houseComputed t pool s sd x d₁ a₁ coins (pre .1 x) d here at (stands sd x) o blanks (sym closes ∙ opens) token refl r row-is (kind-is ∙ j) z text-is a′ d′
+            (spot-past houseComputed t pool s sd x d₁ a₁ coins (pre .none x) d here at (stands sd x) o blanks (sym closes ∙ opens) token refl r row-is (kind-is ∙ j) z text-is a′ d′
             (subst (λ (u : Tag). Shuts houseKinds t pool r (slice (u .value) (u .quote) s) (slice (u .end) z s) d at a′ d′) reads p))

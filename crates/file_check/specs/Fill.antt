@@ -15,18 +15,19 @@ use Rattle.list.specs.Sound.{Sound}
 use Rattle.image.specs.Image.{header}
 use Rattle.file.specs.Instance.{Kinds}
 use Rattle.file.specs.File.{imageOf}
-use Rattle.file_measure.specs.Measured.{Message}
+use Rattle.file_measure.specs.Measured.{Faultless, Message}
+use Rattle.file_measure.specs.Pass.{Ready}
 use Rattle.file_check.specs.declared.fill.Spot.{Spot}
 
--- the header of an image, whatever its list, and the root's row byte, at the start of a buffer
-abbrev pub Headed : List ℕ → ℕ → List ℕ → Type 0
-Headed d r d′ = (l : Listing) → Puts d 0 (header l ++ (1 ∷ [])) r d′
+-- the header of an image of a list with this kind byte, and the root's row byte, at the start of a buffer
+abbrev pub HeadPut : ℕ → List ℕ → ℕ → List ℕ → Type 0
+HeadPut n d r d′ = (l : Listing) → l .byte ≡ n → Puts d 0 (header l ++ (1 ∷ [])) r d′
 
 -- where the pass stands that writes
 abbrev pub spotAt : ℕ → ℕ → ℕ → Spot
 spotAt r q o = record { row = r; last = q; at = o }
 
--- a child of a row, and behind the last one (0) the first again
+-- a child of a row, and after the last one (0) the first again
 abbrev pub roundIn : List ℕ → ℕ → ℕ → ℕ
 roundIn t row r = cond (eqb r 0) (cell t row 9) r
 
@@ -36,6 +37,12 @@ pub record Comes (t pool : List ℕ) (row last : ℕ) (n : List ℕ) : Type 0 wh
   pub within : row ≤ size (listOf t pool)
   pub from : (last ≡ 0) ⊎ Child (listOf t pool) row last
   pub its : Child (listOf t pool) row (child (listOf t pool) row n)
+
+-- what the pass asks: a message without violation, and the kind byte of the list
+pub record Fillable (k : Kinds) (t pool s : List ℕ) (n : ℕ) : Type 0 where
+  pub ready : Ready t pool s
+  pub none : Faultless k (listOf t pool) s
+  pub kind : listOf t pool .byte ≡ n
 
 module _ (k : Kinds) (l : Listing) where
   -- the buffer d′ is d with the image at its start, where it fits in

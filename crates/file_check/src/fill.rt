@@ -28,19 +28,16 @@ ghost use Rattle.list.specs.Listing.{child};
 ghost use Rattle.list.specs.Table.{cell, wordsIn, listOf};
 ghost use Rattle.file_walk.specs.Numbers.{isGroupIn};
 ghost use Rattle.file.specs.Instance.{houseKinds};
-ghost use Rattle.file_measure.specs.Measured.{Faultless};
-ghost use Rattle.file_measure.specs.Pass.{Worded, Valued, Shuts, Ready};
-ghost use Rattle.file_check.specs.Fill.{Headed, spotAt, roundIn, Comes, FilledIn};
+ghost use Rattle.file_measure.specs.Pass.{Worded, Valued, Shuts};
+ghost use Rattle.file_check.specs.Fill.{HeadPut, spotAt, roundIn, Comes, Fillable, FilledIn};
 
-// `KTO`, version 1 in 16 bits, and the root's row byte.
-const HEAD: [u8; 6] = [75, 84, 79, 0, 1, 1];
-
-fn put_head(out: &mut [u8]) -> usize
-    ensures { λ r. ⌜ Headed (now (out .entry)) r (now (out .exit)) ⌝ }
+// `KTO`, version 2 in 16 bits, the kind byte, and the root's row byte.
+fn put_head(out: &mut [u8], kind: u8) -> usize
+    ensures { λ r. ⌜ HeadPut kind (now (out .entry)) r (now (out .exit)) ⌝ }
 {
-    let head = HEAD;
-    copy(&head, 0, 6, out, 0);
-    6
+    let head = [75, 84, 79, 0, 2, kind, 1];
+    copy(&head, 0, 7, out, 0);
+    7
 }
 
 // The place of an ENUM's word in its row's list, as one byte: how many bytes there are, 0 where it is no word of the list.
@@ -89,7 +86,7 @@ fn put_value(
     write(kind as u8, most, s, a, b, c, d, out, at)
 }
 
-// The innermost open group, its last child (0: none yet), and the place behind the last tag.
+// The innermost open group, its last child (0: none yet), and the place after the last tag.
 struct Spot {
     row: usize,
     last: usize,
@@ -102,7 +99,7 @@ fn stand(row: usize, last: usize, at: usize) -> Spot
     Spot { row, last, at }
 }
 
-// A child of the group, and behind the last one (0) the first again.
+// A child of the group, and after the last one (0) the first again.
 fn around(rows: &[u16], row: usize, r: usize) -> usize
     ensures { λ x. ⌜ x ≡ roundIn (now (rows .entry)) row r ⌝ }
 {
@@ -124,7 +121,7 @@ fn row_of(rows: &[u16], pool: &[u8], row: usize, last: usize, s: &[u8], a: usize
     r
 }
 
-// The item of a leaf of this row, whose text goes from its tag's end up to less. The place behind it, 0 where the text spells no value.
+// The item of a leaf of this row, whose text goes from its tag's end up to less. The place after it, 0 where the text spells no value.
 fn put_leaf(
     rows: &[u16],
     pool: &[u8],
@@ -151,13 +148,13 @@ fn put_leaf(
 }
 
 // Into a buffer that has room for it. A leaf is one turn, from its tag to its closing tag, so that a group is always the innermost.
-pub(crate) fn fill(rows: &[u16], pool: &[u8], s: &[u8], out: &mut [u8])
-    requires { ⌜ Ready (now rows) (now pool) (now s) × Faultless houseKinds (listOf (now rows) (now pool)) (now s) ⌝ }
+pub(crate) fn fill(rows: &[u16], pool: &[u8], s: &[u8], kind: u8, out: &mut [u8])
+    requires { ⌜ Fillable houseKinds (now rows) (now pool) (now s) kind ⌝ }
     ensures { λ _. ⌜ FilledIn houseKinds (listOf (now (rows .entry)) (now (pool .entry))) (now (s .entry)) (now (out .entry)) (now (out .exit)) ⌝ }
 {
     let first = begin(rows, pool, s);
     let mut here = stand(1, 0, first.here.at);
-    let mut at = put_head(out);
+    let mut at = put_head(out, kind);
     loop {
         let row = here.row;
         let less = blanks_end(s, here.at);

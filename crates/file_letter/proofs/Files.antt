@@ -1,18 +1,20 @@
 -- The file that is written for a content is a good file of that content, over any well-formed list, and gives the same image. Assumes nothing.
 use mathlib.Core.Path.{_≡_, refl, sym, _∙_, ap, ap₂, subst}
 use mathlib.Core.Logic.{_↔_}
-use mathlib.Core.List.{List, _++_}
+use mathlib.Core.List.{List, [], _∷_, _++_, append-assoc}
 use Prim.Native.Nat.{ℕ, _≤_}
 use native.Mathlib.Omega.{arith}
-use lib.ListN.{length, take, drop}
-use lib.Seq.{take-append-seam}
+use lib.ListN.{length, getD, take, drop}
+use lib.Seq.{take-append-seam, drop-at}
 use Rattle.answer.specs.declared.Answer.{Answer}
 use Rattle.answer.specs.Table.{accepted, limit}
+use Rattle.text.specs.Numbers.{bigEndian}
 use Rattle.list.specs.Listing.{Listing}
 use Rattle.list.specs.WellFormed.{WellFormed}
 use Rattle.list.specs.Content.{Content, items, Meets}
-use Rattle.list_house.specs.House.{house}
-use Rattle.list_house.proofs.HouseSound.{house-well}
+use Rattle.list.specs.Within.{Among}
+use Rattle.list_house.specs.Lists.{asked, stored}
+use Rattle.list_house.proofs.Lists.{asked-well}
 use Rattle.value.specs.Moment.{present}
 use Rattle.value.specs.Value.{Value, IsValue}
 use Rattle.value_to_text.specs.Spelled.{Spelled}
@@ -22,16 +24,21 @@ use Rattle.xml.proofs.Unique.{tree-one}
 use Rattle.xml.proofs.Coded.{house-utf8}
 use Rattle.file_walk.specs.Denotes.{Has}
 use Rattle.file_walk.proofs.violation.Accept as walk
+use Rattle.image.specs.Image.{versioned, header, body, image}
+use Rattle.image.specs.Kinds.{values}
+use Rattle.image.specs.Place.{Front, current, earlier}
+use Rattle.image.proofs.answers.Heads.{header-is}
 use Rattle.image_reading.specs.Reads.{HouseAccepts}
-use Rattle.image_reading.proofs.House.{only, house-begins}
+use Rattle.image_reading.proofs.House.{house-begins}
 use Rattle.file.specs.Instance.{houseTypes, houseKinds}
 use Rattle.file.specs.File.{messageIn, File, imageOf}
-use Rattle.file.specs.Checks.{Answers, Checks, Finds}
-use Rattle.file.proofs.House.{spelling, image-no-longer}
+use Rattle.file.specs.Checks.{Answers, Checks, Filed, Finds}
+use Rattle.file.proofs.Chosen.{filed-chosen}
+use Rattle.file.proofs.House.{spelling, image-no-longer, accepted-image}
 use Rattle.file.proofs.Accepted.{good-accepted}
 use Rattle.file_letter.specs.Letter.{treeOf, letterOf}
 use Rattle.file_letter.specs.Stale.{NoneOf, Finer}
-use Rattle.file_letter.specs.Writes.{letterIn}
+use Rattle.file_letter.specs.Writes.{letterIn, imageIn}
 use Rattle.file_letter.proofs.Meeting.{said-is, none-finer, has-fine}
 use Rattle.file_letter.proofs.Has.{letter-has}
 use Rattle.file_letter.proofs.Good.{letter-good}
@@ -71,22 +78,81 @@ module _ (l : Listing) (wf : WellFormed l) where
       → length (imageOf houseKinds l c) ≤ length d → (a ≡ accepted (length (imageOf houseKinds l c))) × (d′ ≡ imageOf houseKinds l c ++ drop (length (imageOf houseKinds l c)) d)
   letter-accepted c m h d a d′ p r = good-accepted houseKinds l (letterOf l c) d a d′ spelling wf c (letter-file c m h) r p
 
--- with the house list: a buffer as long as the file has room for its image
-pub letter-found : (c : Content Value) → Meets (Spelled present) house c → length (letterOf house c) ≤ limit → Finds (letterOf house c) (accepted (length (imageOf houseKinds house c)))
-letter-found c m h =
-    let f = letter-file house house-well c m h in
-    let n = image-no-longer (letterOf house c) c f in
-    record { roomy = λ d r. (imageOf houseKinds house c ++ drop (length (imageOf houseKinds house c)) d, Answers.imaged c f (omega arith) refl refl) }
+-- the lists that images keep to are those that files are asked
+pub stored-asked : (l : Listing) → Among l stored → Among l asked
+stored-asked l i = i
 
--- "gives the same image": what check writes for the file that was written from the image that a run begins with is that image
+-- of one of these lists: what is written is a file of that list, and check gives its image
+module _ (l : Listing) (i : Among l asked) (c : Content Value) (m : Meets (Spelled present) l c) (h : length (letterOf l c) ≤ limit) where
+  pub letter-filed : Filed (letterOf l c) l c
+  letter-filed = record { among = i; file = letter-file l (asked-well l i) c m h }
+
+  pub letter-checked : (d : List ℕ) (a : Answer) (d′ : List ℕ) → Checks (letterOf l c) d a d′ → length (imageOf houseKinds l c) ≤ length d
+      → (a ≡ accepted (length (imageOf houseKinds l c))) × (d′ ≡ imageOf houseKinds l c ++ drop (length (imageOf houseKinds l c)) d)
+  letter-checked d a d′ p r = accepted-image (letterOf l c) d a d′ p l c letter-filed r
+
+  -- a buffer as long as the file has room for its image
+  pub letter-found : Finds (letterOf l c) (accepted (length (imageOf houseKinds l c)))
+  letter-found =
+      let n = image-no-longer (letterOf l c) l c letter-filed in
+      record {
+        roomy = λ d r. (
+          imageOf houseKinds l c ++ drop (length (imageOf houseKinds l c)) d,
+          record { list = l; among = i; chosen = filed-chosen (letterOf l c) l c letter-filed; answers = Answers.imaged c (letter-filed .file) (omega arith) refl refl },
+        );
+      }
+
+-- ---- the image that a run begins with, and how it begins
+
+image-is : (l : Listing) (c : Content Value) → image values l c ≡ header l ++ body values l c
+unfolding image
+image-is l c = refl
+
+five-of : (k : ℕ) (u : List ℕ) → take 5 (versioned k ++ u) ≡ versioned k
+unfolding bigEndian
+five-of k u = refl
+
+five-long : length (versioned 1) ≡ 5
+unfolding bigEndian
+five-long = refl
+
+versions-differ : versioned 1 ≡ versioned 2 → ⊥
+unfolding bigEndian
+versions-differ e = omega (arith, ap (λ (s : List ℕ). getD s 4 0) e)
+
+header-five : (l : Listing) (u : List ℕ) → take 5 (header l ++ u) ≡ versioned 2
+header-five l u = ap (λ (h : List ℕ). take 5 (h ++ u)) (header-is l) ∙ ap (take 5) (append-assoc (versioned 2) (l .byte ∷ []) u) ∙ five-of 2 (l .byte ∷ u)
+
 module _ (run : List ℕ) (n : ℕ) (w : HouseAccepts run n) where
-  pub same-image : NoneOf Finer (items (w .holds .content)) → length (letterIn w) ≤ limit → (d : List ℕ) (a : Answer) (d′ : List ℕ) → Checks (letterIn w) d a d′ → n ≤ length d
-      → (a ≡ accepted n) × (d′ ≡ take n run ++ drop n d)
+  -- "gives the same image": what check writes for the file that was written from it is the version 2 image of its content, of its kind
+  pub same-image : NoneOf Finer (items (w .holds .content)) → length (letterIn w) ≤ limit → (d : List ℕ) (a : Answer) (d′ : List ℕ) → Checks (letterIn w) d a d′ → length (imageIn w) ≤ length d
+      → (a ≡ accepted (length (imageIn w))) × (d′ ≡ imageIn w ++ drop (length (imageIn w)) d)
   same-image q h d a d′ p r =
-      let c = w .holds .content in
-      let i = imageOf houseKinds house c in
-      let g = house-begins run n w in
-      let e : letterIn w ≡ letterOf house c = ap (λ (l : Listing). letterOf l c) (only (w .list) (w .among)) in
-      let t : take n run ≡ i = ap₂ take (g .2) (g .1) ∙ take-append-seam i (w .holds .rest) in
-      let o = letter-accepted house house-well c (none-finer house c (g .0) .0 q) (omega (arith, ap length e)) d a d′ (subst (λ (s : List ℕ). Checks s d a d′) e p) (omega (arith, g .2)) in
-      (o .0 ∙ ap accepted (sym (g .2)), o .1 ∙ ap (λ (u : List ℕ). u ++ drop (length i) d) (sym t) ∙ ap (λ (x : ℕ). take n run ++ drop x d) (sym (g .2)))
+      letter-checked (w .list) (stored-asked (w .list) (w .among)) (w .holds .content) (none-finer (w .list) (w .holds .content) (w .holds .meets) .0 q) h d a d′ p r
+
+  abbrev bodyIn : List ℕ
+  bodyIn = body values (w .list) (w .holds .content)
+
+  first-is : take n run ≡ w .head ++ bodyIn
+  first-is = let g = house-begins run n w in ap₂ take (g .2) (g .1) ∙ take-append-seam (w .head ++ bodyIn) (w .holds .rest)
+
+  first-five : (h : List ℕ) → w .head ≡ h → take 5 run ≡ take 5 (h ++ w .behind)
+  first-five h e = ap (take 5) (w .at) ∙ ap (λ (z : List ℕ). take 5 (z ++ w .behind)) e
+
+  -- of a run of version 2 that is the image itself
+  pub current-image : take 5 run ≡ versioned 2 → imageIn w ≡ take n run
+  current-image v = go (w .front)
+    where
+      go : Front (w .list) (w .head) → imageIn w ≡ take n run
+      go (current e) = image-is (w .list) (w .holds .content) ∙ ap (λ (h : List ℕ). h ++ bodyIn) (sym e) ∙ sym first-is
+      go (earlier b e) = absurd (versions-differ (sym (five-of 1 (w .behind)) ∙ sym (first-five (versioned 1) e) ∙ v))
+
+  -- of one of version 1, which is a statement's, it has the same items after version 2 and the kind byte 1
+  pub former-image : take 5 run ≡ versioned 1 → imageIn w ≡ versioned 2 ++ (1 ∷ drop 5 (take n run))
+  former-image v = go (w .front)
+    where
+      go : Front (w .list) (w .head) → imageIn w ≡ versioned 2 ++ (1 ∷ drop 5 (take n run))
+      go (current e) = absurd (versions-differ (sym v ∙ first-five (header (w .list)) e ∙ header-five (w .list) (w .behind)))
+      go (earlier b e) =
+          image-is (w .list) (w .holds .content) ∙ ap (λ (h : List ℕ). h ++ bodyIn) (header-is (w .list)) ∙ append-assoc (versioned 2) (w .list .byte ∷ []) bodyIn
+          ∙ ap₂ (λ (k : ℕ) (u : List ℕ). versioned 2 ++ (k ∷ u)) b (sym (ap (drop 5) (first-is ∙ ap (λ (h : List ℕ). h ++ bodyIn) e) ∙ drop-at (versioned 1) bodyIn 5 five-long))

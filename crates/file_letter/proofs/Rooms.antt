@@ -7,7 +7,7 @@ use native.Mathlib.Omega.{arith}
 use lib.ListN.{length, take, drop}
 use Rattle.answer.specs.declared.Answer.{Answer}
 use Rattle.answer.specs.Table.{limit}
-use Rattle.image.specs.Place.{over, foreign, version, broken, wholeImage as read}
+use Rattle.image.specs.Place.{over, foreign, version, kindless, broken, wholeImage as read}
 use Rattle.image_reading.specs.Reads.{HouseReads}
 use Rattle.file_letter.specs.Writes.{letterIn, Delivers, large, short, delivered, Writes, unread, finer, begun}
 use Rattle.file_letter.proofs.Writing.{writes-one, written-file}
@@ -27,7 +27,8 @@ written-fits run d a d′ (begun h n w c p) z = delivers-fits (letterIn w) d a d
 read-code : (run : List ℕ) (a : Answer) → HouseReads run a → a .code ≢ 14
 read-code run a (over h e) z = omega (arith, ap (λ (x : Answer). x .code) e, z)
 read-code run a (foreign h k e) z = omega (arith, ap (λ (x : Answer). x .code) e, z)
-read-code run a (version h i k m e) z = omega (arith, ap (λ (x : Answer). x .code) e, z)
+read-code run a (version h i k m o e) z = omega (arith, ap (λ (x : Answer). x .code) e, z)
+read-code run a (kindless h k m e) z = omega (arith, ap (λ (x : Answer). x .code) e, z)
 read-code run a (broken h l m t f s g n b e) z = omega (arith, ap (λ (x : Answer). x .code) e, z)
 read-code run a (read h n w e) z = omega (arith, ap (λ (x : Answer). x .code) e, z)
 

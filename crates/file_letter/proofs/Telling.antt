@@ -102,7 +102,7 @@ module _ (l : Listing) (wf : WellFormed l) where
       ∙ ap (λ (x : List ℕ). opens l r [] ++ x) (f ∙ ap (λ (x : List ℕ). render (treeIn l c) ++ x) (o ∙ ap (λ (x : List ℕ). shuts l r ++ x) j))
       ∙ element (rowAt l r .name) t (render (treeIn l c)) (render (treeIn l k)) (tell l p u)
 
-  -- the whole file: the root's tag, then what is told of the items behind it
+  -- the whole file: the root's tag, then what is told of the items after it
   pub letter-told : (c : Content Value) → Meets IsValue l c → (kids : Content Value) → c ≡ node 1 kids end
       → letterOf l c ≡ opens l 1 (attrOf (ascii "xmlns") (l .space) ∷ []) ++ tell l 1 (items kids)
   unfolding letterOf tell

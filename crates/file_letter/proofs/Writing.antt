@@ -11,20 +11,18 @@ use Rattle.answer.specs.declared.Answer.{Answer}
 use Rattle.answer.specs.Table.{limit, accepted, noRoom, tooLarge, tooFine}
 use Rattle.list.specs.Listing.{Listing}
 use Rattle.list.specs.Content.{Content, items, Meets}
-use Rattle.list_house.specs.House.{house}
 use Rattle.value.specs.Moment.{present}
 use Rattle.value.specs.Value.{Value}
 use Rattle.value_to_text.specs.Spelled.{Spelled}
-use Rattle.image.specs.Image.{header}
 use Rattle.image.specs.Kinds.{values}
-use Rattle.image.specs.Place.{Front, current, wholeImage as read}
+use Rattle.image.specs.Place.{wholeImage as read}
 use Rattle.image.proofs.answers.One.{accepting}
 use Rattle.image_reading.specs.Reads.{stored, HouseAccepts, HouseReads}
-use Rattle.image_reading.proofs.House.{only, house-accepts-one, house-reads-one, house-reads-some}
+use Rattle.image_reading.proofs.House.{house-accepts-one, house-list-one, house-head-one, house-reads-one, house-reads-some}
 use Rattle.file.specs.Checks.{Checks}
 use Rattle.file_letter.specs.Letter.{letterOf}
 use Rattle.file_letter.specs.Stale.{NoneOf, FirstAt, Finer}
-use Rattle.file_letter.specs.Writes.{letterIn, Delivers, large, short, delivered, Writes, unread, finer, begun}
+use Rattle.file_letter.specs.Writes.{letterIn, imageIn, Delivers, large, short, delivered, Writes, unread, finer, begun}
 use Rattle.file_letter.proofs.Meeting.{none-finer}
 use Rattle.file_letter.proofs.Stale.{finer-or, first-or-none, first-not, first-one}
 use Rattle.file_letter.proofs.Files.{same-image}
@@ -78,8 +76,7 @@ module _ (s d : List ℕ) where
 module _ (run : List ℕ) where
   -- the image that a run begins with has one file
   same-letter : (m n : ℕ) (v : HouseAccepts run m) (w : HouseAccepts run n) → letterIn v ≡ letterIn w
-  same-letter m n v w =
-      ap₂ (λ (l : Listing) (c : Content Value). letterOf l c) (only (v .list) (v .among) ∙ sym (only (w .list) (w .among))) (house-accepts-one run m n v w .1)
+  same-letter m n v w = ap₂ (λ (l : Listing) (c : Content Value). letterOf l c) (house-list-one run m n v w) (house-accepts-one run m n v w .1)
 
   not-unread : length run ≤ limit → (n : ℕ) → HouseAccepts run n → (a : Answer) → HouseReads run a → a .code ≢ 0 → ⊥
   not-unread h n w a r k = k (code-of a (accepted n) (house-reads-one run a (accepted n) r (read h n w refl)))
@@ -91,16 +88,10 @@ module _ (run : List ℕ) where
   abbrev Plainly : {n : ℕ} → HouseAccepts run n → Type 0
   Plainly w = NoneOf Finer (items (w .holds .content))
 
-  headed : {n : ℕ} (w : HouseAccepts run n) → w .head ≡ header house
-  headed w = go (w .front) ∙ ap header (only (w .list) (w .among))
-    where
-      go : Front (w .list) (w .head) → w .head ≡ header (w .list)
-      go (current e) = e
-
   same-finer : (m n : ℕ) (v : HouseAccepts run m) (w : HouseAccepts run n) (r p : ℕ) → FinerAt v r p → FinerAt w r p
   same-finer m n v w r p f =
-      let a = subst (λ (l : Listing). FirstAt l Finer (length (v .head)) (items (v .holds .content)) r p) (only (v .list) (v .among) ∙ sym (only (w .list) (w .among))) f in
-      let b = subst (λ (h : List ℕ). FirstAt (w .list) Finer (length h) (items (v .holds .content)) r p) (headed v ∙ sym (headed w)) a in
+      let a = subst (λ (l : Listing). FirstAt l Finer (length (v .head)) (items (v .holds .content)) r p) (house-list-one run m n v w) f in
+      let b = subst (λ (h : List ℕ). FirstAt (w .list) Finer (length h) (items (v .holds .content)) r p) (house-head-one run m n v w) a in
       subst (λ (c : Content Value). FirstAt (w .list) Finer (length (w .head)) (items c) r p) (house-accepts-one run m n v w .1) b
 
   same-plain : (m n : ℕ) (v : HouseAccepts run m) (w : HouseAccepts run n) → Plainly v → Plainly w
@@ -169,9 +160,10 @@ module _ (run : List ℕ) where
       (λ z. absurd (z (none-finer (w .list) (w .holds .content) (w .holds .meets) .0 (same-plain m n v w q)))),
     )
 
-  -- "The written file is accepted and gives the same image": by check with every buffer that has room for it
-  pub write-back : (d : List ℕ) (a : Answer) (d′ : List ℕ) → Writes run d a d′ → a .code ≡ 0 → (n : ℕ) → HouseAccepts run n
-      → (e : List ℕ) (b : Answer) (e′ : List ℕ) → Checks (take (a .place) d′) e b e′ → n ≤ length e → (b ≡ accepted n) × (e′ ≡ take n run ++ drop n e)
+  -- "The written file is accepted and gives the same image", "the version 2 image of that content": by check with every buffer that has room for it, whichever
+  -- version the run is of
+  pub write-back : (d : List ℕ) (a : Answer) (d′ : List ℕ) → Writes run d a d′ → a .code ≡ 0 → (n : ℕ) (w : HouseAccepts run n)
+      → (e : List ℕ) (b : Answer) (e′ : List ℕ) → Checks (take (a .place) d′) e b e′ → length (imageIn w) ≤ length e → (b ≡ accepted (length (imageIn w))) × (e′ ≡ imageIn w ++ drop (length (imageIn w)) e)
   write-back d a d′ p z n w e b e′ q r =
       let f = written-file d a d′ p z n w in
       same-image run n w (f .0) (f .1) e b e′ (subst (λ (s : List ℕ). Checks s e b e′) (f .3) q) r

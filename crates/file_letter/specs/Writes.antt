@@ -7,6 +7,8 @@ use lib.ListN.{length, drop}
 use Rattle.answer.specs.declared.Answer.{Answer}
 use Rattle.answer.specs.Table.{limit, accepted, noRoom, tooLarge, tooFine}
 use Rattle.list.specs.Content.{items}
+use Rattle.image.specs.Image.{image}
+use Rattle.image.specs.Kinds.{values}
 use Rattle.image_reading.specs.Reads.{HouseAccepts, HouseReads}
 use Rattle.file_letter.specs.Letter.{letterOf}
 use Rattle.file_letter.specs.Stale.{NoneOf, FirstAt, Finer}
@@ -14,6 +16,10 @@ use Rattle.file_letter.specs.Stale.{NoneOf, FirstAt, Finer}
 -- "From an image at the start of a run, write a message": the file of that image's content, by its list
 abbrev pub letterIn : {run : List ℕ} {n : ℕ} → HouseAccepts run n → List ℕ
 letterIn w = letterOf (w .list) (w .holds .content)
+
+-- "The written file .. gives the same image": section 5, "§1's same image reads: the version 2 image of that content"
+abbrev pub imageIn : {run : List ℕ} {n : ℕ} → HouseAccepts run n → List ℕ
+imageIn w = image values (w .list) (w .holds .content)
 
 -- a file s that is to be written: the buffer d before, the answer a and the buffer d′ after; "place is the bytes needed, row 0"
 pub data Delivers (s d : List ℕ) (a : Answer) (d′ : List ℕ) : Type 0 where

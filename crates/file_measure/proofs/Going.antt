@@ -4,14 +4,13 @@ use mathlib.Core.Logic.{_≢_}
 use mathlib.Core.Bool.{Bool, true, false, not, true≢false, false≢true}
 use mathlib.Core.List.{List, [], _∷_, _++_, append-assoc, append-nil}
 use mathlib.Core.Option.{Option}
-use Prim.Native.Nat.{ℕ, _+_, _*_, _≤_, _<_}
+use Prim.Native.Nat.{ℕ, _+_, _*_, _≤_}
 use native.Mathlib.Omega.{arith}
-use lib.ListN.{length}
+use lib.ListN.{length, length-append}
 use lib.Seq.{slice}
 use Rattle.answer.specs.declared.Answer.{Answer}
 use Rattle.answer.specs.Table.{accepted, badValue}
 use Rattle.text.specs.Pasting.{pasted}
-use Rattle.text.specs.Numbers.{bigEndian}
 use Rattle.text.specs.Puts.{Puts}
 use Rattle.list.specs.Listing.{Leaf, amt, Kind, group, choice, leaf, Listing, rowAt, Child, isGroup}
 use Rattle.list.specs.WellFormed.{LeafOk, KindOk}
@@ -47,6 +46,7 @@ use Rattle.file_walk.proofs.violation.Accept.{accept}
 use Rattle.file_walk.proofs.events.Items.{opens-group, closes-group, items-are}
 use Rattle.file_walk.proofs.bytes.Stands.{Stands, Nested, Enters, Leaves, Ends, Turned, refused, opened, closed, whole, Starts, Began, denied, starts, finds, hands}
 use Rattle.image.specs.Image.{itemsBytes, itemBytes, valueBytes, header, image}
+use Rattle.image.proofs.answers.Heads.{header-length}
 use Rattle.file.specs.Instance.{Kinds, valuesOf}
 use Rattle.file.specs.File.{imageOf}
 use Rattle.text.proofs.Puts.{puts-none, puts-pasted, puts-then, puts-as}
@@ -185,14 +185,10 @@ module _ (cm : Computed) (t pool s : List ℕ) (sd : Sound t pool) where
         | starts v ↦ v
       ]
 
-    head-length : length (header l ++ (1 ∷ [])) ≡ 6
-    unfolding header bigEndian
-    head-length = refl
-
     -- ---- from the root's tag on, with d₁ in the buffer up to a₁
 
     module _ (d₁ : List ℕ) (a₁ : ℕ) where
-      -- where the pass stands, with d in the buffer up to `at`: the levels and events of the walk, and the items that it has handed out behind the root's
+      -- where the pass stands, with d in the buffer up to `at`: the levels and events of the walk, and the items that it has handed out after the root's
       pub record Going (d st : List ℕ) (here : Here) (at : ℕ) : Type 0 where
         pub below : List Level
         pub ats : Attrs
@@ -202,9 +198,9 @@ module _ (cm : Computed) (t pool s : List ℕ) (sd : Sound t pool) where
         pub done : List (ℕ × Option (T .A))
         pub handed : handed-all ≡ (1, Option.none) ∷ (done ++ hands T t pool s sd here below ats rest)
         pub put : Puts d₁ a₁ (itemsOf done) at d
-        pub least : 0 < a₁
+        pub head : a₁ ≡ length (header l) + 1
         -- no step adds more than this, and each goes on
-        pub most : at ≤ 6 + 65538 * here .at
+        pub most : at ≤ a₁ + 65538 * here .at
 
       pub goes-first : (d₀ : List ℕ) (turn : Turn) → Starts T t pool s sd (x .tree) turn → (st : List ℕ) → length st ≡ 80 → Puts d₀ 0 (header l ++ (1 ∷ [])) a₁ d₁ → Going d₁ st (turn .here) a₁
       goes-first d₀ turn w st h p = record {
@@ -216,17 +212,17 @@ module _ (cm : Computed) (t pool s : List ℕ) (sd : Sound t pool) where
         done = [];
         handed = w .handed;
         put = puts-none d₁ a₁;
-        least = omega (arith, p .behind, head-length);
-        most = omega (arith, p .behind, head-length);
+        head = omega (arith, p .behind, length-append (header l) (1 ∷ []));
+        most = omega arith;
       }
 
       -- ---- a step
 
       module _ (d st : List ℕ) (here : Here) (at : ℕ) (g : Going d st here at) where
         pub at-most : length s ≤ 1048576 → at ≤ 1000000000000
-        at-most h = omega (arith, g .most, g .stands .within)
+        at-most h = omega (arith, g .most, g .head, header-length l, g .stands .within)
 
-        -- what is put behind
+        -- what is put after
         more : (new : List (ℕ × Option (T .A))) (r : ℕ) (d′ : List ℕ) → Puts d at (itemsOf new) r d′ → Puts d₁ a₁ (itemsOf (g .done ++ new)) r d′
         more new r d′ p =
             puts-as d₁ a₁ (itemsOf (g .done) ++ itemsOf new) (itemsOf (g .done ++ new)) r d′ (sym (items-append (g .done) new))
@@ -296,7 +292,7 @@ module _ (cm : Computed) (t pool s : List ℕ) (sd : Sound t pool) where
                 ∙ ap (λ z. (1, Option.none) ∷ z) (sym (append-assoc (g .done) (opens T l (rowAt l (turn .here .level .row) .kind) (turn .here .level .row))
                 (hands T t pool s sd (turn .here) (advance l (here .level) (turn .here .level .row) ∷ g .below) (w .attrs) (w .rest))));
             put = more (opens T l (rowAt l (turn .here .level .row) .kind) (turn .here .level .row)) r d′ put-in;
-            least = g .least;
+            head = g .head;
             most = omega (arith, o .most, g .most, w .on);
           }
             where
@@ -350,7 +346,7 @@ module _ (cm : Computed) (t pool s : List ℕ) (sd : Sound t pool) where
               done = g .done ++ new;
               handed = g .handed ∙ ap (λ z. (1, Option.none) ∷ (g .done ++ z)) (w .handed) ∙ ap (λ z. (1, Option.none) ∷ z) (sym (append-assoc (g .done) new (hands T t pool s sd (turn .here) (w .outer) [] (w .rest))));
               put = more new r d′ p;
-              least = g .least;
+              head = g .head;
               most = omega (arith, o .most, g .most, w .on);
             }
 
@@ -383,7 +379,7 @@ module _ (cm : Computed) (t pool s : List ℕ) (sd : Sound t pool) where
 
             pub bad-value : (d₀ : List ℕ) → r ≡ 0 → Goal d₀ (badValue row (here .level .place)) d′
             bad-value d₀ n = kinds (rowAt l row .kind)
-                (λ b. absurd (omega (arith, n, g .least, g .put .behind, (o .group (ap isGroup (sym kind-here) ∙ b)) .behind)))
+                (λ b. absurd (omega (arith, n, g .head, g .put .behind, (o .group (ap isGroup (sym kind-here) ∙ b)) .behind)))
                 (λ f e. bad-leaf d₀ n f e (spelt f) refl)
 
         -- the end of the root

@@ -1,18 +1,18 @@
 -- An image's first bytes, put into no buffer. Assumes nothing.
-use mathlib.Core.Path.{_≡_, refl}
-use mathlib.Core.List.{List, [], _∷_, _++_}
+use mathlib.Core.Path.{refl}
+use mathlib.Core.List.{[], _∷_, _++_}
 use native.Mathlib.Omega.{arith}
-use lib.ListN.{length}
-use Rattle.text.specs.Numbers.{bigEndian}
+use lib.ListN.{length-append}
 use Rattle.text.specs.Puts.{Puts}
 use Rattle.list.specs.Listing.{Listing}
 use Rattle.image.specs.Image.{header}
+use Rattle.image.proofs.answers.Heads.{header-length}
 use Rattle.text.proofs.Puts.{pasted-nowhere}
 
-head-long : (l : Listing) → 6 ≡ length (header l ++ (1 ∷ []))
-unfolding header bigEndian
-head-long l = refl
-
 -- the header and the root's row byte
-pub head-nowhere : (l : Listing) → Puts [] 0 (header l ++ (1 ∷ [])) 6 []
-head-nowhere l = record { behind = omega (arith, head-long l); long = refl; is = λ h. pasted-nowhere 0 (header l ++ (1 ∷ [])) }
+pub head-nowhere : (l : Listing) → Puts [] 0 (header l ++ (1 ∷ [])) 7 []
+head-nowhere l = record {
+  behind = omega (arith, length-append (header l) (1 ∷ []), header-length l);
+  long = refl;
+  is = λ h. pasted-nowhere 0 (header l ++ (1 ∷ []));
+}

@@ -3,3 +3,7 @@
 pub mod Measured
 -- one pass over a message, whether it counts or writes
 pub mod Pass
+-- what measuring tells
+pub mod Measures
+-- mirrors, which say how the code goes
+pub mod mirror

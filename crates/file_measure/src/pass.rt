@@ -1,9 +1,9 @@
 // The walk over a message that is house XML: its first violation, or its image's length. Nothing is written: values are only counted.
 
 use answer::Answer;
-use file_walk::begin::begin;
 use file_walk::step::Here;
 use file_walk::step::Met;
+use file_walk::step::Turn;
 use file_walk::step::step;
 use file_walk::tag::is_group;
 use list::lookup::cell;
@@ -17,11 +17,12 @@ ghost use mathlib.Core.List.{[]};
 ghost use Prim.Native.Nat.{_≤_};
 ghost use lib.Seq.{slice};
 ghost use Rattle.list.specs.Table.{cell, wordsIn, listOf};
+ghost use Rattle.file_walk.specs.mirror.Begin.{beginIn};
 ghost use Rattle.file.specs.Instance.{houseKinds};
 ghost use Rattle.file_measure.specs.Measured.{Measured};
 ghost use Rattle.file_measure.specs.Pass.{WordSize, Sizes, Shuts, Opens, Ready};
 
-// The place behind the item of a group of this row, which is its row byte; of a leaf the same place.
+// The place after the item of a group of this row, which is its row byte; of a leaf the same place.
 fn group_end(rows: &[u16], row: usize, at: usize) -> usize
     requires { ⌜ at ≤ 1000000000000 ⌝ }
     ensures { λ r. ⌜ Opens houseKinds (now (rows .entry)) row [] at r [] ⌝ }
@@ -61,7 +62,7 @@ fn value_size(
     size(kind as u8, cell(rows, row, MOST), s, a, b)
 }
 
-// The place behind the item of a leaf that ends at less, 0 where its text spells no value; of a group the same place.
+// The place after the item of a leaf that ends at less, 0 where its text spells no value; of a group the same place.
 fn leaf_end(rows: &[u16], pool: &[u8], s: &[u8], here: Here, less: usize, at: usize) -> usize
     requires { ⌜ at ≤ 1000000000000 ⌝ }
     ensures { λ r. ⌜ Shuts houseKinds (now (rows .entry)) (now (pool .entry)) (here .level .row) (slice (here .value) (here .quote) (now (s .entry))) (slice (here .at) less (now (s .entry))) [] at r [] ⌝ }
@@ -79,16 +80,15 @@ fn leaf_end(rows: &[u16], pool: &[u8], s: &[u8], here: Here, less: usize, at: us
 }
 
 // The header and the root's row byte.
-const HEAD: usize = 6;
+const HEAD: usize = 7;
 
-// From the root's tag to its end, one step after the other. No sum overflows: each step goes on in a text of at most 1,048,576 bytes, and
-// an item has at most 65,538. The tables are of any length; the one caller lends arrays, so that the compiler knows their lengths here.
-// In house XML the walk is never lost, and the root's tag closes nothing: the answers of these arms are never given.
-pub(crate) fn found(rows: &[u16], pool: &[u8], s: &[u8]) -> Answer
-    requires { ⌜ Ready (now rows) (now pool) (now s) ⌝ }
+// From the root's tag, as it was met, to its end, one step after the other. No sum overflows: each step goes on in a text of at most
+// 1,048,576 bytes, and an item has at most 65,538. The tables are of any length; the one caller lends arrays, so that the compiler knows
+// their lengths here. In house XML the walk is never lost, and the root's tag closes nothing: the answers of these arms are never given.
+pub(crate) fn found(rows: &[u16], pool: &[u8], s: &[u8], first: Turn) -> Answer
+    requires { ⌜ Ready (now rows) (now pool) (now s) × (first ≡ beginIn (now rows) (now pool) (now s)) ⌝ }
     ensures { λ a. ⌜ Measured houseKinds (listOf (now (rows .entry)) (now (pool .entry))) (now (s .entry)) a ⌝ }
 {
-    let first = begin(rows, pool, s);
     let begun = first.met;
     match begun {
         Met::Refused(a) => return a,

@@ -3,5 +3,5 @@
 pub mod Machine
 -- it hands out the items of the message's content
 pub mod Items
--- what is told behind a place, by the token there
+-- what is told after a place, by the token there
 pub mod Told

@@ -59,7 +59,7 @@ module _ (t : Types) (l : Listing) where
   Denotes p (element o n ats i k) (node r d c) =
       (Child l p r × (rowAt l r .name ≡ n)) × ((isGroup (rowAt l r .kind) ≡ true) × (ats ≡ [])) × Denotes r i d × Denotes p k c
 
-  -- an element as the root: row 1's name, the namespace and no other attribute but hints, nothing behind it
+  -- an element as the root: row 1's name, the namespace and no other attribute but hints, nothing after it
   pub record Rooted (n : List ℕ) (ats : Attrs) (i k : Inside) (c : Content (t .A)) : Type 0 where
     pub name : rowAt l 1 .name ≡ n
     pub attrs : RootAttrs (l .space) ats

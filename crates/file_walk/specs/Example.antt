@@ -62,7 +62,7 @@ balance o ats k =
 abbrev pub message : Inside → Inside
 message i = document space (el 10 "BkToCstmrStmt" (header (el 100 "Stmt" i nothingInside)) nothingInside)
 
--- a whole statement, with these parts behind its balance; an entry with these details
+-- a whole statement, with these parts after its balance; an entry with these details
 abbrev pub statement : Inside → Inside
 statement k = message (lf 110 "Id" "S1" (account (balance 200 euro k)))
 
@@ -89,7 +89,7 @@ examples =
     -- 5: no child of its parent; an element in a leaf
     (statement (lf 290 "Oops" "" nothingInside), Violation (notAChild 6 290)) ∷
     (message (el 110 "Id" (lf 112 "Id" "1" nothingInside) nothingInside), Violation (notAChild 7 112)) ∷
-    -- 6: also a row that comes again behind a later sibling
+    -- 6: also a row that comes again after a later sibling
     (statement (lf 290 "Id" "S2" nothingInside), Violation (outOfOrder 7 290)) ∷
     -- 7: over its count; second child in a choice, whichever it is
     (message (lf 110 "Id" "S1" (lf 115 "Id" "S2" nothingInside)), Violation (tooMany 7 115)) ∷
@@ -107,7 +107,7 @@ examples =
     (message (lf 110 "Id" "" nothingInside), Violation (empty 7 110)) ∷
     (message nothingInside, Violation (empty 6 100)) ∷
     (message (chars 101 (ascii " ") nothingInside), Violation (empty 6 100)) ∷
-    -- 8: the lowest that is absent, at the parent's `<`, and behind what stands in a later sibling
+    -- 8: the lowest that is absent, at the parent's `<`, and after what stands in a later sibling
     (message (lf 110 "Id" "S1" (account nothingInside)), Violation (absent 15 100)) ∷
     (message (balance 200 euro nothingInside), Violation (absent 7 100)) ∷
     (message (balance 200 [] nothingInside), Violation (wrongAttributes 19 240)) ∷

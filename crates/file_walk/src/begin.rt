@@ -38,7 +38,7 @@ fn is_root(rows: &[u16], pool: &[u8], s: &[u8], less: usize, stop: usize, count:
     root_attributes(rows, pool, s, stop, count)
 }
 
-// A tag as the root of a message that goes on behind it.
+// A tag as the root of a message that goes on after it.
 fn rooted(root: bool, here: Here, less: usize) -> Turn
     ensures { λ r. ⌜ r ≡ rootedIn root here less ⌝ }
 {

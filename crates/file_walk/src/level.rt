@@ -43,7 +43,7 @@ fn misses(other: usize, q: usize) -> bool
     other != q
 }
 
-// What is due behind a child.
+// What is due after a child.
 fn next(rows: &[u16], row: usize, due: usize, child: usize) -> usize
     ensures { λ r. ⌜ r ≡ nextIn (now (rows .entry)) row due child ⌝ }
 {
@@ -53,7 +53,7 @@ fn next(rows: &[u16], row: usize, due: usize, child: usize) -> usize
     due
 }
 
-// The flag behind a child: when a row comes for the first time, the first row of its rule must be the child before it, and the second
+// The flag after a child: when a row comes for the first time, the first row of its rule must be the child before it, and the second
 // row of the rule of the child before must be it.
 fn odd_after(rows: &[u16], odd: bool, last: usize, child: usize) -> bool
     ensures { λ r. ⌜ r ≡ oddIn (now (rows .entry)) odd last child ⌝ }

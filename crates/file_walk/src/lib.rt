@@ -4,5 +4,5 @@ pub mod found; // found.rt: what the tests of a tag find
 pub mod tag; // tag.rt: the tests of a tag
 pub mod attributes; // attributes.rt: the attributes of a tag below the root
 mod hints; // hints.rt: the root's attributes
-pub mod step; // step.rt: one step, over a text and the tag behind it
+pub mod step; // step.rt: one step, over a text and the tag after it
 pub mod begin; // begin.rt: the root's tag

@@ -1,4 +1,4 @@
-// One step of the walk: a text, and the tag behind it.
+// One step of the walk: a text, and the tag after it.
 
 use crate::attributes::own;
 use crate::found::Found;
@@ -22,7 +22,7 @@ ghost use mathlib.Core.Path.{_≡_};
 ghost use Prim.Native.Nat.{_<_};
 ghost use Rattle.file_walk.specs.mirror.Stride.{textFrom, inkFrom, endIn, refusedAt, lostAt, outer, closedIn, rowIn, enteredIn, belowIn, vacantIn, numberOf, stepIn, stackIn};
 
-// Where the walk stands: the innermost open element, how many are around it (they are on the stack), the place behind the last tag, and
+// Where the walk stands: the innermost open element, how many are around it (they are on the stack), the place after the last tag, and
 // where that tag's first attribute has its value.
 pub struct Here {
     pub level: Level,
@@ -103,7 +103,7 @@ pub(crate) fn lost(here: Here, less: usize) -> Turn
     }
 }
 
-// The n-th element on the stack is the innermost again, behind a tag that ends at a place.
+// The n-th element on the stack is the innermost again, after a tag that ends at a place.
 fn around(stack: &[usize; 80], n: usize, end: usize) -> Here
     requires { ⌜ n < 16 ⌝ }
     ensures { λ r. ⌜ r ≡ outer (now (stack .entry)) n end ⌝ }
@@ -230,7 +230,7 @@ fn number(kind: Kind) -> u8
     }
 }
 
-// One step: the text behind `here`, and the tag behind it. Bytes that end, and levels beyond 16, are no house XML.
+// One step: the text after `here`, and the tag after it. Bytes that end, and levels beyond 16, are no house XML.
 pub fn step(rows: &[u16], pool: &[u8], s: &[u8], stack: &mut [usize; 80], here: Here) -> Turn
     ensures { λ x. ⌜ (x ≡ stepIn (now (rows .entry)) (now (pool .entry)) (now (s .entry)) (now (stack .entry)) here) × (now (stack .exit) ≡ stackIn (now (rows .entry)) (now (pool .entry)) (now (s .entry)) (now (stack .entry)) here) ⌝ }
 {

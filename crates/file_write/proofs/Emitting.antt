@@ -23,7 +23,7 @@ use Rattle.list.proofs.rows.Rows.{size-is, parent-is, kind-is}
 use Rattle.value.specs.Value.{Value, IsValue, bytes as valued}
 use Rattle.value_to_text.specs.Script.{scriptOf}
 use Rattle.value_from_bytes.specs.Stands.{taken}
-use Rattle.value_from_bytes.specs.mirror.Ends.{valueEnd}
+use Rattle.value_from_bytes.specs.mirror.Ends.{width}
 use Rattle.value_from_bytes.proofs.Meaning.{ends-one}
 use Rattle.xml.specs.House.{render}
 use Rattle.image.specs.Image.{Item, valueBytes, itemsBytes, body}
@@ -91,7 +91,7 @@ module _ (t pool : List ℕ) where
       pub emit-start : from < length run
       emit-start = stand-start t pool so run from n w
 
-      -- the root's tag and what is told behind it are the whole file
+      -- the root's tag and what is told after it are the whole file
       pub emit-whole : rootIn t pool ++ tell l 1 (items (kidsOf (w .content))) ≡ letterOf l (w .content)
       emit-whole =
           ap₂ _++_ (root-is t pool (so .well)) (ap (λ (c : Content Value). tell l 1 (items (kidsOf c))) (is-root t pool so run from n w))
@@ -158,7 +158,7 @@ module _ (t pool : List ℕ) where
             abbrev u : Value
             u = its .val
 
-            module _ (e : ℕ) (ee : e ≡ valueEnd (cell t x 2) (cell t x 3) (cell t x 15) run (i + 1)) where
+            module _ (e : ℕ) (ee : e ≡ i + 1 + width (cell t x 2) (drop (i + 1) run)) where
               abbrev ends-at : e ≡ i + 1 + length (valued u)
               ends-at = end-is t pool so run i (w .stands) x ex n b eb y e ee
 
@@ -236,9 +236,9 @@ module _ (t pool run : List ℕ) (from : ℕ) (pre : Held t pool run from) where
           held-group y a₃ d₃ o n h = emit-group t pool (pre .sound) run d₁ a₁ _ d g i at (w n h) x ex nz b sorted y (pre .small) p ep a₂ d₂ c a₃ d₃ o
 
           module _ (y : b ≡ false) where
-            module _ (m : ℕ) (em : m ≡ cell t x 3) (q : ℕ) (eq : q ≡ cell t x 15) (e : ℕ) (ee : e ≡ valueEnd k m q run (i + 1)) where
-              ends : e ≡ valueEnd (cell t x 2) (cell t x 3) (cell t x 15) run (i + 1)
-              ends = rw (sym ek, sym em, sym eq) ee
+            module _ (e : ℕ) (ee : e ≡ i + 1 + width k (drop (i + 1) run)) where
+              ends : e ≡ i + 1 + width (cell t x 2) (drop (i + 1) run)
+              ends = ee ∙ ap (λ (j : ℕ). i + 1 + width j (drop (i + 1) run)) ek
 
               pub held-less : i < e
               held-less = emit-less t pool (pre .sound) run d₁ a₁ mine d g i at here x ex nz b sorted y e ends

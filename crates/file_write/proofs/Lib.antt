@@ -1,5 +1,5 @@
 -- The laws of `file_write`.
--- words and parts put one behind the other
+-- words and parts put one after the other
 pub mod Putting
 -- the closing tags
 pub mod Closing
@@ -7,6 +7,8 @@ pub mod Closing
 pub mod Tagging
 -- a leaf's element
 pub mod Leafing
+-- how long a value is
+pub mod Widths
 -- going over the items of an image
 pub mod Standing
 -- the pass over an image

@@ -20,7 +20,7 @@ use Rattle.list.specs.Sound.{Sound}
 use Rattle.value.specs.Value.{Value, text, place, truth, natural, amount, day, moment, IsValue, bytes as valued}
 use Rattle.value.specs.Rules.{InThousandths}
 use Rattle.value.specs.Kind.{code}
-use Rattle.value_from_bytes.specs.mirror.Ends.{valueEnd}
+use Rattle.value_from_bytes.specs.mirror.Ends.{width}
 use Rattle.value_to_text.proofs.Meaning.{kind-number}
 use Rattle.image.specs.Image.{Item, valueBytes, itemBytes, itemsBytes}
 use Rattle.image.specs.Kinds.{values}
@@ -173,7 +173,7 @@ module _ (t pool : List ℕ) where
                   stands = w .place;
                 })
 
-            pub pass-leaf : c ≡ false → (e : ℕ) → e ≡ valueEnd (cell t x 2) (cell t x 3) (cell t x 15) run (i + 1) → Passing run from all e
+            pub pass-leaf : c ≡ false → (e : ℕ) → e ≡ i + 1 + width (cell t x 2) (drop (i + 1) run) → Passing run from all e
             pass-leaf q e ee =
                 let k = asked .not′ (sym ec ∙ q) in
                 let d = end-is t pool so run i (w .stands) x ex n b eb y e ee in
@@ -187,7 +187,7 @@ module _ (t pool : List ℕ) where
                   late = omega (arith, w .late, d);
                 }
 
-            pub pass-less : (e : ℕ) → e ≡ valueEnd (cell t x 2) (cell t x 3) (cell t x 15) run (i + 1) → i < e
+            pub pass-less : (e : ℕ) → e ≡ i + 1 + width (cell t x 2) (drop (i + 1) run) → i < e
             pass-less e ee = omega (arith, end-is t pool so run i (w .stands) x ex n b eb y e ee)
 
 -- ---- the same of whatever content is held in the run, as the loop asks for it
@@ -224,9 +224,9 @@ module _ (t pool run : List ℕ) (from : ℕ) (pre : Held t pool run from) where
           pub stale-found : c ≡ true → Stale t pool run from i
           stale-found q n h = pass-found t pool (pre .sound) run from _ i (w n h) x ex nz b sorted y c tested q
 
-          module _ (q : c ≡ false) (m : ℕ) (em : m ≡ cell t x 3) (v : ℕ) (ev : v ≡ cell t x 15) (e : ℕ) (ee : e ≡ valueEnd k m v run (i + 1)) where
-            ends : e ≡ valueEnd (cell t x 2) (cell t x 3) (cell t x 15) run (i + 1)
-            ends = rw (sym ek, sym em, sym ev) ee
+          module _ (q : c ≡ false) (e : ℕ) (ee : e ≡ i + 1 + width k (drop (i + 1) run)) where
+            ends : e ≡ i + 1 + width (cell t x 2) (drop (i + 1) run)
+            ends = ee ∙ ap (λ (j : ℕ). i + 1 + width j (drop (i + 1) run)) ek
 
             pub stale-leaf : PassingOn t pool run from e
             stale-leaf n h = pass-leaf t pool (pre .sound) run from _ i (w n h) x ex nz b sorted y c tested q e ends

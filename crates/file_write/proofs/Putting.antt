@@ -1,4 +1,4 @@
--- Words and parts put one behind the other, and how many bytes they are at most. Assumes nothing.
+-- Words and parts put one after the other, and how many bytes they are at most. Assumes nothing.
 use mathlib.Core.Path.{_≡_}
 use mathlib.Core.List.{List, _++_}
 use Prim.Native.Nat.{ℕ, _+_, _≤_}
@@ -12,11 +12,11 @@ use Rattle.text.specs.Puts.{Puts}
 use Rattle.file_write.specs.mirror.Tags.{startIn}
 use Rattle.text.proofs.Puts.{puts-pasted, puts-then}
 
--- behind a word
+-- after a word
 pub behind-word : (d : List ℕ) (at : ℕ) (w : List ℕ) (n : ℕ) (d₁ v : List ℕ) (q : ℕ) (d₂ : List ℕ) → n ≡ length w → d₁ ≡ pasted d at w → Puts d₁ (at + n) v q d₂ → Puts d at (w ++ v) q d₂
 behind-word d at w n d₁ v q d₂ e f p = puts-then d at w (at + n) d₁ v q d₂ (puts-pasted d at w n d₁ e f) p
 
--- a word behind
+-- a word after
 pub before-word : (d : List ℕ) (at : ℕ) (v : List ℕ) (q : ℕ) (d₁ w : List ℕ) (n : ℕ) (d₂ : List ℕ) → Puts d at v q d₁ → n ≡ length w → d₂ ≡ pasted d₁ q w → Puts d at (v ++ w) (q + n) d₂
 before-word d at v q d₁ w n d₂ p e f = puts-then d at v q d₁ w (q + n) d₂ p (puts-pasted d₁ q w n d₂ e f)
 

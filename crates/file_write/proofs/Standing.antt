@@ -18,8 +18,8 @@ use Rattle.list.specs.Sound.{wordCount, Sound}
 use Rattle.list.proofs.rows.Rows.{size-is, parent-is, kind-is}
 use Rattle.value.specs.Value.{Value, IsValue, bytes as valued}
 use Rattle.value_from_bytes.specs.Stands.{taken}
-use Rattle.value_from_bytes.specs.mirror.Ends.{valueEnd}
-use Rattle.value_from_bytes.proofs.Meaning.{ends-one}
+use Rattle.value_from_bytes.specs.mirror.Ends.{width, valueEnd}
+use Rattle.value_from_bytes.proofs.Meaning.{end-is as width-is, ends-one}
 use Rattle.image.specs.Image.{Item, valueBytes, itemsBytes, body}
 use Rattle.image.specs.Kinds.{values}
 use Rattle.image.specs.Place.{Holds}
@@ -142,7 +142,7 @@ module _ (t pool : List ℕ) where
               let b = byte-there run i (j .0) _ (w .here ∙ ap (λ (is : List (Item values)). itemsBytes values l is ++ (0 ∷ w .rest)) e) in
               absurd (omega (arith, f .0 .0))
 
-      -- an item: its row, its value, and what stands behind its row byte
+      -- an item: its row, its value, and what stands after its row byte
       pub record Ahead (x : ℕ) : Type 0 where
         pub val : Option Value
         pub more : List (Item values)
@@ -231,11 +231,15 @@ module _ (t pool : List ℕ) where
             pub behind-value : drop (i + 1 + length (valued u)) run ≡ itemsBytes values l (h .more) ++ (0 ∷ w .rest)
             behind-value = sym (drop-drop (length (valued u)) (i + 1) run) ∙ ap (drop (length (valued u))) value-here ∙ drop-at (valued u) (itemsBytes values l (h .more) ++ (0 ∷ w .rest)) (length (valued u)) refl
 
-            module _ (e : ℕ) (ee : e ≡ valueEnd (cell t x 2) (cell t x 3) (cell t x 15) run (i + 1)) where
+            -- it ends where it would be judged to end
+            judged : i + 1 + length (valued u) ≡ valueEnd (cell t x 2) (cell t x 3) (cell t x 15) run (i + 1)
+            judged =
+                ends-one (cell t x 2) (cell t x 3) (cell t x 15) (wordsIn t pool x) f leaf-ok counted leaf-kind run (i + 1) (i + 1 + length (valued u))
+                (taken (record { value = u; is = leafed .is; here = value-here ∙ ap (λ (s : List ℕ). valued u ++ s) (sym behind-value); ends = refl }))
+
+            module _ (e : ℕ) (ee : e ≡ i + 1 + width (cell t x 2) (drop (i + 1) run)) where
               pub end-is : e ≡ i + 1 + length (valued u)
-              end-is =
-                  ee ∙ sym (ends-one (cell t x 2) (cell t x 3) (cell t x 15) (wordsIn t pool x) f leaf-ok counted leaf-kind run (i + 1) (i + 1 + length (valued u))
-                  (taken (record { value = u; is = leafed .is; here = value-here ∙ ap (λ (s : List ℕ). valued u ++ s) (sym behind-value); ends = refl })))
+              end-is = ee ∙ sym (width-is (cell t x 2) (cell t x 3) (cell t x 15) run (i + 1) (omega (arith, judged)) .1) ∙ sym judged
 
               abbrev pub leaf-after : Standing run e
               leaf-after = record { left = h .more; rest = w .rest; here = ap (λ (r : ℕ). drop r run) end-is ∙ behind-value; fine = h .fines }

@@ -21,7 +21,7 @@ use Rattle.image.specs.Place.{Holds}
 use Rattle.image_reading.specs.declared.front.Reading.{Reading}
 use Rattle.image_reading.specs.Reads.{HouseAccepts}
 use Rattle.image_reading.specs.Forms.{Begun, refuses, accepts}
-use Rattle.image_reading.proofs.House.{only, Says, begun-reads}
+use Rattle.image_reading.proofs.House.{Says, begun-reads}
 use Rattle.file_letter.specs.Letter.{letterOf}
 use Rattle.file_letter.specs.Writes.{letterIn, large, short, delivered, Writes, unread, finer, begun}
 use Rattle.file_letter.specs.Stale.{NoneOf, FirstAt, Finer}
@@ -42,13 +42,15 @@ module _ (run : List ℕ) (x : Reading) (b : Begun run x) where
     lim : length run ≤ limit
     long : ℕ
     image : HouseAccepts run long
+    kind : x .kind ≡ image .list .byte
     from : x .from ≡ length (image .head)
 
   opening : Begun run x → x .answer .code ≡ 0 → Opening
   opening (refuses h n f g) z = absurd (n z)
-  opening (accepts lim n w e f g) z = record { lim = lim; long = n; image = w; from = g }
+  opening (accepts lim n w e f g) z = record { lim = lim; long = n; image = w; kind = f; from = g }
 
-  module _ (z : x .answer .code ≡ 0) (t : List ℕ) (y : Says t) (p : List ℕ) (ep : p ≡ housePool) where
+  -- over the table of its list
+  module _ (z : x .answer .code ≡ 0) (t : List ℕ) (y : Says t (x .kind)) (p : List ℕ) (ep : p ≡ housePool) where
     o : Opening
     o = opening b z
 
@@ -57,7 +59,7 @@ module _ (run : List ℕ) (x : Reading) (b : Begun run x) where
 
     same-list : o .image .list ≡ l
     unfolding l
-    same-list = only (o .image .list) (o .image .among) ∙ sym (y .is)
+    same-list = sym (y .is (o .image .list) (o .image .among) (o .kind))
 
     c : Content Value
     c = o .image .holds .content

@@ -7,17 +7,35 @@ use crate::put::put_root;
 use file_walk::tag::is_group;
 use list::lookup::cell;
 use list::table::KIND;
-use list::table::MOST;
 use list::table::PARENT;
-use list::table::WORD_COUNT;
-use value_from_bytes::kinds::value_end;
+use text::number::get16;
 ghost use mathlib.Core.Path.{_≡_};
+ghost use Prim.Native.Nat.{_+_, _≤_};
+ghost use lib.ListN.{drop};
+ghost use Rattle.value_from_bytes.specs.mirror.Ends.{width};
 ghost use Rattle.file_write.specs.mirror.Emit.{Held, Emits};
 
 pub(crate) fn wide(x: u8) -> usize
     ensures { λ r. ⌜ r ≡ x ⌝ }
 {
     x as usize
+}
+
+// The place after a value of a kind that stands in the run from i on. It was judged when the run was read, so that its length is all that is
+// asked.
+pub(crate) fn after(kind: usize, run: &[u8], i: usize) -> usize
+    requires { ⌜ i ≤ 1048576 ⌝ }
+    ensures { λ r. ⌜ r ≡ i + width kind (drop i (now (run .entry))) ⌝ }
+{
+    match kind {
+        2..=5 => i + 2 + (get16(run, i) as usize),
+        6..=7 => i + 1,
+        8 => i + 8,
+        9 => i + 12,
+        10 => i + 4,
+        11 => i + 13,
+        _ => i,
+    }
 }
 
 // From the root's row byte on, into a buffer that may be too short: the file's length. No sum overflows: an item tells at most 3,000,000
@@ -50,13 +68,7 @@ pub(crate) fn emit(
         } else {
             at = put_leaf(rows, pool, run, x, i + 1, out, shut);
             g = around;
-            i = value_end(
-                kind,
-                cell(rows, x, MOST),
-                cell(rows, x, WORD_COUNT),
-                run,
-                i + 1,
-            );
+            i = after(kind, run, i + 1);
         }
     }
 }

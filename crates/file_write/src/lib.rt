@@ -4,8 +4,8 @@ use emit::emit;
 use emit::wide;
 use image_reading::first::reading;
 use list::lay::lay;
+use list_house::by_byte::rows_of;
 use list_house::tables::pool;
-use list_house::tables::rows;
 use stale::first_stale;
 ghost use Rattle.file_letter.specs.Writes.{Writes};
 
@@ -23,7 +23,7 @@ pub fn write(run: &[u8], out: &mut [u8]) -> Answer
     if read.answer.code != Answer::ACCEPTED {
         return read.answer;
     }
-    let rows = rows();
+    let rows = rows_of(read.kind);
     let mut table = [0u16; 4096];
     lay(&rows, &mut table);
     let pool = pool();

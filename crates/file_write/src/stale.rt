@@ -1,13 +1,11 @@
 // What an image may hold and a file may not say any more: the first such item.
+use crate::emit::after;
 use crate::emit::wide;
 use file_walk::tag::is_group;
 use list::lookup::cell;
 use list::table::DTM;
 use list::table::KIND;
-use list::table::MOST;
-use list::table::WORD_COUNT;
 use text::number::get32;
-use value_from_bytes::kinds::value_end;
 ghost use mathlib.Core.Path.{_≡_};
 ghost use Prim.Native.Nat.{_≤_};
 ghost use lib.ListN.{drop};
@@ -43,13 +41,7 @@ pub(crate) fn first_stale(rows: &[u16; 4096], pool: &[u8], run: &[u8], from: usi
             if is_finer(kind, run, i + 1) {
                 return i;
             }
-            i = value_end(
-                kind,
-                cell(rows, x, MOST),
-                cell(rows, x, WORD_COUNT),
-                run,
-                i + 1,
-            );
+            i = after(kind, run, i + 1);
         }
     }
 }

@@ -1,9 +1,11 @@
 // Writes the value of each raw text of its input, a line for each: `refused`, or the value's bytes as an image has them, in lower-case
 // hexadecimal. A case is a kind, its parameter, two 16-bit big-endian lengths, and so many bytes of a currency and of a text; the
-// parameter is TXTk's k, and picks the words of an ENUM. The answers that it is held to were computed by another program.
+// parameter is TXTk's k, and picks the words of an ENUM, those of a report after those of a statement. The answers that it is held to were computed by another program.
 use libc::STDIN_FILENO;
 use libc::STDOUT_FILENO;
 use list::word::word_place;
+use list_house::by_byte::REPORT;
+use list_house::by_byte::rows_of;
 use text::number::get16;
 use value_to_bytes::write::write;
 ghost use Prim.Native.Nat.{_<_};
@@ -47,10 +49,18 @@ fn write_answer(bytes: &[u8], n: usize) {
     io::write_all(STDOUT_FILENO, b"\n");
 }
 
-// A row of the house list that has the words.
+// The kind byte of the list whose words a parameter picks.
+fn words_list(parameter: u8) -> usize {
+    match parameter {
+        0..=2 => 1,
+        _ => REPORT,
+    }
+}
+
+// A row of that list that has the words.
 fn words_row(parameter: u8) -> usize {
     match parameter {
-        0 => 18,
+        0 | 3 => 18,
         1 => 20,
         _ => 28,
     }
@@ -66,7 +76,7 @@ fn low(n: usize) -> u8 {
 
 // The place of a word, which is its value.
 fn judge_word(parameter: u8, cases: &[u8], start: usize, end: usize) {
-    let rows = list_house::tables::rows();
+    let rows = rows_of(words_list(parameter));
     let pool = list_house::tables::pool();
     let n = word_place(&rows, &pool, words_row(parameter), cases, start, end);
     let byte = [low(n)];

@@ -118,7 +118,7 @@ module _ (t pool : List ℕ) (so : Sound t pool) (s : List ℕ) where
             h ∙ o .ends ∙ ap (λ (y : Kind). i + length (valueBytes values l y (some (o .value)))) (sym k),
           )
 
-  -- a group's item ends behind its row byte, a leaf's behind its value
+  -- a group's item ends after its row byte, a leaf's after its value
   item-ends : (x i : ℕ) → 0 < x → x ≤ size l → (isGroup (rowAt l x .kind) ≡ true → itemEnd t s x i ≡ i) × ((f : Leaf) → rowAt l x .kind ≡ leaf f → Ends f s i (itemEnd t s x i))
   item-ends x i a b = go (sort x i a b)
     where

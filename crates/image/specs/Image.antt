@@ -29,9 +29,9 @@ pub record Lawful (vs : Values) : Type 0 where
 abbrev pub versioned : ℕ → List ℕ
 versioned n = ascii "KTO" ++ bigEndian 2 n
 
--- how an image of a content of the list begins: "`KTO`, version 1 in 16 bits"
+-- how an image of a content of the list begins: "New images are version 2: after the version comes a kind byte"
 unfoldable pub header : Listing → List ℕ
-header l = versioned 1
+header l = versioned 2 ++ (l .byte ∷ [])
 
 module _ (vs : Values) where
   -- an element: its row and, of a leaf, its value
@@ -57,7 +57,7 @@ module _ (vs : Values) where
     abbrev pub body : Content (vs .Value) → List ℕ
     body c = itemsBytes (items c) ++ (0 ∷ [])
 
-    -- "Image: `KTO`, version 1 in 16 bits, one item per element in document order, one byte 0"
+    -- "Image: `KTO`, version .. in 16 bits", the kind byte, "one item per element in document order, one byte 0"
     unfoldable pub image : Content (vs .Value) → List ℕ
     image c = header l ++ body c
 

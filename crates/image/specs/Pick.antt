@@ -15,7 +15,7 @@ use Rattle.list.specs.Content.{Content, items}
 use Rattle.image.specs.Image.{Values, Item, itemsBytes}
 use Rattle.image.specs.Place.{Accepts, Reads}
 
--- "that part of the lent image itself": s lies p bytes behind the start of the run, in the same memory (a pointer is a block and an offset)
+-- "that part of the lent image itself": s lies p bytes after the start of the run, in the same memory (a pointer is a block and an offset)
 abbrev pub Lies : RefT (List ℕ) → ℕ → RefT (List ℕ) → Type 0
 Lies run p s = (ptr s .0 ≡ ptr run .0) × (ptr s .1 ≡ ptr run .1 + p)
 

@@ -12,7 +12,7 @@ use Rattle.list.specs.Content.{Content, items, Meets}
 pub use Rattle.list.specs.Within.{Among}
 use Rattle.image.specs.Image.{Values, Item, versioned, header, itemsBytes, body}
 
--- ---- behind the header: items and the closing 0
+-- ---- after the header: items and the closing 0
 
 module _ (vs : Values) (l : Listing) where
   -- s begins with the body, n bytes long, of a content that meets the list
@@ -53,7 +53,10 @@ module _ (vs : Values) (l : Listing) where
 
 -- an image of a content of the list begins with h
 pub data Front (l : Listing) (h : List ℕ) : Type 0 where
+  -- "New images are version 2: after the version comes a kind byte, 1 for camt.053, 2 for camt.052"
   current : h ≡ header l → Front l h
+  -- "The reader takes versions 1 and 2": in version 1 there are statements alone
+  earlier : l .byte ≡ 1 → h ≡ versioned 1 → Front l h
 
 -- what one run begins with is of one list, and ends at one place
 pub record Apart (ls : List Listing) : Type 0 where
@@ -78,9 +81,12 @@ module _ (vs : Values) (ls : List Listing) where
     over : limit < length run → a ≡ tooLong → Reads run a
     -- "15 fewer than five bytes or no `KTO`, place 0"
     foreign : length run ≤ limit → (length run < 5) ⊎ (take 3 run ≢ ascii "KTO") → a ≡ noHeader → Reads run a
-    -- "16 version not 1, place 3"
-    version : length run ≤ limit → 5 ≤ length run → take 3 run ≡ ascii "KTO" → take 5 run ≢ versioned 1 → a ≡ wrongVersion → Reads run a
-    -- "17 no image of a rule-meeting content begins here, place 5 plus the bytes of the most whole items that begin some image"
+    -- "16 now means version neither 1 nor 2", place 3
+    version : length run ≤ limit → 5 ≤ length run → take 3 run ≡ ascii "KTO" → take 5 run ≢ versioned 1 → take 5 run ≢ versioned 2 → a ≡ wrongVersion → Reads run a
+    -- "a missing or bad kind byte is 17, place 5"
+    kindless : length run ≤ limit → take 5 run ≡ versioned 2 → ((l : Listing) → Among l ls → take 6 run ≢ header l) → a ≡ brokenImage 5 → Reads run a
+    -- "17 no image of a rule-meeting content begins here, place 5 plus the bytes of the most whole items that begin some image";
+    -- "item places in version 2 count from 6"
     broken : length run ≤ limit → (l : Listing) → Among l ls → (h : List ℕ) → Front l h → (s : List ℕ) → run ≡ h ++ s → (n : ℕ) → Breaks vs l s n → a ≡ brokenImage (length h + n) → Reads run a
     -- "it gives the length of the first image"
     wholeImage : length run ≤ limit → (n : ℕ) → Accepts run n → a ≡ accepted n → Reads run a

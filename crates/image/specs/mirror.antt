@@ -1,5 +1,5 @@
 -- Of `image`: mirrors, which say how the code goes.
--- a mirror: which row may come directly behind which
+-- a mirror: which row may come directly after which
 pub mod Follow
 -- a mirror: the same as the code finds it in the tables
 pub mod Step

@@ -1,4 +1,4 @@
-// Which row may come directly behind which. The row of the last item is all that is remembered: siblings come in row order and the
+// Which row may come directly after which. The row of the last item is all that is remembered: siblings come in row order and the
 // open groups are the last item's ancestors, so that each level's last child so far is the ancestor on it.
 use list::lookup::cell;
 use list::table::COUNT;
@@ -34,7 +34,7 @@ fn again(rows: &[u16], r: usize) -> bool
     count <= 3
 }
 
-// The lowest sibling due behind q, 0 where none is. A rule's two rows are neighbours, so its second row comes before any required one.
+// The lowest sibling due after q, 0 where none is. A rule's two rows are neighbours, so its second row comes before any required one.
 fn owed(rows: &[u16], q: usize) -> usize
     ensures { λ n. ⌜ n ≡ owed (now (rows .entry)) q ⌝ }
 {
@@ -75,7 +75,7 @@ fn in_order(rows: &[u16], q: usize, x: usize) -> bool
     q < x
 }
 
-// Whether x may stand behind q, the last child so far of their parent p.
+// Whether x may stand after q, the last child so far of their parent p.
 fn beside(rows: &[u16], p: usize, q: usize, x: usize) -> bool
     ensures { λ b. ⌜ b ≡ beside (now (rows .entry)) p q x ⌝ }
 {
@@ -103,7 +103,7 @@ fn inside(rows: &[u16], q: usize, x: usize) -> bool
     false
 }
 
-// Whether x may come when q is over: beside q, or, where nothing is due behind q, when its parent is over.
+// Whether x may come when q is over: beside q, or, where nothing is due after q, when its parent is over.
 fn climbs(rows: &[u16], from: usize, x: usize) -> bool
     ensures { λ b. ⌜ b ≡ climbs (now (rows .entry)) 16 from x ⌝ }
 {
@@ -127,7 +127,7 @@ fn climbs(rows: &[u16], from: usize, x: usize) -> bool
     false
 }
 
-// Whether x may come directly behind q.
+// Whether x may come directly after q.
 pub(crate) fn follows(rows: &[u16], q: usize, x: usize) -> bool
     ensures { λ b. ⌜ b ≡ follows (now (rows .entry)) q x ⌝ }
 {
@@ -143,7 +143,7 @@ pub(crate) fn follows(rows: &[u16], q: usize, x: usize) -> bool
     inside(rows, q, x)
 }
 
-// Whether nothing is due behind q and each row above it.
+// Whether nothing is due after q and each row above it.
 fn rests(rows: &[u16], from: usize) -> bool
     ensures { λ b. ⌜ b ≡ rests (now (rows .entry)) 16 from ⌝ }
 {
@@ -162,7 +162,7 @@ fn rests(rows: &[u16], from: usize) -> bool
     false
 }
 
-// Whether an image may end behind q.
+// Whether an image may end after q.
 pub(crate) fn ended(rows: &[u16], q: usize) -> bool
     ensures { λ b. ⌜ b ≡ ended (now (rows .entry)) q ⌝ }
 {

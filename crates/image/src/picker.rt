@@ -21,7 +21,7 @@ pub fn head(rows: &[u16], r: usize) -> usize
     0
 }
 
-// Where the value of the n-th leaf of `row` stands, behind its row byte; 0 where there is none.
+// Where the value of the n-th leaf of `row` stands, after its row byte; 0 where there is none.
 fn find(rows: &[u16; 4096], run: &[u8], from: usize, row: usize, n: usize) -> usize
     ensures { λ p. ⌜ Finds (now (rows .entry)) (itemEnd (now (rows .entry)) (now (run .entry))) (now (run .entry)) from row n p ⌝ }
 {

@@ -36,7 +36,7 @@ pub fn item_end(rows: &[u16], run: &[u8], x: usize, at: usize) -> usize
     at
 }
 
-// From behind the root's row byte on. Most items are groups, so that only a leaf's costs a call.
+// From after the root's row byte on. Most items are groups, so that only a leaf's costs a call.
 fn items(rows: &[u16], run: &[u8], from: usize) -> Answer
     ensures { λ a. ⌜ Goes (now (rows .entry)) (itemEnd (now (rows .entry)) (now (run .entry))) (now (run .entry)) a 1 from ⌝ }
 {

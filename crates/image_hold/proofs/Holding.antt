@@ -11,19 +11,16 @@ use denote.Ref.{RefT, ptr, now}
 use Rattle.text.specs.Lists.{Each}
 use Rattle.answer.specs.declared.Answer.{Answer}
 use Rattle.answer.specs.Table.{limit, accepted, noHeader}
-use Rattle.list_house.specs.Lists.{kept}
-use Rattle.list.specs.Content.{Content, Meets}
-use Rattle.value.specs.Value.{Value, IsValue}
-use Rattle.image.specs.Image.{image, images}
 use Rattle.image.specs.Kinds.{values}
 use Rattle.image.specs.Place.{foreign, wholeImage}
 use Rattle.image.specs.Pick.{Lies, refused}
 use Rattle.image_hold.specs.Held.{left, Moves, Steps, HeldPicked, Next, Calls, rested, called}
 use Rattle.image_hold.specs.declared.held.Held.{Held}
 use Rattle.image_hold.specs.declared.held.Step.{Step}
-use Rattle.image.proofs.answers.One.{accepting, accepts-in, image-begins}
+use Rattle.image.proofs.answers.One.{accepting, accepts-in}
 use Rattle.image_reading.specs.Reads.{stored, HouseAccepts, HouseReads, HouseAnswers, HousePicked}
 use Rattle.image_reading.proofs.House.{house-reads-one, house-reads-some, house-answers-one}
+use Rattle.image_hold.proofs.Division.{IsImage, joined, begins-with}
 
 -- ---- one step
 
@@ -80,36 +77,35 @@ next-past h a p past x = next-end h a p (drop-of-length-le (now (h .run)) past) 
 -- ---- dividing a run
 
 -- where an image stands, it is accepted, and what stands after it is left
-pub next-takes : (h : Held) (a : Answer) (p : Held) (c : Content Value) (u : List ℕ) → Meets IsValue kept c → length (left h) ≤ limit → left h ≡ image values kept c ++ u → Next h a p
-    → (a ≡ accepted (length (image values kept c))) × (left p ≡ u)
-next-takes h a p c u m short at x =
-    let e : a ≡ accepted (length (image values kept c)) = house-reads-one (left h) a (accepted (length (image values kept c))) (x .reads) (wholeImage short (length (image values kept c)) (subst (λ (s : List ℕ). HouseAccepts s (length (image values kept c))) (sym at) (image-begins values stored kept (inl refl) c m u)) refl) in
-    let f : p .at ≡ h .at + length (image values kept c) = x .moves .on (ap (λ (y : Answer). y .code) e) ∙ ap (λ (y : Answer). h .at + y .place) e in
+pub next-takes : (h : Held) (a : Answer) (p : Held) (s u : List ℕ) → IsImage s → length (left h) ≤ limit → left h ≡ s ++ u → Next h a p → (a ≡ accepted (length s)) × (left p ≡ u)
+next-takes h a p s u w short at x =
+    let e : a ≡ accepted (length s) = house-reads-one (left h) a (accepted (length s)) (x .reads) (wholeImage short (length s) (subst (λ (z : List ℕ). HouseAccepts z (length s)) (sym at) (begins-with s u w)) refl) in
+    let f : p .at ≡ h .at + length s = x .moves .on (ap (λ (y : Answer). y .code) e) ∙ ap (λ (y : Answer). h .at + y .place) e in
     (e, behind f)
   where
-    behind : p .at ≡ h .at + length (image values kept c) → left p ≡ u
+    behind : p .at ≡ h .at + length s → left p ≡ u
     behind f =
         ap (λ (r : List ℕ). drop (p .at) r) (ap now (x .holds))
         ∙ ap (λ (k : ℕ). drop k (now (h .run))) f
-        ∙ sym (drop-drop (length (image values kept c)) (h .at) (now (h .run)))
-        ∙ ap (drop (length (image values kept c))) at
-        ∙ drop-at (image values kept c) u (length (image values kept c)) refl
+        ∙ sym (drop-drop (length s) (h .at) (now (h .run)))
+        ∙ ap (drop (length s)) at
+        ∙ drop-at s u (length s) refl
 
 -- what reading images laid end to end answers
-abbrev pub lengths : List (Content Value) → List Answer
+abbrev pub lengths : List (List ℕ) → List Answer
 lengths [] = []
-lengths (c ∷ cs) = accepted (length (image values kept c)) ∷ lengths cs
+lengths (s ∷ ss) = accepted (length s) ∷ lengths ss
 
--- and as many calls as there are images accept each of them, and stand after the last
-pub divides : (cs : List (Content Value)) (u : List ℕ) {h p : Held} {answers : List Answer} → Each (Meets IsValue kept) cs → length (left h) ≤ limit → left h ≡ images values kept cs ++ u → length answers ≡ length cs → Calls h answers p
-    → (answers ≡ lengths cs) × (left p ≡ u)
-divides [] u m short at n rested = (refl, at)
-divides [] u m short at n (called x y) = absurd (omega arith)
-divides (c ∷ cs) u m short at n rested = absurd (omega arith)
-divides (c ∷ cs) u {h} m short at n (called {p = p} {a = a} x y) =
-    let at′ : left h ≡ image values kept c ++ (images values kept cs ++ u) = at ∙ append-assoc (image values kept c) (images values kept cs) u in
-    let t = next-takes h a p c (images values kept cs ++ u) (m .0) short at′ x in
-    let r = divides cs u (m .1) (omega (arith, ap length at′, ap length (t .1), length-append (image values kept c) (images values kept cs ++ u))) (t .1) (omega arith) y in
+-- and as many calls as there are images accept each of them, of whatever version and kind, and stand after the last
+pub divides : (ss : List (List ℕ)) (u : List ℕ) {h p : Held} {answers : List Answer} → Each IsImage ss → length (left h) ≤ limit → left h ≡ joined ss ++ u → length answers ≡ length ss → Calls h answers p
+    → (answers ≡ lengths ss) × (left p ≡ u)
+divides [] u w short at n rested = (refl, at)
+divides [] u w short at n (called x y) = absurd (omega arith)
+divides (s ∷ ss) u w short at n rested = absurd (omega arith)
+divides (s ∷ ss) u {h} w short at n (called {p = p} {a = a} x y) =
+    let at′ : left h ≡ s ++ (joined ss ++ u) = at ∙ append-assoc s (joined ss) u in
+    let t = next-takes h a p s (joined ss ++ u) (w .0) short at′ x in
+    let r = divides ss u (w .1) (omega (arith, ap length at′, ap length (t .1), length-append s (joined ss ++ u))) (t .1) (omega arith) y in
     (ap₂ _∷_ (t .0) (r .0), r .1)
 
 -- ---- a part picked from the rest of a run lies in the run

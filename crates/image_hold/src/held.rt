@@ -1,6 +1,6 @@
-// A reader that holds a run and its place, over the house list. It answers as `read`, `pick` and `picked` do on the rest of the run, with places
-// counted from the start of that rest. Reading moves on by the image's length when it accepts, and stays when it refuses; picking stays. So a run
-// of images laid end to end is divided by
+// A reader that holds a run and its place, over the lists of stored images. It answers as `read`, `pick` and `picked` do on the rest of the
+// run, with places counted from the start of that rest. Reading moves on by the image's length when it accepts, and stays when it refuses;
+// picking stays. So a run of images laid end to end, of whatever versions and kinds, is divided by
 //
 //     let mut h = hold(run);
 //     let mut a = next(&mut h);

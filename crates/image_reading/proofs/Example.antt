@@ -1,5 +1,5 @@
--- On document 01's image the reader and the picker answer as docs/IMAGE.md says. Assumes nothing.
-use mathlib.Core.Path.{_≡_, refl, _∙_, ap}
+-- On document 01's image, as it was printed and as it is written now, the reader and the picker answer as docs/IMAGE.md says. Assumes nothing.
+use mathlib.Core.Path.{_≡_, refl, sym, _∙_, ap}
 use mathlib.Core.Bool.{true}
 use mathlib.Core.List.{List, [], _∷_}
 use mathlib.Core.Option.{Option, none, some}
@@ -12,26 +12,26 @@ use Rattle.answer.specs.Table.{accepted, brokenImage, picked}
 use Rattle.text.specs.Bytes.{ascii, isCapital}
 use Rattle.text.specs.Numbers.{bigEndian, numberFrom}
 use Rattle.text_characters.specs.mirror.Decoding.{decoded}
-use Rattle.list.specs.Table.{cell}
-use Rattle.list_house.specs.House.{house}
-use Rattle.list_house.specs.mirror.HouseTable.{houseRows}
-use Rattle.list_house.proofs.HouseSound.{house-is, house-sound}
+use Rattle.list.specs.Table.{cell, listOf}
+use Rattle.list_house.specs.mirror.HouseTable.{houseRows, housePool}
+use Rattle.list_house.specs.mirror.Rows.{askedRows}
+use Rattle.list_house.proofs.HouseSound.{house-sound}
+use Rattle.list_house.proofs.Lists.{asked-is}
 use Rattle.value.specs.Text.{isRef, isTxt}
 use Rattle.value_from_bytes.specs.mirror.Tests.{isByte, every, some as any, apart as slashes}
 use Rattle.value_from_bytes.specs.mirror.Chars.{charsFrom}
 use Rattle.value_from_bytes.specs.mirror.Judges.{isReference, textFrom, isWriting, isCurrency, isPlace, isAmount, isReal, isDay, isMoment}
 use Rattle.value_from_bytes.specs.mirror.Ends.{head, width, isValue, begins, valueEnd}
-use Rattle.image.specs.Image.{header}
 use Rattle.image.specs.mirror.Step.{isLeaf, again, owed, before, mated, inOrder, beside, inside, climbs, follows, rests, ended}
 use Rattle.image.specs.mirror.Ends.{itemEnd}
 use Rattle.image.specs.mirror.Run.{Turn, stop, next, Comes, halts, moves, headOf, turn, Behind, rooted, hunt, leaves, found}
-use Rattle.image.specs.Example.{printed}
-use Rattle.image.proofs.answers.Heads.{header-is}
+use Rattle.image.specs.Example.{printedBody, printed, written}
 use Rattle.image_reading.specs.Reads.{HouseReads, HousePicks}
 use Rattle.image_reading.specs.Forms.{Begun}
-use Rattle.image_reading.specs.mirror.Front.{Fronts}
+use Rattle.image_reading.specs.mirror.Front.{versionOf, Starts, Fronts}
 use Rattle.image_reading.specs.declared.front.Reading.{Reading}
-use Rattle.image_reading.proofs.House.{Says, front-first, begins as reading-begins, begins-not, begun-reads, begun-picks}
+use Rattle.image_reading.proofs.Heads.{good-kind}
+use Rattle.image_reading.proofs.House.{Says, starts-former, starts-current, front-starts, begins-with, begins-not, begun-reads, begun-picks}
 
 -- at most k turns, computed
 abbrev on : {A : Type 0} → (ℕ → ℕ → Option A) → Turn A → Option A
@@ -52,71 +52,124 @@ turns-come {A} f (suc k) q i a e = go (f q i) refl e (λ x j. turns-come f k x j
     go (stop b) d e h = let z : b ≡ a = cc in halts (d ∙ ap stop z)
     go (next x j) d e h = moves x j d (h x j e)
 
--- the reader over the example, and over all of it but its last byte
-abbrev Read : List ℕ → Answer → Type 0
-Read s a = turns (turn houseRows (itemEnd houseRows s) s) 30 1 6 ≡ some a
+-- the reader over the example, and over all of it but its last byte: from after the root's item
+abbrev Read : List ℕ → ℕ → Answer → Type 0
+Read s i a = turns (turn houseRows (itemEnd houseRows s) s) 30 1 i ≡ some a
 
-example-turns : Read printed (accepted 67) × Read (take 66 printed) (brokenImage 66)
-unfolding printed turn hunt headOf follows ended isLeaf again owed before mated inOrder beside inside climbs rests cell houseRows itemEnd valueEnd begins isValue width head isReference textFrom isWriting isCurrency isPlace isAmount isReal isDay isMoment charsFrom isByte every any slashes turns numberFrom isRef isTxt decoded isCapital
-example-turns = (refl, refl)
+printed-turns : Read printed 6 (accepted 67) × Read (take 66 printed) 6 (brokenImage 66)
+unfolding printedBody printed turn hunt headOf follows ended isLeaf again owed before mated inOrder beside inside climbs rests cell houseRows itemEnd valueEnd begins isValue width head isReference textFrom isWriting isCurrency isPlace isAmount isReal isDay isMoment charsFrom isByte every any slashes turns numberFrom isRef isTxt decoded isCapital
+printed-turns = (refl, refl)
 
--- the picker: where the value of the n-th leaf of row r stands, and its part
-record Found (r n p : ℕ) (a : Answer) (part : List ℕ) : Type 0 where
+written-turns : Read written 7 (accepted 68) × Read (take 67 written) 7 (brokenImage 67)
+unfolding printedBody written turn hunt headOf follows ended isLeaf again owed before mated inOrder beside inside climbs rests cell houseRows itemEnd valueEnd begins isValue width head isReference textFrom isWriting isCurrency isPlace isAmount isReal isDay isMoment charsFrom isByte every any slashes turns numberFrom isRef isTxt decoded isCapital
+written-turns = (refl, refl)
+
+-- the picker, over items from a place on: where the value of the n-th leaf of row r stands, and its part
+record Found (s : List ℕ) (from r n p : ℕ) (a : Answer) (part : List ℕ) : Type 0 where
   leafy : isLeaf houseRows r ≡ true
-  hunts : turns (hunt houseRows (itemEnd houseRows printed) printed r) 30 n 5 ≡ some p
+  hunts : turns (hunt houseRows (itemEnd houseRows s) s r) 30 n from ≡ some p
   some′ : 0 < p
   says : a ≡ picked r (p + headOf houseRows r)
-  holds : part ≡ slice (p + headOf houseRows r) (itemEnd houseRows printed r p) printed
+  holds : part ≡ slice (p + headOf houseRows r) (itemEnd houseRows s r p) s
 
-example-found : Found 4 0 9 (picked 4 11) (0x4D ∷ 0x31 ∷ [])
-    × Found 19 0 46 (picked 19 46) (0x45 ∷ 0x55 ∷ 0x52 ∷ 0x00 ∷ 0x00 ∷ 0x00 ∷ 0x00 ∷ 0x00 ∷ 0x00 ∷ 0x00 ∷ 0x00 ∷ 0x05 ∷ [])
-unfolding printed turn hunt headOf follows ended isLeaf again owed before mated inOrder beside inside climbs rests cell houseRows itemEnd valueEnd begins isValue width head isReference textFrom isWriting isCurrency isPlace isAmount isReal isDay isMoment charsFrom isByte every any slashes turns numberFrom isRef isTxt decoded isCapital
-example-found = (
+-- MsgId's two bytes, the balance's amount
+abbrev identified : List ℕ
+identified = 0x4D ∷ 0x31 ∷ []
+
+abbrev balance : List ℕ
+balance = 0x45 ∷ 0x55 ∷ 0x52 ∷ 0x00 ∷ 0x00 ∷ 0x00 ∷ 0x00 ∷ 0x00 ∷ 0x00 ∷ 0x00 ∷ 0x00 ∷ 0x05 ∷ []
+
+printed-found : Found printed 5 4 0 9 (picked 4 11) identified × Found printed 5 19 0 46 (picked 19 46) balance
+unfolding printedBody printed turn hunt headOf follows ended isLeaf again owed before mated inOrder beside inside climbs rests cell houseRows itemEnd valueEnd begins isValue width head isReference textFrom isWriting isCurrency isPlace isAmount isReal isDay isMoment charsFrom isByte every any slashes turns numberFrom isRef isTxt decoded isCapital
+printed-found = (
   record { leafy = refl; hunts = refl; some′ = omega arith; says = refl; holds = refl },
   record { leafy = refl; hunts = refl; some′ = omega arith; says = refl; holds = refl },
 )
 
--- its first bytes
-record Headed (s : List ℕ) (n : ℕ) : Type 0 where
+written-found : Found written 6 4 0 10 (picked 4 12) identified × Found written 6 19 0 47 (picked 19 47) balance
+unfolding printedBody written turn hunt headOf follows ended isLeaf again owed before mated inOrder beside inside climbs rests cell houseRows itemEnd valueEnd begins isValue width head isReference textFrom isWriting isCurrency isPlace isAmount isReal isDay isMoment charsFrom isByte every any slashes turns numberFrom isRef isTxt decoded isCapital
+written-found = (
+  record { leafy = refl; hunts = refl; some′ = omega arith; says = refl; holds = refl },
+  record { leafy = refl; hunts = refl; some′ = omega arith; says = refl; holds = refl },
+)
+
+-- how it begins: n bytes, of version v, and an item of the root at a place
+record Shaped (s : List ℕ) (n v from : ℕ) : Type 0 where
   long : length s ≡ n
   named : take 3 s ≡ ascii "KTO"
-  header′ : take 5 s ≡ header house
-  root : getD s 5 0 ≡ 1
+  versioned : versionOf s ≡ v
+  root : getD s from 0 ≡ 1
 
-example-headed : Headed printed 67 × Headed (take 66 printed) 66
-unfolding printed header bigEndian
-example-headed = (record { long = refl; named = refl; header′ = refl; root = refl }, record { long = refl; named = refl; header′ = refl; root = refl })
+printed-shaped : Shaped printed 67 1 5 × Shaped (take 66 printed) 66 1 5
+unfolding printedBody printed
+printed-shaped = (record { long = refl; named = refl; versioned = refl; root = refl }, record { long = refl; named = refl; versioned = refl; root = refl })
 
-says : Says houseRows
-says = record { sound = house-sound; is = house-is }
+written-shaped : Shaped written 68 2 6 × Shaped (take 67 written) 67 2 6
+unfolding printedBody written
+written-shaped = (record { long = refl; named = refl; versioned = refl; root = refl }, record { long = refl; named = refl; versioned = refl; root = refl })
 
-fronted : (s : List ℕ) (n : ℕ) → Headed s n → 5 < n → n ≤ 67 → Fronts s (record { answer = accepted 5; form = 1; from = 5 })
-fronted s n h l u = front-first s (accepted 5) (omega (arith, h .long)) (omega (arith, h .long), h .named) (h .header′ ∙ header-is house)
+written-kind : (getD written 5 0 ≡ 1) × (getD (take 67 written) 5 0 ≡ 1)
+unfolding printedBody written
+written-kind = (refl, refl)
 
-ran : (s : List ℕ) (n : ℕ) (a : Answer) → Headed s n → 5 < n → Read s a → Behind houseRows (itemEnd houseRows s) s 5 a
-ran s n a h l e = rooted (omega (arith, h .long)) (h .root) (turns-come (turn houseRows (itemEnd houseRows s) s) 30 1 6 a e)
+says : Says houseRows 1
+says = record { sound = house-sound; is = λ l i b. ap (λ (k : ℕ). listOf (askedRows k) housePool) b ∙ asked-is l i }
 
-example-runs : Begun printed (record { answer = accepted 67; form = 1; from = 5 })
-example-runs = reading-begins printed (record { answer = accepted 5; form = 1; from = 5 }) (fronted printed 67 (example-headed .0) (omega arith) (omega arith)) (λ z. omega arith) houseRows says (accepted 67) (ran printed 67 (accepted 67) (example-headed .0) (omega arith) (example-turns .0)) refl
+abbrev begun : ℕ → ℕ → Reading
+begun n from = record { answer = accepted n; kind = 1; from = from }
 
--- 67 bytes are read; one less is no image, and all its items begin one
+fronted-former : (s : List ℕ) (n : ℕ) → Shaped s n 1 5 → 5 < n → n ≤ 67 → Fronts s (begun 5 5)
+fronted-former s n h l u = front-starts s (begun 5 5) (omega (arith, h .long)) (starts-former s (begun 5 5) (omega (arith, h .long), h .named) (h .versioned) refl refl)
+
+fronted-current : (s : List ℕ) (n : ℕ) → Shaped s n 2 6 → getD s 5 0 ≡ 1 → 6 < n → n ≤ 68 → Fronts s (begun 6 6)
+fronted-current s n h b l u =
+    front-starts s (begun 6 6) (omega (arith, h .long))
+    (starts-current s (begun 6 6) (omega (arith, h .long), h .named) (h .versioned) 1 (good-kind s 1 (sym b) (omega arith)) (λ z. omega arith) refl refl)
+
+-- read as n bytes, or broken off at a place
+module _ (s : List ℕ) (n v from : ℕ) (h : Shaped s n v from) (l : from < n) (f : Fronts s (begun from from)) where
+  ran : (a : Answer) → Read s (from + 1) a → Behind houseRows (itemEnd houseRows s) s from a
+  ran a e = rooted (omega (arith, h .long)) (h .root) (turns-come (turn houseRows (itemEnd houseRows s) s) 30 1 (from + 1) a e)
+
+  runs : (k : ℕ) → Read s (from + 1) (accepted k) → Begun s (begun k from)
+  runs k e = begins-with s (begun from from) f (λ z. omega arith) houseRows says (accepted k) (ran (accepted k) e) refl
+
+  breaks : (k : ℕ) → Read s (from + 1) (brokenImage k) → HouseReads s (brokenImage k)
+  breaks k e =
+      begun-reads s off (begins-not s (begun from from) f (λ z. omega arith) houseRows says (brokenImage k) (ran (brokenImage k) e) (λ z. omega arith) off (refl, refl, refl) .0)
+    where
+      off : Reading
+      off = record { answer = brokenImage k; kind = 0; from = 0 }
+
+printed-runs : Begun printed (begun 67 5)
+printed-runs = let h = printed-shaped .0 in runs printed 67 1 5 h (omega arith) (fronted-former printed 67 h (omega arith) (omega arith)) 67 (printed-turns .0)
+
+written-runs : Begun written (begun 68 6)
+written-runs = let h = written-shaped .0 in runs written 68 2 6 h (omega arith) (fronted-current written 68 h (written-kind .0) (omega arith) (omega arith)) 68 (written-turns .0)
+
+-- "its 67 bytes are still read"; one less is no image, and all its items begin one
 pub example-reads : HouseReads printed (accepted 67)
-example-reads = begun-reads printed (record { answer = accepted 67; form = 1; from = 5 }) example-runs
+example-reads = begun-reads printed (begun 67 5) printed-runs
 
 pub example-cut : HouseReads (take 66 printed) (brokenImage 66)
-example-cut =
-    begun-reads (take 66 printed) cut
-    (begins-not (take 66 printed) (record { answer = accepted 5; form = 1; from = 5 }) (fronted (take 66 printed) 66 (example-headed .1) (omega arith) (omega arith)) (λ z. omega arith) houseRows says (brokenImage 66) (ran (take 66 printed) 66 (brokenImage 66) (example-headed .1) (omega arith) (example-turns .1)) (λ z. omega arith) cut (refl, refl, refl) .0)
-  where
-    cut : Reading
-    cut = record { answer = brokenImage 66; form = 0; from = 0 }
+example-cut = let h = printed-shaped .1 in breaks (take 66 printed) 66 1 5 h (omega arith) (fronted-former (take 66 printed) 66 h (omega arith) (omega arith)) 66 (printed-turns .1)
 
-picks : (r n p : ℕ) (a : Answer) (part : List ℕ) → Found r n p a part → HousePicks printed r n a part
-picks r n p a part f =
-    begun-picks printed houseRows says (record { answer = accepted 67; form = 1; from = 5 }) example-runs refl r n a part
-    (found p (f .some′) (leaves (f .leafy) (turns-come (hunt houseRows (itemEnd houseRows printed) printed r) 30 n 5 p (f .hunts))) (f .says) (f .holds))
+-- so are the 68 bytes, "version 2 and kind byte 1"
+pub example-reads-now : HouseReads written (accepted 68)
+example-reads-now = begun-reads written (begun 68 6) written-runs
 
--- MsgId's two bytes, the balance's amount
-pub example-picks : HousePicks printed 4 0 (picked 4 11) (0x4D ∷ 0x31 ∷ [])
-    × HousePicks printed 19 0 (picked 19 46) (0x45 ∷ 0x55 ∷ 0x52 ∷ 0x00 ∷ 0x00 ∷ 0x00 ∷ 0x00 ∷ 0x00 ∷ 0x00 ∷ 0x00 ∷ 0x00 ∷ 0x05 ∷ [])
-example-picks = (picks 4 0 9 (picked 4 11) _ (example-found .0), picks 19 0 46 (picked 19 46) _ (example-found .1))
+pub example-cut-now : HouseReads (take 67 written) (brokenImage 67)
+example-cut-now =
+    let h = written-shaped .1 in breaks (take 67 written) 67 2 6 h (omega arith) (fronted-current (take 67 written) 67 h (written-kind .1) (omega arith) (omega arith)) 67 (written-turns .1)
+
+module _ (s : List ℕ) (k from : ℕ) (b : Begun s (begun k from)) where
+  picks : (r n p : ℕ) (a : Answer) (part : List ℕ) → Found s from r n p a part → HousePicks s r n a part
+  picks r n p a part f =
+      begun-picks s houseRows (begun k from) says b refl r n a part
+      (found p (f .some′) (leaves (f .leafy) (turns-come (hunt houseRows (itemEnd houseRows s) s r) 30 n from p (f .hunts))) (f .says) (f .holds))
+
+pub example-picks : HousePicks printed 4 0 (picked 4 11) identified × HousePicks printed 19 0 (picked 19 46) balance
+example-picks = let p = picks printed 67 5 printed-runs in (p 4 0 9 (picked 4 11) _ (printed-found .0), p 19 0 46 (picked 19 46) _ (printed-found .1))
+
+pub example-picks-now : HousePicks written 4 0 (picked 4 12) identified × HousePicks written 19 0 (picked 19 47) balance
+example-picks-now = let p = picks written 68 6 written-runs in (p 4 0 10 (picked 4 12) _ (written-found .0), p 19 0 47 (picked 19 47) _ (written-found .1))

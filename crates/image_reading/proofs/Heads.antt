@@ -1,18 +1,24 @@
 -- A run's first bytes against the header. Assumes nothing.
-use mathlib.Core.Path.{_≡_, refl, sym, _∙_}
+use mathlib.Core.Path.{_≡_, refl, sym, _∙_, ap, ap₂}
 use mathlib.Core.Logic.{_≢_, _⊎_, inl, inr}
 use mathlib.Core.Bool.{Bool, true, false, true≢false, false≢true}
-use mathlib.Core.List.{List, [], _∷_, head-eq-of-cons-eq, tail-eq-of-cons-eq}
-use Prim.Native.Nat.{ℕ, _≤_, _<_}
+use mathlib.Core.List.{List, [], _∷_, _++_, head-eq-of-cons-eq, tail-eq-of-cons-eq}
+use Prim.Native.Nat.{ℕ, _+_, _*_, _≤_, _<_}
 use native.Mathlib.Omega.{arith}
 use native.Mathlib.Decide.{decLt, ℕ-discrete}
 use lib.Dec.{eqb}
-use lib.ListN.{length, getD, take}
+use lib.ListN.{length, getD, take, List·getD-eq-default}
+use lib.Seq.{getD-take}
 use borrow.Author.Tests.{eqb-true, eqb-false}
 use Rattle.text.specs.Bytes.{ascii}
-use Rattle.image.specs.Image.{versioned}
-use Rattle.image.proofs.answers.Heads.{versioned-is}
-use Rattle.image_reading.specs.mirror.Front.{Kto, Named, OfVersion}
+use Rattle.list.specs.Listing.{Listing}
+use Rattle.list.specs.Within.{Among}
+use Rattle.list_house.specs.House.{house, report}
+use Rattle.list_house.specs.Lists.{stored}
+use Rattle.list_house.proofs.Lists.{each-stored, house-byte, report-byte, house-asked, report-asked}
+use Rattle.image.specs.Image.{versioned, header}
+use Rattle.image.proofs.answers.Heads.{first-is, second-is, header-is, header-bytes}
+use Rattle.image_reading.specs.mirror.Front.{Kto, Named, versionOf, KindByte}
 
 first-three : (s : List ℕ) → 5 ≤ length s → take 3 s ≡ getD s 0 0 ∷ getD s 1 0 ∷ getD s 2 0 ∷ []
 first-three [] h = absurd (omega arith)
@@ -51,38 +57,53 @@ module _ (s : List ℕ) where
       go true e = record { yes′ = λ z. (h, first-three s h ∙ rw (a, b, eqb-true (getD s 2 0) 79 e)); no′ = λ z. absurd (true≢false z) }
       go false e = refuse (inr (λ k. eqb-false (getD s 2 0) 79 e (head-eq-of-cons-eq (tail-eq-of-cons-eq (tail-eq-of-cons-eq (letters h k))))))
 
+  -- ---- the version
+
   abbrev begin : List ℕ
   begin = getD s 0 0 ∷ getD s 1 0 ∷ getD s 2 0 ∷ getD s 3 0 ∷ getD s 4 0 ∷ []
 
-  five : 5 ≤ length s → take 5 s ≡ versioned 1 → begin ≡ 75 ∷ 84 ∷ 79 ∷ 0 ∷ 1 ∷ []
-  five h e = sym (first-five s h) ∙ e ∙ versioned-is
+  -- after the name, a version below 256
+  of-version : Kto s → (n : ℕ) → getD s 3 0 ≡ 0 → getD s 4 0 ≡ n → take 5 s ≡ 75 ∷ 84 ∷ 79 ∷ 0 ∷ n ∷ []
+  of-version k n z e =
+      let t = letters (k .0) (k .1) in
+      let a = head-eq-of-cons-eq t in
+      let b = head-eq-of-cons-eq (tail-eq-of-cons-eq t) in
+      let c = head-eq-of-cons-eq (tail-eq-of-cons-eq (tail-eq-of-cons-eq t)) in
+      first-five s (k .0) ∙ rw (a, b, c, z, e) refl
 
-  other : take 5 s ≢ versioned 1 → OfVersion s false
-  other n = record { yes′ = λ e. absurd (false≢true e); no′ = λ e. n }
+  its-version : 5 ≤ length s → (n : ℕ) → take 5 s ≡ 75 ∷ 84 ∷ 79 ∷ 0 ∷ n ∷ [] → versionOf s ≡ n
+  its-version h n e =
+      let w = tail-eq-of-cons-eq (tail-eq-of-cons-eq (tail-eq-of-cons-eq (sym (first-five s h) ∙ e))) in
+      omega (arith, head-eq-of-cons-eq w, head-eq-of-cons-eq (tail-eq-of-cons-eq w))
 
-  pub high-byte : Kto s → getD s 3 0 ≢ 0 → OfVersion s false
-  high-byte k n = other (λ e. n (head-eq-of-cons-eq (tail-eq-of-cons-eq (tail-eq-of-cons-eq (tail-eq-of-cons-eq (five (k .0) e))))))
+  pub version-first : Kto s → versionOf s ≡ 1 → take 5 s ≡ versioned 1
+  version-first k v = of-version k 1 (omega (arith, v)) (omega (arith, v)) ∙ sym first-is
 
-  pub low-byte : Kto s → getD s 3 0 ≡ 0 → OfVersion s (eqb (getD s 4 0) 1)
-  low-byte k z = go (eqb (getD s 4 0) 1) refl
-    where
-      t : getD s 0 0 ∷ getD s 1 0 ∷ getD s 2 0 ∷ [] ≡ 75 ∷ 84 ∷ 79 ∷ []
-      t = letters (k .0) (k .1)
+  pub version-second : Kto s → versionOf s ≡ 2 → take 5 s ≡ versioned 2
+  version-second k v = of-version k 2 (omega (arith, v)) (omega (arith, v)) ∙ sym second-is
 
-      a : getD s 0 0 ≡ 75
-      a = head-eq-of-cons-eq t
+  pub not-first : 5 ≤ length s → versionOf s ≢ 1 → take 5 s ≢ versioned 1
+  not-first h n e = n (its-version h 1 (e ∙ first-is))
 
-      b : getD s 1 0 ≡ 84
-      b = head-eq-of-cons-eq (tail-eq-of-cons-eq t)
+  pub not-second : 5 ≤ length s → versionOf s ≢ 2 → take 5 s ≢ versioned 2
+  not-second h n e = n (its-version h 2 (e ∙ second-is))
 
-      c : getD s 2 0 ≡ 79
-      c = head-eq-of-cons-eq (tail-eq-of-cons-eq (tail-eq-of-cons-eq t))
+  -- ---- the kind byte
 
-      go : (r : Bool) → eqb (getD s 4 0) 1 ≡ r → OfVersion s r
-      go true e = record { yes′ = λ y. first-five s (k .0) ∙ rw (a, b, c, z, eqb-true (getD s 4 0) 1 e) (sym versioned-is); no′ = λ y. absurd (true≢false y) }
-      go false e = other (λ y. eqb-false (getD s 4 0) 1 e (head-eq-of-cons-eq (tail-eq-of-cons-eq (tail-eq-of-cons-eq (tail-eq-of-cons-eq (tail-eq-of-cons-eq (five (k .0) y)))))))
+  no-byte : (getD s 5 0 ≡ 0) ⊎ (2 < getD s 5 0) → KindByte s 0
+  no-byte h = record { its = λ n. absurd (n refl); none = λ e. h }
 
-  -- whether a run is named, and of which version, is always told
+  pub no-kind : length s < 6 → KindByte s 0
+  no-kind h = no-byte (inl (List·getD-eq-default s 0 {n = 5} (omega (arith, h))))
+
+  pub bad-kind : (k : ℕ) → k ≡ getD s 5 0 → 2 < k → KindByte s 0
+  bad-kind k e h = no-byte (inr (omega (arith, e, h)))
+
+  pub good-kind : (k : ℕ) → k ≡ getD s 5 0 → k ≤ 2 → KindByte s k
+  good-kind k e h = record { its = λ n. (h, e); none = λ z. inl (sym e ∙ z) }
+
+  -- ---- what is told is told of every run
+
   pub named-some : (b : Bool) × Named s b
   named-some = go (decLt (length s) 5) (ℕ-discrete (getD s 0 0) 75) (ℕ-discrete (getD s 1 0) 84)
     where
@@ -92,9 +113,58 @@ module _ (s : List ℕ) where
       go (no h) (yes a) (no b) = (false, not-t (omega arith) b)
       go (no h) (yes a) (yes b) = (eqb (getD s 2 0) 79, last-letter (omega arith) a b)
 
-  pub version-some : Kto s → (b : Bool) × OfVersion s b
-  version-some k = go (ℕ-discrete (getD s 3 0) 0)
-    where
-      go : Dec (getD s 3 0 ≡ 0) → (b : Bool) × OfVersion s b
-      go (no a) = (false, high-byte k a)
-      go (yes a) = (eqb (getD s 4 0) 1, low-byte k a)
+  pub kind-told : (k : ℕ) × KindByte s k
+  kind-told = elim (decLt 2 (getD s 5 0)) [
+    | yes h ↦ (0, bad-kind (getD s 5 0) refl h)
+    | no h ↦ (getD s 5 0, good-kind (getD s 5 0) refl (omega arith))
+  ]
+
+-- ---- the kind bytes of the lists
+
+byte-low : (l : Listing) → Among l stored → (1 ≤ l .byte) × (l .byte ≤ 2)
+byte-low =
+    each-stored (λ l. (1 ≤ l .byte) × (l .byte ≤ 2))
+    (omega (arith, house-byte), omega (arith, house-byte))
+    (omega (arith, report-byte), omega (arith, report-byte))
+
+-- a kind byte is a list's
+pub record Kinded (k : ℕ) : Type 0 where
+  pub list : Listing
+  pub among : Among list stored
+  pub byte : k ≡ list .byte
+
+kinded : (k : ℕ) → k ≢ 0 → k ≤ 2 → Kinded k
+kinded k n h = elim (ℕ-discrete k 1) [
+  | yes e ↦ record { list = house; among = house-asked; byte = e ∙ sym house-byte }
+  | no d ↦ let e : k ≡ 2 = omega arith in record { list = report; among = report-asked; byte = e ∙ sym report-byte }
+]
+
+-- a sixth byte stands after five
+six : (s : List ℕ) → getD s 5 0 ≢ 0 → take 6 s ≡ take 5 s ++ (getD s 5 0 ∷ [])
+six [] n = absurd (n refl)
+six (a ∷ []) n = absurd (n refl)
+six (a ∷ b ∷ []) n = absurd (n refl)
+six (a ∷ b ∷ c ∷ []) n = absurd (n refl)
+six (a ∷ b ∷ c ∷ d ∷ []) n = absurd (n refl)
+six (a ∷ b ∷ c ∷ d ∷ e ∷ []) n = absurd (n refl)
+six (a ∷ b ∷ c ∷ d ∷ e ∷ f ∷ s) n = refl
+
+sixth : (s : List ℕ) (b : ℕ) → take 6 s ≡ 75 ∷ 84 ∷ 79 ∷ 0 ∷ 2 ∷ b ∷ [] → getD s 5 0 ≡ b
+sixth s b e = sym (getD-take 6 s 5 0 (omega arith)) ∙ ap (λ (u : List ℕ). getD u 5 0) e
+
+-- a missing or bad one is none's
+pub kind-none : (s : List ℕ) → KindByte s 0 → (l : Listing) → Among l stored → take 6 s ≢ header l
+kind-none s k l i e = go (k .none refl) (sixth s (l .byte) (e ∙ header-bytes l)) (byte-low l i)
+  where
+    go : (getD s 5 0 ≡ 0) ⊎ (2 < getD s 5 0) → getD s 5 0 ≡ l .byte → (1 ≤ l .byte) × (l .byte ≤ 2) → ⊥
+    go (inl z) d h = omega (arith, h .0)
+    go (inr z) d h = omega (arith, h .1)
+
+-- any other is of a list, whose header the run begins with
+pub kind-some : (s : List ℕ) (k : ℕ) → KindByte s k → k ≢ 0 → Kinded k
+kind-some s k b n = kinded k n (b .its n .0)
+
+pub kind-header : (s : List ℕ) → take 5 s ≡ versioned 2 → (k : ℕ) → KindByte s k → k ≢ 0 → (l : Listing) → k ≡ l .byte → take 6 s ≡ header l
+kind-header s v k b n l e =
+    let g : getD s 5 0 ≡ k = sym (b .its n .1) in
+    six s (λ z. n (sym g ∙ z)) ∙ ap₂ (λ (h : List ℕ) (x : ℕ). h ++ (x ∷ [])) v (g ∙ e) ∙ sym (header-is l)

@@ -8,11 +8,11 @@ use image::picker::picked_from;
 use image::reader::body;
 use list::lay::lay;
 use list::table::REF;
+use list_house::by_byte::rows_of;
 use list_house::kinds::kind;
-use list_house::tables::rows;
 ghost use mathlib.Core.Path.{_≡_};
 ghost use Rattle.list.specs.Laid.{zeros, laid};
-ghost use Rattle.list_house.specs.Lists.{keptRows};
+ghost use Rattle.list_house.specs.mirror.Rows.{keptRows};
 ghost use Rattle.image_reading.specs.Reads.{HouseReads, HouseAnswers, HousePicked};
 ghost use Rattle.image_reading.specs.Forms.{Begun};
 
@@ -20,13 +20,13 @@ ghost use Rattle.image_reading.specs.Forms.{Begun};
 // need not lay it again.
 fn begun(run: &[u8], table: &mut [u16; 4096]) -> Reading
     requires { ⌜ now table ≡ zeros 4096 ⌝ }
-    ensures { λ r. ⌜ Begun (now (run .entry)) r × (r .answer .code ≡ 0 → now (table .exit) ≡ laid keptRows) ⌝ }
+    ensures { λ r. ⌜ Begun (now (run .entry)) r × (r .answer .code ≡ 0 → now (table .exit) ≡ laid (keptRows (r .kind))) ⌝ }
 {
     let front = front(run);
-    if front.form == 0 {
+    if front.kind == 0 {
         return front;
     }
-    let rows = rows();
+    let rows = rows_of(front.kind);
     lay(&rows, table);
     let answer = body(table, run, front.from);
     if answer.code != Answer::ACCEPTED {
@@ -34,12 +34,12 @@ fn begun(run: &[u8], table: &mut [u16; 4096]) -> Reading
     }
     Reading {
         answer,
-        form: front.form,
+        kind: front.kind,
         from: front.from,
     }
 }
 
-// The answer for a run, the form of the image that it begins with, and where the items of that image begin.
+// The answer for a run, the kind byte of the list of the image that it begins with, and where the items of that image begin.
 pub fn reading(run: &[u8]) -> Reading
     ensures { λ r. ⌜ Begun (now (run .entry)) r ⌝ }
 {

@@ -1,26 +1,44 @@
-// How a run begins: the form of its first image, by its name and its version, and where the items of that image stand.
+// How a run begins: the list of its first image, by its name, its version and its kind byte, and where the items of that image stand.
 use answer::Answer;
+use list_house::by_byte::REPORT;
 ghost use mathlib.Core.Path.{_≡_};
-ghost use Rattle.image_reading.specs.mirror.Front.{Kto, Named, OfVersion, Fronts};
+ghost use Prim.Native.Nat.{_≤_, _<_};
+ghost use lib.ListN.{length};
+ghost use Rattle.answer.specs.Table.{accepted};
+ghost use Rattle.image_reading.specs.Forms.{Headed};
+ghost use Rattle.image_reading.specs.mirror.Front.{Named, versionOf, KindByte, Starts, Fronts};
 
-// What is told of the image that a run begins with: the answer, its form and where its items begin; 0 and 0 where none begins there.
+// What is told of the image that a run begins with: the answer, the kind byte of its list and where its items begin; 0 and 0 where none
+// begins there.
 pub struct Reading {
     pub answer: Answer,
-    pub form: usize,
+    pub kind: usize,
     pub from: usize,
 }
 
-// The forms by number. Version 1:
-pub const FIRST: usize = 1;
+// The last two of these, which are told without reading an item.
+pub struct Head {
+    pub kind: usize,
+    pub from: usize,
+}
+
+// The kind byte of a statement, which version 1 leaves out.
+const STATEMENT: usize = 1;
 
 pub(crate) fn refused(answer: Answer) -> Reading
-    ensures { λ r. ⌜ (r .answer ≡ answer) × (r .form ≡ 0) × (r .from ≡ 0) ⌝ }
+    ensures { λ r. ⌜ (r .answer ≡ answer) × (r .kind ≡ 0) × (r .from ≡ 0) ⌝ }
 {
     Reading {
         answer,
-        form: 0,
+        kind: 0,
         from: 0,
     }
+}
+
+fn wide(x: u8) -> usize
+    ensures { λ r. ⌜ (r ≡ x) × (r < 256) ⌝ }
+{
+    x as usize
 }
 
 // Five bytes or more, the first three `KTO`.
@@ -39,33 +57,74 @@ fn named(run: &[u8]) -> bool
     run[2] == 79
 }
 
-// Version 1 in 16 bits behind the name.
-fn of_version_1(run: &[u8]) -> bool
-    requires { ⌜ Kto (now run) ⌝ }
-    ensures { λ b. ⌜ OfVersion (now (run .entry)) b ⌝ }
+// The version, in 16 bits after the name.
+fn version(run: &[u8]) -> usize
+    requires { ⌜ 5 ≤ length (now run) ⌝ }
+    ensures { λ v. ⌜ v ≡ versionOf (now (run .entry)) ⌝ }
 {
-    if run[3] != 0 {
-        return false;
-    }
-    run[4] == 1
+    256 * wide(run[3]) + wide(run[4])
 }
 
-// All that is asked of a run before its items: the answer is code 0 and the header's length where an image may begin.
+// The byte after it; 0 where it is missing or no list's.
+fn kind_byte(run: &[u8]) -> usize
+    ensures { λ k. ⌜ KindByte (now (run .entry)) k ⌝ }
+{
+    if run.len() < 6 {
+        return 0;
+    }
+    let kind = wide(run[5]);
+    if REPORT < kind {
+        return 0;
+    }
+    kind
+}
+
+// How a run begins, whatever its length: the answer is code 0 and the header's length where an image may begin.
+fn start(run: &[u8]) -> Reading
+    ensures { λ r. ⌜ Starts (now (run .entry)) r ⌝ }
+{
+    if !named(run) {
+        return refused(Answer::no_header());
+    }
+    let version = version(run);
+    if version == 1 {
+        return Reading {
+            answer: Answer::accepted(5),
+            kind: STATEMENT,
+            from: 5,
+        };
+    }
+    if version != 2 {
+        return refused(Answer::wrong_version());
+    }
+    let kind = kind_byte(run);
+    if kind == 0 {
+        return refused(Answer::broken_image(5));
+    }
+    Reading {
+        answer: Answer::accepted(6),
+        kind,
+        from: 6,
+    }
+}
+
+// The kind byte and the place of the first item, of a run of any length.
+pub fn head_of(run: &[u8]) -> Head
+    ensures { λ h. ⌜ Headed (now (run .entry)) (h .kind) (h .from) ⌝ }
+{
+    let start = start(run);
+    Head {
+        kind: start.kind,
+        from: start.from,
+    }
+}
+
+// All that is asked of a run before its items.
 pub(crate) fn front(run: &[u8]) -> Reading
     ensures { λ r. ⌜ Fronts (now (run .entry)) r ⌝ }
 {
     if Answer::LIMIT < run.len() {
         return refused(Answer::too_long());
     }
-    if !named(run) {
-        return refused(Answer::no_header());
-    }
-    if !of_version_1(run) {
-        return refused(Answer::wrong_version());
-    }
-    Reading {
-        answer: Answer::accepted(5),
-        form: FIRST,
-        from: 5,
-    }
+    start(run)
 }

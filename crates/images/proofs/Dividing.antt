@@ -2,26 +2,23 @@
 use mathlib.Core.Path.{_≡_, refl, sym, _∙_, ap, ap₂, subst}
 use mathlib.Core.Logic.{_≢_}
 use mathlib.Core.List.{List, [], _∷_, _++_, append-assoc, append-nil}
-use Prim.Native.Nat.{ℕ, suc, _+_, _-_, _*_, _≤_, _<_}
+use Prim.Native.Nat.{ℕ, _+_, _-_, _*_, _≤_, _<_}
 use native.Mathlib.Decide.{decLt}
 use native.Mathlib.Omega.{arith}
 use lib.ListN.{length, take, drop, length-append, length-drop}
 use Rattle.io.specs.Counts.{Counts}
 use Rattle.text.specs.Digits.{inDigits}
-use Rattle.text.specs.Numbers.{bigEndian}
 use Rattle.text.specs.Pasting.{pasted}
 use Rattle.text.proofs.Digits.{length-most}
-use Rattle.text.proofs.Numbers.{big-length}
 use Rattle.text.proofs.Pasting.{pasted-then, head-pasted, length-pasted}
 use Rattle.answer.specs.declared.Answer.{Answer}
 use Rattle.answer.specs.Table.{limit}
 use Rattle.program_line.specs.Line.{refusal}
 use Rattle.program_line.proofs.Lines.{counts}
 use Rattle.list.specs.Content.{items}
-use Rattle.list.specs.Listing.{Listing}
-use Rattle.image.specs.Image.{header, itemsBytes}
+use Rattle.image.specs.Image.{itemsBytes}
 use Rattle.image.specs.Kinds.{values}
-use Rattle.image.specs.Place.{Front, current}
+use Rattle.image.proofs.answers.Heads.{front-long}
 use Rattle.image.proofs.answers.One.{accepting, accepts-in}
 use Rattle.image_reading.specs.Reads.{stored, HouseReads}
 use Rattle.image_reading.proofs.House.{house-reads-one}
@@ -63,14 +60,10 @@ module _ (place size : ℕ) where
 
 -- ---- no image is shorter than its header and the closing 0
 
-header-long : (l : Listing) (h : List ℕ) → Front l h → length h ≡ 5
-unfolding header
-header-long l h (current e) = let f : length h ≡ suc (suc (suc (length (bigEndian 2 1)))) = ap length e in omega (arith, f, big-length 2 1)
-
 pub image-least : (s : List ℕ) (a : Answer) → HouseReads s a → a .code ≡ 0 → 6 ≤ a .place
 image-least s a r z =
     let w = accepting values stored s a r z .1 in
-    omega (arith, w .long, header-long (w .list) (w .head) (w .front), w .holds .long, length-append (itemsBytes values (w .list) (items (w .holds .content))) (0 ∷ []))
+    omega (arith, w .long, front-long (w .list) (w .head) (w .front), w .holds .long, length-append (itemsBytes values (w .list) (items (w .holds .content))) (0 ∷ []))
 
 -- ---- a loop that has written what stands before a place
 

@@ -1,5 +1,5 @@
 -- The definitions of `kto`.
 -- what the program writes
 pub mod Says
--- the answer behind it
+-- the answer after it
 pub mod Answered

@@ -105,7 +105,7 @@ module _ (t u : List ℕ) (e : Alike t u) (pool : List ℕ) where
 
   list-same : listOf t pool ≡ listOf u pool
   unfolding listOf
-  list-same = rw (e 0 0, e 0 1, e 0 2, rows-same 1 (cell u 0 0), rules-same 1 (cell u 0 0))
+  list-same = rw (e 0 0, e 0 1, e 0 2, e 0 3, rows-same 1 (cell u 0 0), rules-same 1 (cell u 0 0))
 
   derived-same : (l : Listing) (r : ℕ) → Derived t l r → Derived u l r
   derived-same l r d = record {

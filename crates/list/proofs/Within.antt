@@ -8,7 +8,7 @@ use Rattle.list.specs.Content.{Content, end, value, node, rows, Keeps, C
 use Rattle.list.specs.Within.{Within}
 
 pub within-itself : (l : Listing) → Within l l
-within-itself l = record { many = refl; parents = λ r. refl; kinds = λ r. refl; counts = λ r n h. h; rules = refl }
+within-itself l = record { many = refl; parents = λ r. refl; kinds = λ r. refl; counts = λ r n h. h; rules = refl; byte = refl }
 
 module _ (l m : Listing) (w : Within l m) where
   child-within : (p r : ℕ) → Child l p r → Child m p r

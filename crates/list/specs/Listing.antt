@@ -1,4 +1,4 @@
--- A list: rows by number from 1 with name, parent, count and kind; its rules; its namespace. Assumes nothing.
+-- A list: rows by number from 1 with name, parent, count and kind; its rules; its namespace; its kind of message. Assumes nothing.
 use mathlib.Core.Path.{_≡_}
 use mathlib.Core.Bool.{Bool, true, false, _&&_}
 use mathlib.Core.List.{List, []}
@@ -38,6 +38,8 @@ pub record Listing : Type 0 where
   pub rows : List Row
   pub rules : List Rule
   pub space : List ℕ
+  -- the kind byte of its images
+  pub byte : ℕ
 
 abbrev pub size : Listing → ℕ
 size l = length (l .rows)

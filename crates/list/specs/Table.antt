@@ -1,6 +1,6 @@
 -- A list as two tables: what they say, whatever they hold. Assumes nothing.
--- The first has sixteen cells a row. Row 0's are the list's own: how many rows it has, and where its namespace starts and ends in the second
--- table, the pool; row 0 stands above the root. A row's cells are
+-- The first has sixteen cells a row. Row 0's are the list's own: how many rows it has, where its namespace starts and ends in the second
+-- table, the pool, and its kind byte; row 0 stands above the root. A row's cells are
 --   0 parent   1 count (0 is 1..1, 1 is 0..1, 2 is 1..n, 3 is 0..n, 4 is none)
 --   2 kind (0 G, 1 C, 2 REF, 3 TXT, 4 IBAN, 5 CCY, 6 ENUM, 7 BOOL, 8 NUM, 9 AMT, 10 DATE, 11 DTM)   3 the k of TXTk
 --   4, 5 where its name starts and ends in the pool   6, 7 where an ENUM's words do, separated by single spaces
@@ -31,6 +31,11 @@ longer x (w ∷ ws) = (x ∷ w) ∷ ws
 unfoldable pub words : List ℕ → List (List ℕ)
 words [] = [] ∷ []
 words (x ∷ xs) = cond (eqb x 32) ([] ∷ words xs) (longer x (words xs))
+
+-- a text without a byte has none
+abbrev pub wordsOf : List ℕ → List (List ℕ)
+wordsOf [] = []
+wordsOf (x ∷ xs) = words (x ∷ xs)
 
 -- "place in its list from 1", the places of these words counted from i on: the first that has the word; 0 where none has
 unfoldable pub placeFrom : ℕ → List (List ℕ) → List ℕ → ℕ
@@ -65,7 +70,7 @@ abbrev pub nameIn : List ℕ → List ℕ → ℕ → List ℕ
 nameIn t pool r = slice (cell t r 4) (cell t r 5) pool
 
 abbrev pub wordsIn : List ℕ → List ℕ → ℕ → List (List ℕ)
-wordsIn t pool r = words (slice (cell t r 6) (cell t r 7) pool)
+wordsIn t pool r = wordsOf (slice (cell t r 6) (cell t r 7) pool)
 
 unfoldable pub rowOf : List ℕ → List ℕ → ℕ → Row
 rowOf t pool r = record {
@@ -92,4 +97,5 @@ listOf t pool = record {
   rows = rowsFrom t pool 1 (cell t 0 0);
   rules = rulesFrom t 1 (cell t 0 0);
   space = slice (cell t 0 1) (cell t 0 2) pool;
+  byte = cell t 0 3;
 }

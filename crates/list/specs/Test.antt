@@ -126,7 +126,8 @@ module _ (l : Listing) where
       isOne (rowAt l 1 .count) ∷
       each l (λ r. allOf (rowTests (rowAt l r .parent) r)) ∷
       rulesOk (l .rules) ∷
-      every isUnmarked (l .space) ∷ []
+      every isUnmarked (l .space) ∷
+      inRange 1 255 (l .byte) ∷ []
 
   -- the columns that follow, at row r
   unfoldable pub derivedTests : List ℕ → ℕ → List Bool

@@ -68,3 +68,5 @@ pub record WellFormed (l : Listing) : Type 0 where
   pub rules : Each (RuleOk l) (l .rules)
   -- the namespace is written in one way only, so that it can be compared as it stands
   pub space : All isUnmarked (l .space)
+  -- "a kind byte": a number of one byte
+  pub byte : (1 ≤ l .byte) × (l .byte ≤ 255)

@@ -11,14 +11,15 @@ abbrev pub Among : Listing → List Listing → Type 0
 Among l [] = ⊥
 Among l (m ∷ ms) = (l ≡ m) ⊎ Among l ms
 
--- l has the rows of m, under the same parents, of the same kinds, with the same rules, and no count of l is wider than the one of m. Names and
--- namespaces may differ: images have none
+-- l has the rows of m, under the same parents, of the same kinds, with the same rules and the same kind byte, and no count of l is wider than the
+-- one of m. Names and namespaces may differ: images have none
 pub record Within (l m : Listing) : Type 0 where
   pub many : size l ≡ size m
   pub parents : (r : ℕ) → rowAt l r .parent ≡ rowAt m r .parent
   pub kinds : (r : ℕ) → rowAt l r .kind ≡ rowAt m r .kind
   pub counts : (r n : ℕ) → CountOk (rowAt l r .count) n → CountOk (rowAt m r .count) n
   pub rules : l .rules ≡ m .rules
+  pub byte : l .byte ≡ m .byte
 
 -- l lies within one of the lists
 pub record Kept (l : Listing) (ms : List Listing) : Type 0 where

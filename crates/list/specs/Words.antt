@@ -13,7 +13,7 @@ times r (q ∷ rs) = cond (eqb q r) (suc (times r rs)) (times r rs)
 abbrev pub has : ℕ → List ℕ → Bool
 has r rs = ltb 0 (times r rs)
 
--- "Siblings come in row order": none behind a greater one
+-- "Siblings come in row order": none after a greater one
 abbrev pub Ordered : List ℕ → Type 0
 Ordered [] = Unit {0}
 Ordered (r ∷ rs) = Each (λ q. r ≤ q) rs × Ordered rs

@@ -68,7 +68,7 @@ pub fn is_name(rows: &[u16], pool: &[u8], r: usize, s: &[u8], a: usize, b: usize
     same_part(pool, cell(rows, r, NAME), cell(rows, r, NAME_END), s, a, b)
 }
 
-// The first row called s from a to b, among `from` and the siblings behind it; 0 where there is none. No list has more than 255 of them,
+// The first row called s from a to b, among `from` and the siblings after it; 0 where there is none. No list has more than 255 of them,
 // and in a table whose siblings go in a circle the search ends all the same.
 fn named(rows: &[u16], pool: &[u8], from: usize, s: &[u8], a: usize, b: usize) -> usize
     ensures { λ x. ⌜ x ≡ along (now (rows .entry)) (now (pool .entry)) (slice a b (now (s .entry))) 255 from ⌝ }
@@ -89,7 +89,7 @@ fn named(rows: &[u16], pool: &[u8], from: usize, s: &[u8], a: usize, b: usize) -
 }
 
 // The child of `p` called s from a to b; 0 where there is none. `last` is the child that came last, 0 at first: the next one mostly is the
-// same row again or a sibling behind it, so the search begins there.
+// same row again or a sibling after it, so the search begins there.
 pub fn child(
     rows: &[u16],
     pool: &[u8],

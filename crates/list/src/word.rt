@@ -28,12 +28,15 @@ fn word_end(pool: &[u8], i: usize, end: usize) -> usize
     j
 }
 
-// The place, from 1, of s from a to b among the words of row r; 0 where it is none of them.
+// The place, from 1, of s from a to b among the words of row r; 0 where it is none of them, as in a row without words.
 pub fn word_place(rows: &[u16], pool: &[u8], r: usize, s: &[u8], a: usize, b: usize) -> usize
     ensures { λ x. ⌜ x ≡ placeIn (wordsIn (now (rows .entry)) (now (pool .entry)) r) (slice a b (now (s .entry))) ⌝ }
 {
     let end = least(cell(rows, r, WORDS_END), pool.len());
     let mut i = cell(rows, r, WORDS);
+    if end <= i {
+        return 0;
+    }
     let mut place = 1;
     loop {
         let j = word_end(pool, i, end);

@@ -7,16 +7,19 @@ use native.Mathlib.Decide.{decLt}
 use lib.Dec.{eqb}
 use borrow.Author.Tests.{eqb-true}
 use Rattle.text.proofs.Classes.{every, passes}
-use Rattle.list.specs.Listing.{ref, iban, ccy, bool, num, amt, date, dtm, txt, enum, Kind, group, choice, leaf, Row, size, rowAt, isGroup}
+use Rattle.list.specs.Listing.{ref, iban, ccy, bool, num, amt, date, dtm, txt, enum, Kind, group, choice, leaf, Row, Listing, size, rowAt, isGroup}
 use Rattle.list.specs.Table.{cell}
+use Rattle.list.specs.Within.{Among}
 use Rattle.list.proofs.rows.Next.{row-past}
 use Rattle.list.proofs.rows.Cells.{no-row}
-use Rattle.list_house.specs.House.{house}
+use Rattle.list_house.specs.House.{house, report}
 use Rattle.list_house.specs.mirror.HouseTable.{houseRows}
-use Rattle.list_house.proofs.HouseSound.{house-well}
+use Rattle.list_house.proofs.HouseSound.{house-well, report-well}
+use Rattle.list_house.proofs.Lists.{each-stored}
 use Rattle.list_house.specs.Kind.{numberOf, houseKind}
+use Rattle.list_house.specs.Lists.{stored}
 
--- behind the last row there is none
+-- after the last row there is none
 pub kind-past : (m : ℕ) → suc (size house) ≡ m → (r : ℕ) → m ≤ r → 0 ≡ houseKind r
 kind-past m e r h = sym (ap (λ (x : Row). numberOf (x .kind)) (row-past house r (omega arith)))
 
@@ -31,6 +34,17 @@ kind-column r h = elim (decLt 255 r) [
   | no l ↦ eqb-true (houseKind r) (cell houseRows r 2) (passes (λ y. eqb (houseKind y) (cell houseRows y 2)) 1 255 column-test r h (omega arith))
   | yes l ↦ sym (kind-past (suc (size house)) refl r (omega (arith, house-well .bytes))) ∙ no-row houseRows r 2 (omega arith) l
 ]
+
+report-test : every (λ r. eqb (numberOf (rowAt report r .kind)) (houseKind r)) 0 256 ≡ true
+unfolding rowAt house report
+report-test = refl
+
+-- the lists of images have rows of the same kinds, but for an ENUM's words
+pub stored-kind : (l : Listing) → Among l stored → (r : ℕ) → numberOf (rowAt l r .kind) ≡ houseKind r
+stored-kind = each-stored (λ l. (r : ℕ) → numberOf (rowAt l r .kind) ≡ houseKind r) (λ r. refl) (λ r. elim (decLt 255 r) [
+  | no h ↦ eqb-true (numberOf (rowAt report r .kind)) (houseKind r) (passes (λ y. eqb (numberOf (rowAt report y .kind)) (houseKind y)) 0 256 report-test r (omega arith) (omega arith))
+  | yes h ↦ ap (λ (x : Row). numberOf (x .kind)) (row-past report r (omega (arith, report-well .bytes))) ∙ kind-past (suc (size house)) refl r (omega (arith, house-well .bytes))
+])
 
 -- a number below a leaf's is a group's
 pub low-group : (k : Kind) → numberOf k < 2 → isGroup k ≡ true

@@ -1,14 +1,20 @@
 -- "The house list": its rows, with their numbers at the right, its rule, its namespace. Assumes nothing.
 -- Written by tools/lists/make.
 use mathlib.Core.List.{List, [], _∷_}
-use Prim.Native.Nat.{ℕ}
+use Prim.Native.Nat.{ℕ, _-_}
 use Prim.Native.String.{String}
+use lib.ListN.{set}
 use Rattle.text.specs.Bytes.{ascii}
 use Rattle.list.specs.Listing.{ref, iban, ccy, bool, num, amt, date, dtm, txt, enum, Kind, group, choice, leaf, Count, one, optional, several, any, alternative, Row, both, Listing}
 
 -- "name, parent row, count, kind"
 abbrev row : String → ℕ → Count → Kind → Row
 row n p c k = record { name = ascii n; parent = p; count = c; kind = k }
+
+-- rows of which some are others, by their numbers
+abbrev changed : List Row → List (ℕ × Row) → List Row
+changed rs [] = rs
+changed rs (c ∷ cs) = changed (set rs (c .0 - 1) (c .1)) cs
 
 unfoldable rowsListed : List Row
 rowsListed =
@@ -74,4 +80,22 @@ rowsListed =
 -- "Rule on row 43 (..): rows 47 and 48 are both present or both absent"
 unfoldable pub house : Listing
 unfolding rowsListed
-house = record { rows = rowsListed; rules = both 43 47 48 ∷ []; space = ascii "urn:iso:std:iso:20022:tech:xsd:camt.053.001.08" }
+house = record { rows = rowsListed; rules = both 43 47 48 ∷ []; space = ascii "urn:iso:std:iso:20022:tech:xsd:camt.053.001.08"; byte = 1 }
+
+-- camt.052.001.08: the rows of `house`, but for these
+unfoldable reportListed : List Row
+unfolding rowsListed
+reportListed =
+    changed rowsListed
+    (
+    (2, row "BkToCstmrAcctRpt" 1 one group) ∷
+    (6, row "Rpt" 2 several group) ∷
+    (15, row "Bal" 6 any group) ∷
+    (18, row "Cd" 17 one (leaf (enum (ascii "OPBD" ∷ ascii "CLBD" ∷ ascii "PRCD" ∷ ascii "ITBD" ∷ [])))) ∷
+    (28, row "Cd" 27 one (leaf (enum (ascii "BOOK" ∷ ascii "PDNG" ∷ [])))) ∷
+    [])
+
+-- "Rule on row 43 (..): rows 47 and 48 are both present or both absent"
+unfoldable pub report : Listing
+unfolding reportListed
+report = record { rows = reportListed; rules = both 43 47 48 ∷ []; space = ascii "urn:iso:std:iso:20022:tech:xsd:camt.052.001.08"; byte = 2 }

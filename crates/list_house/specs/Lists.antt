@@ -1,20 +1,12 @@
--- The lists that files are asked to keep to, and the lists that stored images keep to. Assumes nothing.
+-- The lists that files are asked to keep to, and the lists that stored images keep to: one for each kind of message. Assumes nothing.
 use mathlib.Core.List.{List, [], _∷_}
-use Prim.Native.Nat.{ℕ}
 use Rattle.list.specs.Listing.{Listing}
-use Rattle.list_house.specs.House.{house}
-use Rattle.list_house.specs.mirror.HouseTable.{houseRows}
+use Rattle.list_house.specs.House.{house, report}
 
--- of files
+-- of files: statements, and "camt.052.001.08 as a second message kind"
 abbrev pub asked : List Listing
-asked = house ∷ []
+asked = house ∷ report ∷ []
 
--- of images: the list that the reader goes by, which is the house list itself, and its table
-abbrev pub kept : Listing
-kept = house
-
-abbrev pub keptRows : List ℕ
-keptRows = houseRows
-
+-- of images: the same lists
 abbrev pub stored : List Listing
-stored = kept ∷ []
+stored = asked

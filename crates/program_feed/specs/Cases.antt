@@ -36,7 +36,7 @@ caseBy op room n size =
 unfoldable pub caseOf : List ℕ → Case
 caseOf s = cond (ltb (length s) 13) Broken (caseBy (getD s 0 0) (numberAt 1 s) (numberAt 5 s) (numberAt 9 s))
 
--- how many bytes a case has behind its head
+-- how many bytes a case has after its head
 abbrev pub sizeOf : Case → ℕ
 sizeOf (Check room size) = size
 sizeOf (Read size) = size
@@ -48,6 +48,6 @@ sizeOf Broken = 0
 unfoldable pub caseIn : List ℕ → Case
 caseIn s = cond (ltb (length s) (13 + sizeOf (caseOf s))) Broken (caseOf s)
 
--- its bytes behind the head
+-- its bytes after the head
 abbrev pub bytesIn : ℕ → List ℕ → List ℕ
 bytesIn size s = take size (drop 13 s)

@@ -12,7 +12,7 @@ use Rattle.answer.specs.declared.Answer.{Answer}
 use Rattle.program_line.specs.Line.{numbers}
 use Rattle.program_line.specs.Hex.{hexadecimal}
 
--- "For each case it writes `CODE ROW PLACE HEX` and LF": an answer with the bytes that are handed back, "else nothing behind the third blank"
+-- "For each case it writes `CODE ROW PLACE HEX` and LF": an answer with the bytes that are handed back, "else nothing after the third blank"
 unfoldable pub answerLine : Answer → List ℕ → List ℕ
 answerLine a part = numbers a ++ (32 ∷ (hexadecimal part ++ (10 ∷ [])))
 

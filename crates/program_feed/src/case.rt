@@ -48,7 +48,7 @@ fn room_in(head: &[u8]) -> usize
     least(number(head, 1), Answer::LIMIT)
 }
 
-// The case that a head asks for; what stands behind its 13 bytes does not matter.
+// The case that a head asks for; what stands after its 13 bytes does not matter.
 pub fn case_of(head: &[u8]) -> Case
     ensures { λ r. ⌜ r ≡ caseOf (now (head .entry)) ⌝ }
 {
@@ -85,7 +85,7 @@ pub fn case_of(head: &[u8]) -> Case
     Case::Broken
 }
 
-// How many bytes a case has behind its head.
+// How many bytes a case has after its head.
 pub fn size_of(c: Case) -> usize
     ensures { λ r. ⌜ r ≡ sizeOf c ⌝ }
 {

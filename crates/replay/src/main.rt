@@ -14,7 +14,7 @@ ghost use lib.ListN.{length};
 ghost use Rattle.io.specs.Counts.{Counts};
 ghost use Rattle.replay.specs.Replies.{goesOn};
 
-// Whether more is read behind a case.
+// Whether more is read after a case.
 fn goes_on(c: Case) -> bool
     ensures { λ r. ⌜ r ≡ goesOn c ⌝ }
 {
@@ -52,7 +52,7 @@ fn take_case(space: &mut [u8]) -> usize
     13 + fill(space, 13, end)
 }
 
-// One case; whether the feed goes on behind it. A line is written as soon as it is there.
+// One case; whether the feed goes on after it. A line is written as soon as it is there.
 fn answer_case(number: u64, space: &mut [u8], buffer: &mut [u8], line: &mut [u8]) -> bool
     requires { ⌜ (length (now space) ≡ 1048590) × ((length (now buffer) ≡ 1048576) × (length (now line) ≡ 2097218)) ⌝ }
 {

@@ -80,7 +80,7 @@ fn part_picked(run: &[u8], row: usize, nth: usize, line: &mut [u8]) -> usize
     put_line(a, part, part.len(), line)
 }
 
-// A case's bytes behind its head.
+// A case's bytes after its head.
 fn bytes_behind<'a>(feed: &'a [u8], size: usize) -> &'a [u8]
     requires { ⌜ 13 + size ≤ length (now feed) ⌝ }
     ensures { λ r. ⌜ now r ≡ bytesIn size (now (feed .entry)) ⌝ }

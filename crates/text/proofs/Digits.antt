@@ -130,7 +130,7 @@ wide-first k n h =
       beyond = λ z l. omega (arith, ap length (pointed-first k n h z), length-padded k n);
     }
 
--- with the last digit behind a tenth, which is as wide as it should be
+-- with the last digit after a tenth, which is as wide as it should be
 wide-more : (k n : ℕ) → 10 ≤ n → Wide (k - 1) (n / 10) → Wide k n
 wide-more zero n h t = record { none = λ e. refl; within = λ z l. absurd (omega arith); beyond = λ z l. absurd (omega arith) }
 wide-more (suc zero) n h t =
@@ -183,7 +183,7 @@ module _ (d : List ℕ) (at k e : ℕ) (h : at + length (lastPointed k e) ≤ le
   pub other-put : k ≢ 1 → set d at (48 + e) ≡ pasted d at (lastPointed k e)
   other-put z = sym (pasted-one d at (48 + e) (omega (arith, other-room z))) ∙ ap (pasted d at) (sym (last-other k e z))
 
--- a single digit, or `0.` and the digits behind it
+-- a single digit, or `0.` and the digits after it
 module _ (d : List ℕ) (at k n : ℕ) (z : n < 10) (h : at + length (pointed k n) ≤ length d) where
   pub single-room : k ≡ 0 → at + 1 ≤ length d
   single-room e = omega (arith, ap (λ (j : ℕ). length (pointed j n)) e, ap length (digits-one n z))
@@ -201,7 +201,7 @@ module _ (d : List ℕ) (at k n : ℕ) (z : n < 10) (h : at + length (pointed k 
       pasted-then d at (48 ∷ 46 ∷ []) (padded k n) (omega (arith, first-long e, length-padded k n))
       ∙ ap (pasted d at) (sym (pointed-first k n z e))
 
--- a tenth, and the last digit behind it
+-- a tenth, and the last digit after it
 module _ (k n : ℕ) (h : 10 ≤ n) where
   pub more-long : length (pointed k n) ≡ length (pointed (k - 1) (n / 10)) + length (lastPointed k (n % 10))
   more-long = ap length (pointed-more k n h) ∙ length-append (pointed (k - 1) (n / 10)) (lastPointed k (n % 10))

@@ -11,7 +11,7 @@ pub mod Pasting
 pub mod Lasts
 -- numbers as big-endian bytes, and back
 pub mod Numbers
--- bytes put one behind the other
+-- bytes put one after the other
 pub mod Puts
 -- decimal digits, one by one
 pub mod Digits

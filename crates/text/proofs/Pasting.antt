@@ -1,4 +1,4 @@
--- A list written into another: what stands where afterwards, and lists written one behind the other. Assumes nothing.
+-- A list written into another: what stands where afterwards, and lists written one after the other. Assumes nothing.
 use mathlib.Core.Path.{_≡_, refl, sym, _∙_, ap, ap₂}
 use mathlib.Core.List.{List, [], _∷_, _++_, append-assoc}
 use Prim.Native.Nat.{ℕ, _+_, _-_, _≤_, _<_, zero-le}
@@ -36,7 +36,7 @@ module _ (d : List ℕ) (at : ℕ) (vs : List ℕ) where
     front : length (take at d) ≡ at
     front = length-take-le at d (omega arith)
 
-    -- before, in and behind
+    -- before, in and after
     pub take-pasted : take at (pasted d at vs) ≡ take at d
     take-pasted = ap (take at) (pasted-yes h) ∙ take-at (take at d) (vs ++ drop (at + length vs) d) at front
 
@@ -99,7 +99,7 @@ module _ (d : List ℕ) (at : ℕ) (u v : List ℕ) (h : at + (length u + length
       ∙ ap (λ (l : List ℕ). take at d ++ l) (sym (append-assoc u v (drop (at + length (u ++ v)) d)))
       ∙ sym (pasted-yes d at (u ++ v) both)
 
-  -- the second behind the first
+  -- the second after the first
   pub pasted-then : pasted (pasted d at u) (at + length u) v ≡ pasted d at (u ++ v)
   pasted-then =
       pasted-yes (pasted d at u) (at + length u) v (omega (arith, length-pasted d at u))

@@ -1,4 +1,4 @@
--- Bytes put one behind the other into a buffer. Assumes nothing.
+-- Bytes put one after the other into a buffer. Assumes nothing.
 use mathlib.Core.Path.{_≡_, refl, sym, _∙_, ap, subst}
 use mathlib.Core.List.{List, [], _∷_, _++_}
 use Prim.Native.Nat.{ℕ, _+_}
@@ -16,7 +16,7 @@ puts-none d at = record { behind = omega arith; long = refl; is = λ h. sym (pas
 pub puts-pasted : (d : List ℕ) (at : ℕ) (bs : List ℕ) (n : ℕ) (d′ : List ℕ) → n ≡ length bs → d′ ≡ pasted d at bs → Puts d at bs (at + n) d′
 puts-pasted d at bs n d′ e f = record { behind = ap (λ (m : ℕ). at + m) e; long = ap length f ∙ length-pasted d at bs; is = λ h. f }
 
--- one behind the other
+-- one after the other
 pub puts-then : (d : List ℕ) (at : ℕ) (u : List ℕ) (r : ℕ) (d′ v : List ℕ) (q : ℕ) (d″ : List ℕ)
     → Puts d at u r d′ → Puts d′ r v q d″ → Puts d at (u ++ v) q d″
 puts-then d at u r d′ v q d″ x y = record {

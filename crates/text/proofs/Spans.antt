@@ -26,7 +26,7 @@ module _ (p : ℕ → Bool) where
   unfolding span
   span-go s i h e = rw (add-one i, drop-cons s i 0, e, one-add)
 
-  -- ---- what stands in a span, and behind it
+  -- ---- what stands in a span, and after it
 
   pub span-le : (s : List ℕ) → span p s ≤ length s
   unfolding span

@@ -9,7 +9,7 @@ pub mod Numbers
 pub mod Words
 -- a list written into another
 pub mod Pasting
--- bytes put one behind the other
+-- bytes put one after the other
 pub mod Puts
 -- decimal digits
 pub mod Digits

@@ -7,7 +7,7 @@ unfoldable pub bigEndian : ℕ → ℕ → List ℕ
 bigEndian zero n = []
 bigEndian (suc w) n = bigEndian w (n / 256) ++ ((n % 256) ∷ [])
 
--- the number that the bytes write behind a
+-- the number that the bytes write after a
 unfoldable pub numberFrom : ℕ → List ℕ → ℕ
 numberFrom a [] = a
 numberFrom a (x ∷ xs) = numberFrom (a * 256 + x) xs

@@ -60,7 +60,7 @@ pub fn pad(buf: &mut [u8], at: usize, k: usize, n: u64)
     }
 }
 
-// One digit where nothing stands behind a point; else `0.` and k digits.
+// One digit where nothing stands after a point; else `0.` and k digits.
 fn spread_first(buf: &mut [u8], at: usize, n: u64, k: u8) -> usize
     requires { ⌜ (n < 10) × (at + length (pointed k n) ≤ length (now buf)) ⌝ }
     ensures { λ r. ⌜ (r ≡ at + length (pointed k n)) × (now (buf .exit) ≡ pasted (now (buf .entry)) at (pointed k n)) ⌝ }
@@ -74,7 +74,7 @@ fn spread_first(buf: &mut [u8], at: usize, n: u64, k: u8) -> usize
     at + 2 + (k as usize)
 }
 
-// The last digit, and before it the point where it alone stands behind one.
+// The last digit, and before it the point where it alone stands after one.
 fn spread_last(buf: &mut [u8], at: usize, d: u64, k: u8) -> usize
     requires { ⌜ (d < 10) × (at + length (lastPointed k d) ≤ length (now buf)) ⌝ }
     ensures { λ r. ⌜ (r ≡ at + length (lastPointed k d)) × (now (buf .exit) ≡ pasted (now (buf .entry)) at (lastPointed k d)) ⌝ }
@@ -88,7 +88,7 @@ fn spread_last(buf: &mut [u8], at: usize, d: u64, k: u8) -> usize
     at + 1
 }
 
-// How many digits stand behind the point in a tenth of it.
+// How many digits stand after the point in a tenth of it.
 fn fewer(k: u8) -> u8
     ensures { λ r. ⌜ r ≡ k - 1 ⌝ }
 {
@@ -98,7 +98,7 @@ fn fewer(k: u8) -> u8
     k - 1
 }
 
-// The digits of n from a place on, a point before the last k, where there is room for them; the place behind them.
+// The digits of n from a place on, a point before the last k, where there is room for them; the place after them.
 fn spread(buf: &mut [u8], at: usize, n: u64, k: u8) -> usize
     requires { ⌜ at + length (pointed k n) ≤ length (now buf) ⌝ }
     ensures { λ r. ⌜ (r ≡ at + length (pointed k n)) × (now (buf .exit) ≡ pasted (now (buf .entry)) at (pointed k n)) ⌝ }

@@ -14,7 +14,7 @@ use borrow.Author.Tests.{lt-ltb, le-ltb, le-leb, ltb-true, ltb-false, leb-true}
 use Rattle.text.specs.Lists.{span}
 use Rattle.text_characters.specs.Utf8.{Scalar, encode}
 use Rattle.text_characters.specs.Chars.{charOf, Begun, Decoded}
-use Rattle.text_characters.specs.mirror.Decoding.{isAscii, AsciiOver, isTail, isScalar, kept, two, three, four, byFirst, decoded}
+use Rattle.text_characters.specs.mirror.Decoding.{isAscii, AsciiOver, isTail, isScalar, kept, two, three, four, byFirst, decoded, Paired}
 use Rattle.text_characters.specs.declared.utf8.Char.{Char}
 use Rattle.text.proofs.Classes.{Named, from, _or_, within, is-in, and-is}
 use Rattle.text.proofs.Spans.{span-jump}
@@ -130,6 +130,11 @@ encode-some c =
 kept-yes : (n low c : ℕ) → low ≤ c → Scalar c → kept n low c ≡ charOf n c
 unfolding kept
 kept-yes n low c h sc = rw (le-leb low c h, scalar-yes c sc)
+
+-- two bytes that are no longer form than they need be
+pub pair-two : (x y : ℕ) → 0xC2 ≤ x → x ≤ 0xDF → isTail y ≡ true → charOf 2 (x % 32 * 64 + y % 64) ≡ two x y
+unfolding two
+pair-two x y h k t = sym (rw t (kept-yes 2 0x80 (x % 32 * 64 + y % 64) (omega arith) (record { below = omega arith; outside = λ a b. omega arith })))
 
 -- the bytes of a code point give it back
 back2 : (c : ℕ) → c < 0x800 → (0xC0 + c / 64) % 32 * 64 + (0x80 + c % 64) % 64 ≡ c
@@ -340,3 +345,23 @@ module _ (s : List ℕ) (i : ℕ) (h : i < length s) (r : Char) where
           → Decoded (drop i s) r
       decoded-four w ew a b f =
           at-first (f ∙ rw (ey, ez, ew) (sym (first4 (getD s i 0) (getD (drop i s) 1 0) (getD (drop i s) 2 0) (getD (drop i s) 3 0) a b)))
+
+-- ---- a character of two bytes, by itself
+
+pair-sum : (x y a b : ℕ) → 0xC2 ≤ x → x ≤ 0xDF → a ≡ x % 32 → b ≡ y % 64 → (x % 32 * 64 + y % 64 ≡ a * 64 + b) × ((0x80 ≤ a * 64 + b) × (a * 64 + b ≤ 0x7FF))
+pair-sum x y a b low most ea eb =
+    let l : 2 ≤ a = omega arith in
+    let h : a ≤ 31 = omega arith in
+    let k : b ≤ 63 = omega arith in
+    (rw (ea, eb), (omega arith, omega arith))
+
+pub pair-there : (s : List ℕ) (i : ℕ) → i < length s → (y : ℕ) → y ≡ getD (drop i s) 1 0 → 0xC2 ≤ getD s i 0 → getD s i 0 ≤ 0xDF → isTail y ≡ true
+    → (a b : ℕ) → a ≡ getD s i 0 % 32 → b ≡ y % 64 → Paired (drop i s) (a * 64 + b)
+pair-there s i h y ey low most t a b ea eb n =
+    let w = pair-sum (getD s i 0) y a b low most ea eb in
+    let f : Decoded (drop i s) (charOf 2 (getD s i 0 % 32 * 64 + y % 64)) = decoded-two s i h _ y ey (omega (arith, low)) (omega (arith, most)) (pair-two (getD s i 0) y low most t) in
+    (subst (λ (c : ℕ). Decoded (drop i s) (charOf 2 c)) (w .0) f, w .1)
+
+-- it has two bytes
+pub pair-len : (s : List ℕ) (r : ℕ) → Paired s r → (r ≡ 0 → ⊥) → 2 ≡ decoded s .len
+pair-len s r p n = ap (λ (c : Char). c .len) (decoded-one s (charOf 2 r) (p n .0))

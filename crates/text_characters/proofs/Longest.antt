@@ -11,12 +11,12 @@ use lib.Seq.{length-take-le, take-length, drop-append-seam, take-append-seam, ta
 use borrow.Author.Tests.{ltb-true}
 use Rattle.text.specs.Lists.{Each, span}
 use Rattle.text_characters.specs.Utf8.{Scalar, encode, encodeAll, Utf8, LongestUtf8}
-use Rattle.text_characters.specs.Chars.{Begun, Decoded}
+use Rattle.text_characters.specs.Chars.{Begun}
 use Rattle.text_characters.specs.mirror.Decoding.{isAscii, decoded}
 use Rattle.text_characters.specs.declared.utf8.Char.{Char}
 use Rattle.text_characters.proofs.Chars as chars
 use Rattle.text.proofs.Spans.{span-le}
-use Rattle.text_characters.proofs.Decoding.{complete, sound, decoded-one, decoded-end, decoded-ascii, encode-some}
+use Rattle.text_characters.proofs.Decoding.{complete, sound, decoded-end, decoded-ascii, encode-some}
 
 -- ---- only one length fits
 
@@ -118,16 +118,13 @@ module _ (s : List ℕ) (i : ℕ) (w : Left s i) where
         then = λ m o. rw (e, add-assoc) (w .then (span isAscii (drop i s) + m) (ascii-more (drop i s) m (rw drop-drop (rw e at o))));
       }
 
-  module _ (r : Char) (d : Decoded (drop i s) r) where
-    len-is : r .len ≡ decoded (drop i s) .len
-    len-is = ap (λ (x : Char). x .len) (decoded-one (drop i s) r d)
-
-    pub left-room : (r .len ≡ 0 → ⊥) → i + r .len ≤ length s
+  module _ (n : ℕ) (len-is : n ≡ decoded (drop i s) .len) where
+    pub left-room : (n ≡ 0 → ⊥) → i + n ≤ length s
     left-room h =
         omega (arith, w .within, length-drop i s, len-is, chars.begun-within Scalar encode (λ (c : ℕ). c) (drop i s) (decoded (drop i s)) (begins-of (drop i s) (omega (arith, len-is))))
 
     -- over one character
-    pub left-char : (r .len ≡ 0 → ⊥) → Left s (i + r .len)
+    pub left-char : (n ≡ 0 → ⊥) → Left s (i + n)
     left-char h =
         record {
           within = left-room h;
@@ -136,7 +133,7 @@ module _ (s : List ℕ) (i : ℕ) (w : Left s i) where
               (w .then (decoded (drop i s) .len + m) (more (drop i s) m (omega (arith, len-is)) (rw drop-drop (rw len-is at o))));
         }
 
-    pub left-stop : r .len ≡ 0 → LongestUtf8 s i
+    pub left-stop : n ≡ 0 → LongestUtf8 s i
     left-stop z = rw add-zero at (w .then 0 (stop (drop i s) (sym len-is ∙ z)))
 
   pub left-end : length s ≤ i → LongestUtf8 s i

@@ -189,6 +189,10 @@ next-char-one s q r a b = next-one s q a ∙ sym (next-one s r b)
 
 -- ---- what the code reads at a place
 
+-- every character of two bytes is one of XML
+pub two-xml : (c : ℕ) {A : Type 0} → A × ((0x80 ≤ c) × (c ≤ 0x7FF)) → isXmlChar c ≡ true
+two-xml c w = let h = w .1 .0 in let k = w .1 .1 in xml-char-yes c (low (omega arith) (omega arith))
+
 pub next-end : (s : List ℕ) (i : ℕ) (r : Char) → length s ≤ i → r ≡ charOf 0 0 → NextChar (drop i s) r
 unfolding charAt
 next-end s i r h e = next-of (drop i s) r (e ∙ rw (drop-of-length-le s h))

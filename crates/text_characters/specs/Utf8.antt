@@ -29,7 +29,7 @@ pub record Utf8 (s : List ℕ) : Type 0 where
   pub scalars : Each Scalar chars
   pub is : s ≡ encodeAll chars
 
--- the longest beginning that is UTF-8: behind it stands the "start of first bad sequence"
+-- the longest beginning that is UTF-8: after it stands the "start of first bad sequence"
 pub record LongestUtf8 (s : List ℕ) (n : ℕ) : Type 0 where
   pub within : n ≤ length s
   pub begins : Utf8 (take n s)

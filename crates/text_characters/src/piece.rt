@@ -3,6 +3,7 @@
 use crate::utf8::Char;
 use crate::utf8::char_of;
 use crate::utf8::decode;
+use crate::utf8::pair;
 use crate::utf8::wide;
 use text::part::begins;
 ghost use mathlib.Core.Path.{_≡_};
@@ -71,6 +72,10 @@ pub fn next_char(s: &[u8], at: usize) -> Char
     }
     if x < 0x80 {
         return ascii_char(x);
+    }
+    let two = pair(s, at);
+    if two != 0 {
+        return char_of(2, two);
     }
     let c = decode(s, at);
     if is_xml_char(c.code) {

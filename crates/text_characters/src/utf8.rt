@@ -1,10 +1,10 @@
 // UTF-8: one character at a place, and the longest beginning of a text that is UTF-8.
 
 ghost use mathlib.Core.Path.{_≡_};
-ghost use Prim.Native.Nat.{_+_, _/_, _≤_};
+ghost use Prim.Native.Nat.{_+_, _/_, _≤_, _<_};
 ghost use lib.ListN.{length, drop, getD};
 ghost use Rattle.text_characters.specs.Chars.{charOf, Decoded};
-ghost use Rattle.text_characters.specs.mirror.Decoding.{isAscii, AsciiOver, isTail, isScalar, kept, two, three, four};
+ghost use Rattle.text_characters.specs.mirror.Decoding.{isAscii, AsciiOver, isTail, isScalar, kept, two, three, four, decoded, Paired};
 ghost use Rattle.text.specs.Lists.{span};
 ghost use Rattle.text_characters.specs.Utf8.{LongestUtf8};
 
@@ -46,7 +46,7 @@ fn is_scalar(c: u32) -> bool
     }
 }
 
-// The byte k places behind `at`, 0 past the end: 0 is no tail, so it ends a sequence as the end does.
+// The byte k places after `at`, 0 past the end: 0 is no tail, so it ends a sequence as the end does.
 fn byte(s: &[u8], at: usize, k: usize) -> u8
     ensures { λ r. ⌜ r ≡ getD (drop at (now (s .entry))) k 0 ⌝ }
 {
@@ -142,6 +142,38 @@ pub fn decode(s: &[u8], at: usize) -> Char
     char_of(0, 0)
 }
 
+// Most characters beyond ASCII have two bytes: the code point of one that begins at a place, or 0. A number and no struct, so that it goes
+// through no memory.
+pub(crate) fn pair(s: &[u8], at: usize) -> u32
+    requires { ⌜ at < length (now s) ⌝ }
+    ensures { λ r. ⌜ Paired (drop at (now (s .entry))) r ⌝ }
+{
+    let x = s[at];
+    if x < 0xC2 {
+        return 0;
+    }
+    if 0xDF < x {
+        return 0;
+    }
+    let y = byte(s, at, 1);
+    if !is_tail(y) {
+        return 0;
+    }
+    wide(x % 32) * 64 + wide(y % 64)
+}
+
+// How many bytes the character has that begins at a place, 0 where none does.
+fn char_len(s: &[u8], at: usize) -> usize
+    requires { ⌜ at < length (now s) ⌝ }
+    ensures { λ r. ⌜ r ≡ decoded (drop at (now (s .entry))) .len ⌝ }
+{
+    if pair(s, at) != 0 {
+        return 2;
+    }
+    let c = decode(s, at);
+    c.len
+}
+
 fn top_bit(b: u8) -> u8
     ensures { λ r. ⌜ (r ≡ b / 128) × (r ≤ 1) ⌝ }
 {
@@ -192,8 +224,7 @@ pub fn utf8_end(s: &[u8]) -> usize
 {
     let mut i = ascii_end(s, 0);
     while i < s.len() {
-        let c = decode(s, i);
-        let n = c.len;
+        let n = char_len(s, i);
         if n == 0 {
             return i;
         }

@@ -6,7 +6,7 @@ use lib.ListN.{length}
 use lib.Seq.{slice}
 use Rattle.answer.specs.declared.Answer.{Answer}
 use Rattle.answer.specs.Table.{answer}
-use Rattle.image.specs.Place.{over, foreign, version, broken, wholeImage}
+use Rattle.image.specs.Place.{over, foreign, version, kindless, broken, wholeImage}
 use Rattle.image_reading.specs.Reads.{HouseReads, HousePicks, HouseAnswers, HouseHands}
 use Rattle.image_reading.proofs.House.{house-picks-one}
 use Rattle.unit.specs.Exports.{PicksAt}
@@ -16,7 +16,8 @@ use Rattle.unit.proofs.Picking.{part-there, picks-both}
 pub read-row : (run : List ℕ) (a : Answer) → HouseReads run a → a .row ≡ 0
 read-row run a (over h e) = ap (λ (z : Answer). z .row) e
 read-row run a (foreign h f e) = ap (λ (z : Answer). z .row) e
-read-row run a (version h l k v e) = ap (λ (z : Answer). z .row) e
+read-row run a (version h l k v w e) = ap (λ (z : Answer). z .row) e
+read-row run a (kindless h k b e) = ap (λ (z : Answer). z .row) e
 read-row run a (broken h l i k f s q n r e) = ap (λ (z : Answer). z .row) e
 read-row run a (wholeImage h n w e) = ap (λ (z : Answer). z .row) e
 

@@ -3,9 +3,5 @@
 pub mod Exporting
 -- an answer of a pick and its part
 pub mod Picking
--- one item of an image
-pub mod Standing
--- the items of an image one after the other
-pub mod Walking
 -- what the programs need of check's answers
 pub mod Programs

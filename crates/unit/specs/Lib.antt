@@ -1,5 +1,3 @@
--- The definitions of `unit`; what check may answer is in `file`.
--- one item of an image
-pub mod Items
+-- The definitions of `unit`; what check may answer is in `file`, what an item says in `image_items`.
 -- what the exports for C answer
 pub mod Exports

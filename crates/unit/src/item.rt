@@ -1,75 +1,35 @@
-// The entry for items: what stands at a place of an image, judged alone. Who goes over the items of an image so pays for each once, and
-// knows of each value in which group it stands.
-use answer::Answer;
-use image::picker::head;
-use image::reader::item_end;
-use list::lookup::cell;
-use list::table::SIZE;
-use list_house::tables::rows;
-ghost use mathlib.Core.Path.{_≡_};
-ghost use Rattle.answer.specs.Table.{answer, picked, brokenImage};
-ghost use Rattle.unit.specs.Items.{HouseItem};
+// The entries for items: where the items of the image that a run begins with begin, and what stands at a place of it.
+use image_items::item::Item;
+use image_reading::front::Head;
+ghost use Rattle.answer.specs.Table.{answer};
+ghost use Rattle.image_reading.specs.Forms.{Headed};
+ghost use Rattle.image_items.specs.Items.{HouseItem};
 
-// The item's row, 0 at the closing byte, where its value's own bytes begin, and how many they are. The next item stands after these.
-pub struct Item {
-    pub answer: Answer,
-    pub size: usize,
-}
-
-fn wide(x: u8) -> usize
-    ensures { λ r. ⌜ r ≡ x ⌝ }
+// The kind byte of its list, and the place of its first item; 0 and 0 where the run begins as no image does.
+pub fn items(run: &[u8]) -> Head
+    ensures { λ h. ⌜ Headed (now (run .entry)) (h .kind) (h .from) ⌝ }
 {
-    x as usize
+    image_reading::front::head_of(run)
 }
 
-// No whole item stands there.
-fn broken(from: usize) -> Item
-    ensures { λ r. ⌜ (r .answer ≡ brokenImage from) × (r .size ≡ 0) ⌝ }
-{
-    Item {
-        answer: Answer::broken_image(from),
-        size: 0,
-    }
-}
-
-// A whole one does: its row, and the value's own bytes, of which a group and the closing byte have none.
-fn told(row: usize, place: usize, size: usize) -> Item
-    ensures { λ r. ⌜ (r .answer ≡ picked row place) × (r .size ≡ size) ⌝ }
-{
-    Item {
-        answer: Answer::picked(row, place),
-        size,
-    }
-}
-
+// The item's row, where its value's own bytes begin, and how many they are; or that none stands there.
 pub fn item_at(run: &[u8], from: usize) -> Item
     ensures { λ r. ⌜ HouseItem (now (run .entry)) from (r .answer) (r .size) ⌝ }
 {
-    if run.len() <= from {
-        return broken(from);
-    }
-    let row = wide(run[from]);
-    let at = from + 1;
-    if row == 0 {
-        return told(0, at, 0);
-    }
-    let rows = rows();
-    if cell(&rows, 0, SIZE) < row {
-        return broken(from);
-    }
-    let end = item_end(&rows, run, row, at);
-    if end == 0 {
-        return broken(from);
-    }
-    // A group's item ends where its value would begin; a leaf's does not, for every value has a byte.
-    if end == at {
-        return told(row, at, 0);
-    }
-    let place = at + head(&rows, row);
-    told(row, place, end - place)
+    image_items::item::item_at(run, from)
 }
 
-// The same for C: the code is the result.
+// The same for C: the place is the result.
+#[no_mangle]
+pub extern "C" fn kto_items(run: &[u8], kind: &mut u64) -> u64
+    ensures { λ r. ⌜ Headed (now (run .entry)) (now (kind .exit)) r ⌝ }
+{
+    let head = items(run);
+    *kind = head.kind as u64;
+    head.from as u64
+}
+
+// The code is the result.
 #[no_mangle]
 pub extern "C" fn kto_item(
     run: &[u8],

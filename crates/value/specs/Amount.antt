@@ -15,7 +15,7 @@ signText unsigned = []
 signText plus = ascii "+"
 signText minus = ascii "-"
 
--- a point or none, and the digits behind it
+-- a point or none, and the digits after it
 pub data Places : Type 0 where
   noPoint : Places
   point : List ℕ → Places

@@ -20,7 +20,7 @@ abbrev pub SaysTruth : List ℕ → Bool → Type 0
 SaysTruth t true = (t ≡ ascii "true") ⊎ (t ≡ ascii "1")
 SaysTruth t false = (t ≡ ascii "false") ⊎ (t ≡ ascii "0")
 
--- the number that digits write behind a
+-- the number that digits write after a
 unfoldable pub decimalFrom : ℕ → List ℕ → ℕ
 decimalFrom a [] = a
 decimalFrom a (x ∷ xs) = decimalFrom (a * 10 + (x - 48)) xs

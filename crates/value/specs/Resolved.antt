@@ -7,7 +7,7 @@ use lib.Dec.{eqb}
 use lib.ListN.{length, drop}
 use Rattle.text_characters.specs.mirror.Resolving.{charAt}
 
--- c before what was read behind it
+-- c before what was read after it
 abbrev pub ahead : ℕ → Option (List ℕ) → Option (List ℕ)
 ahead c none = none
 ahead c (some cs) = some (c ∷ cs)

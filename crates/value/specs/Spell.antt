@@ -25,7 +25,7 @@ unfoldable pub frontOff : List ℕ → List ℕ
 frontOff [] = []
 frontOff (x ∷ xs) = cond (isBlank x) (frontOff xs) (x ∷ xs)
 
--- x before what is left behind it; a blank that nothing is left behind goes too
+-- x before what is left after it; a blank that nothing is left after goes too
 abbrev pub before : ℕ → List ℕ → List ℕ
 before x [] = cond (isBlank x) [] (x ∷ [])
 before x (y ∷ ys) = x ∷ y ∷ ys
@@ -127,7 +127,7 @@ momentWhen t y mo d h mi s f z =
     when (isReal y mo d && (isClock h mi s && (isFraction f && (isZone z && same t (dayText y mo d (84 ∷ clockText h mi s (fractionText f (zoneText z []))))))))
     (moment y mo d h mi s (micros f) (offset z))
 
--- l is what stands behind the seconds
+-- l is what stands after the seconds
 abbrev pub momentBehind : List ℕ → List ℕ → Option Value
 momentBehind t l =
     momentWhen t (twoAt 0 t * 100 + twoAt 2 t) (twoAt 5 t) (twoAt 8 t) (twoAt 11 t) (twoAt 14 t) (twoAt 17 t) (fractionOf l) (zoneOf (drop (fractionLength (fractionOf l)) l))

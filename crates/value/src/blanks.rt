@@ -26,7 +26,7 @@ pub fn part_of(s: &[u8], a: usize, b: usize) -> &[u8]
     &s[a..b]
 }
 
-// Where the last character from `lo` on stands that is no blank: the place behind it, `lo` where there is none.
+// Where the last character from `lo` on stands that is no blank: the place after it, `lo` where there is none.
 fn ink_end(s: &[u8], lo: usize) -> usize
     requires { ⌜ lo ≤ length (now s) ⌝ }
     ensures { λ r. ⌜ InkEnd (now (s .entry)) lo r ⌝ }

@@ -1,4 +1,4 @@
-// REF and TXTk: one loop for both, over raw text with entities. Its turn is a character of any kind, and the run of quiet bytes behind it,
+// REF and TXTk: one loop for both, over raw text with entities. Its turn is a character of any kind, and the run of quiet bytes after it,
 // each of which is a character of the class by itself: these are counted at once.
 
 use crate::judged::Judged;

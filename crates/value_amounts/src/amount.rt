@@ -46,7 +46,7 @@ fn shift(z: usize) -> u64
     }
 }
 
-// Behind the point: z zeros were read behind c over 10^k. Zeros without end cost nothing but time.
+// After the point: z zeros were read after c over 10^k. Zeros without end cost nothing but time.
 fn frac(t: &[u8], at: usize, neg: bool, whole: u64) -> Judged
     requires { ⌜ (at ≤ length (now t)) × (whole < 10 ^ 18) ⌝ }
     ensures { λ r. ⌜ r ≡ answer (fracOf neg whole 0 whole 0 (drop at (now (t .entry)))) ⌝ }
@@ -103,7 +103,7 @@ fn whole(t: &[u8], at: usize, neg: bool) -> Judged
     finish(neg, c, 0)
 }
 
-// Behind the sign: a digit, or a point with a digit behind it.
+// After the sign: a digit, or a point with a digit after it.
 fn signed(t: &[u8], at: usize, neg: bool) -> Judged
     requires { ⌜ at ≤ length (now t) ⌝ }
     ensures { λ r. ⌜ r ≡ answer (signedOf neg (drop at (now (t .entry)))) ⌝ }

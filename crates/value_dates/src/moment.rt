@@ -1,4 +1,4 @@
-// DTM: the parts behind the day.
+// DTM: the parts after the day.
 
 use crate::day::day_at;
 use crate::day::mark;
@@ -16,7 +16,7 @@ ghost use Rattle.value.specs.mirror.Digits.{One, FractionAt, ZoneAt, ClockAt, M
 ghost use Rattle.value.specs.Day.{Real};
 ghost use Rattle.value.specs.Judged.{FormedAny};
 
-// A fraction of a second in microseconds, and the place behind it.
+// A fraction of a second in microseconds, and the place after it.
 struct Split {
     micros: u32,
     end: usize,
@@ -123,7 +123,7 @@ fn zone(t: &[u8], at: usize) -> u16
     9999
 }
 
-// The parts behind a day that was read.
+// The parts after a day that was read.
 fn clocked(t: &[u8], year: u16, month: u8, day: u8) -> Judged
     ensures { λ r. ⌜ ClockAt (now (t .entry)) year month day r ⌝ }
 {

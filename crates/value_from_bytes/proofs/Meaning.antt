@@ -1,4 +1,4 @@
--- What the end of a value means: for a leaf of a list, behind the bytes of a value of its type, and 0 where no value's bytes stand. Assumes nothing.
+-- What the end of a value means: for a leaf of a list, after the bytes of a value of its type, and 0 where no value's bytes stand. Assumes nothing.
 use mathlib.Core.Path.{_≡_, refl, sym, _∙_, ap, subst}
 use mathlib.Core.Bool.{Bool, true, false, cond, and-false}
 use mathlib.Core.List.{List, _++_}

@@ -9,7 +9,7 @@ use Rattle.list.specs.Table.{kindOf}
 use Rattle.list.specs.Sound.{wordCount}
 use Rattle.value.specs.Value.{Value, IsValue, bytes}
 
--- the bytes of a value of type f stand at a place of s, and r is the place behind them
+-- the bytes of a value of type f stand at a place of s, and r is the place after them
 pub record Taken (f : Leaf) (s : List ℕ) (at r : ℕ) : Type 0 where
   pub value : Value
   pub is : IsValue f value
@@ -20,7 +20,7 @@ pub record Taken (f : Leaf) (s : List ℕ) (at r : ℕ) : Type 0 where
 abbrev pub None : Leaf → List ℕ → ℕ → Type 0
 None f s at = (v : Value) (u : List ℕ) → IsValue f v → drop at s ≡ bytes v ++ u → ⊥
 
--- the place behind the value that stands there; 0 where none does
+-- the place after the value that stands there; 0 where none does
 pub data Ends (f : Leaf) (s : List ℕ) (at r : ℕ) : Type 0 where
   taken : Taken f s at r → Ends f s at r
   nothing : r ≡ 0 → None f s at → Ends f s at r

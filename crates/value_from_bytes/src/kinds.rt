@@ -34,7 +34,7 @@ fn span(s: &[u8], at: usize) -> usize
     2 + wide(get16(s, at))
 }
 
-// The place behind the value that begins at a place, 0 where none does: a function for each kind, which knows its width.
+// The place after the value that begins at a place, 0 where none does: a function for each kind, which knows its width.
 fn reference_end(s: &[u8], at: usize) -> usize
     requires { ⌜ at ≤ length (now s) ⌝ }
     ensures { λ r. ⌜ r ≡ valueEnd 2 0 0 (now (s .entry)) at ⌝ }

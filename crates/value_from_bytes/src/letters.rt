@@ -124,7 +124,7 @@ fn char_len(b: &[u8], at: usize) -> usize
     0
 }
 
-// TXTk: runs of ASCII, one byte a character, and the characters between them; `more` counts the bytes behind the first of each.
+// TXTk: runs of ASCII, one byte a character, and the characters between them; `more` counts the bytes after the first of each.
 pub(crate) fn is_writing(b: &[u8], k: usize) -> bool
     ensures { λ r. ⌜ r ≡ isWriting k (now (b .entry)) ⌝ }
 {

@@ -1,5 +1,5 @@
 -- The laws of `value_to_bytes`.
--- a value's parts put one behind the other
+-- a value's parts put one after the other
 pub mod Putting
 -- three capitals, byte by byte
 pub mod Currency

@@ -1,4 +1,4 @@
--- A value's parts put one behind the other, and how many bytes they have. Assumes nothing.
+-- A value's parts put one after the other, and how many bytes they have. Assumes nothing.
 use mathlib.Core.Path.{_≡_, refl, sym, _∙_, ap, ap₂, subst}
 use mathlib.Core.Bool.{Bool, true, false, not, true≢false}
 use mathlib.Core.List.{List, [], _∷_, _++_, append-assoc}
@@ -46,7 +46,7 @@ no-room d at n b x bs e g =
     let h : at + n ≤ length d → ⊥ = λ k. true≢false (sym (x .1 k) ∙ not-true b g) in
     record { count = e; is = sym (pasted-no d at bs (omega arith)) }
 
--- ---- one list behind the other
+-- ---- one list after the other
 
 pub then : (d d₁ d₂ : List ℕ) (at p : ℕ) (u v : List ℕ) → d₁ ≡ pasted d at u → d₂ ≡ pasted d₁ p v → p ≡ at + length u
     → at + (length u + length v) ≤ length d → d₂ ≡ pasted d at (u ++ v)

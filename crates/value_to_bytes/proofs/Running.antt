@@ -63,7 +63,7 @@ stands-one gt = refl
 stands-one quot = refl
 stands-one apos = refl
 
--- ---- spans of lists one behind the other
+-- ---- spans of lists one after the other
 
 span-ends : (p : ℕ → Bool) (l : List ℕ) → span p (drop (span p l) l) ≡ 0
 unfolding span

@@ -6,6 +6,7 @@ use mathlib.Core.List.{List, [], _∷_, _++_, append-nil}
 use Prim.Native.Nat.{ℕ, zero, suc, _+_, _-_, _*_, _≤_, _<_, zero-le}
 use native.Mathlib.Numerals.{add-one}
 use native.Mathlib.Omega.{arith}
+use lib.Dec.{eqb}
 use lib.ListN.{length, getD, take, drop, length-append, length-drop, length-take, drop-of-length-le}
 use lib.Seq.{slice, drop-cons, drop-drop, getD-drop}
 use borrow.Author.Tests.{ne-eqb}
@@ -78,9 +79,6 @@ module _ (t : List ℕ) (i end : ℕ) (e : end ≡ i + span isPlain (drop i t)) 
       (sym (part-take i n t) ∙ ap (λ (m : ℕ). slice i m t) (sym e))
       (drop-drop n i t ∙ ap (λ (m : ℕ). drop m t) (sym e))
 
-  pub run-within : i ≤ length t → end ≤ length t
-  run-within h = omega (arith, span-le isPlain (drop i t), length-drop i t)
-
   pub run-long : i ≤ length t → length (slice i end t) ≡ end - i
   run-long h =
       let n = span isPlain (drop i t) in
@@ -93,7 +91,7 @@ module _ (t : List ℕ) (i end : ℕ) (e : end ≡ i + span isPlain (drop i t)) 
       not-plain (isMarked (getD t end 0))
       (ap (λ (x : ℕ). isPlain x) (ap (λ (m : ℕ). getD t m 0) e ∙ sym (getD-drop i t n 0)) ∙ span-next isPlain (drop i t) (omega (arith, length-drop i t)))
 
--- a byte, and what is behind it
+-- a byte, and what is after it
 pub escaped-at : (t : List ℕ) (i : ℕ) → i < length t → escaped (drop i t) ≡ escape (getD t i 0) ++ escaped (drop (i + 1) t)
 unfolding escaped
 escaped-at t i h = rw (add-one i) (ap escaped (drop-cons t i 0 h))
@@ -102,20 +100,14 @@ pub escaped-end : (t : List ℕ) (i : ℕ) → length t ≤ i → escaped (drop 
 unfolding escaped
 escaped-end t i h = ap escaped (drop-of-length-le t h)
 
--- a text without a mark
-pub all-plain : (t : List ℕ) (end : ℕ) → end ≡ 0 + span isPlain (drop 0 t) → length t ≤ end → escaped t ≡ slice 0 (length t) t
-all-plain t end e h =
-    let q : end ≡ length t = omega (arith, run-within t 0 end e zero-le) in
-    run-part t 0 end e ∙ ap (λ (v : List ℕ). slice 0 end t ++ v) (escaped-end t end h) ∙ append-nil (slice 0 end t) ∙ ap (λ (m : ℕ). slice 0 m t) q
-
--- ---- a loop that has counted n bytes up to i
+-- ---- a loop that has counted n bytes beyond one for each up to i
 
 pub record Counting (t : List ℕ) (n i : ℕ) : Type 0 where
   pub upto : i ≤ length t
-  pub most : n ≤ 5 * i
-  pub here : n + length (escaped (drop i t)) ≡ length (escaped t)
+  pub most : n ≤ 4 * i
+  pub here : i + n + length (escaped (drop i t)) ≡ length (escaped t)
 
-pub counting-again : (t : List ℕ) (n i w : ℕ) → Counting t n i → i < length t → (w ≡ length (escape (getD t i 0))) × (w ≤ 5) → Counting t (n + w) (i + 1)
+pub counting-again : (t : List ℕ) (n i w : ℕ) → Counting t n i → i < length t → (1 + w ≡ length (escape (getD t i 0))) × (w ≤ 4) → Counting t (n + w) (i + 1)
 counting-again t n i w c h e = record {
   upto = omega arith;
   most = omega (arith, c .most, e .1);
@@ -124,8 +116,24 @@ counting-again t n i w c h e = record {
       (arith, c .here, e .0, ap length (escaped-at t i h), length-append (escape (getD t i 0)) (escaped (drop (i + 1) t)));
 }
 
-pub counting-end : (t : List ℕ) (n i : ℕ) → Counting t n i → length t ≤ i → length t ≤ 65535 → (n ≡ length (escaped t)) × (n ≤ 327675)
-counting-end t n i c h k = (omega (arith, c .here, ap length (escaped-end t i h)), omega (arith, c .most, c .upto))
+pub counting-end : (t : List ℕ) (n i : ℕ) → Counting t n i → length t ≤ i → length t ≤ 65535 → (length t + n ≡ length (escaped t)) × (length t + n ≤ 327675)
+counting-end t n i c h k = (omega (arith, c .here, c .upto, ap length (escaped-end t i h)), omega (arith, c .most, c .upto))
+
+-- no byte is written by more than five
+escape-most : (x : ℕ) → length (escape x) ≤ 5
+unfolding escape
+escape-most x = go (eqb x 38) (eqb x 60) (eqb x 62)
+  where
+    go : (a b c : Bool) → length (cond a (word amp) (cond b (word lt) (cond c (word gt) (x ∷ [])))) ≤ 5
+    go true b c = omega arith
+    go false true c = omega arith
+    go false false true = omega arith
+    go false false false = omega arith
+
+pub escaped-most : (t : List ℕ) → length (escaped t) ≤ 5 * length t
+unfolding escaped
+escaped-most [] = omega arith
+escaped-most (x ∷ t) = omega (arith, length-append (escape x) (escaped t), escape-most x, escaped-most t)
 
 -- ---- a loop that has put all up to i, and is to go on at `to`
 
@@ -133,10 +141,11 @@ pub record Spreading (t d₀ : List ℕ) (at : ℕ) (d : List ℕ) (i to : ℕ) 
   pub within : i ≤ length t
   pub room : to + length (escaped (drop i t)) ≤ length d
   pub long : length d ≡ length d₀
+  pub sum : to + length (escaped (drop i t)) ≡ at + length (escaped t)
   pub here : pasted d to (escaped (drop i t)) ≡ pasted d₀ at (escaped t)
 
 pub spread-start : (t d : List ℕ) (at : ℕ) → at + length (escaped t) ≤ length d → Spreading t d at d 0 at
-spread-start t d at h = record { within = zero-le; room = h; long = refl; here = refl }
+spread-start t d at h = record { within = zero-le; room = h; long = refl; sum = refl; here = refl }
 
 module _ (t d₀ : List ℕ) (at : ℕ) (d : List ℕ) (i to end : ℕ) (s : Spreading t d₀ at d i to) (e : end ≡ i + span isPlain (drop i t)) where
   part : List ℕ
@@ -148,10 +157,17 @@ module _ (t d₀ : List ℕ) (at : ℕ) (d : List ℕ) (i to end : ℕ) (s : Spr
   rest-long : length (escaped (drop i t)) ≡ (end - i) + length (escaped (drop end t))
   rest-long = ap length (run-part t i end e) ∙ omega (arith, length-append (slice i end t) (escaped (drop end t)), part-long)
 
+  -- where the run ends
+  pub spread-within : to + (end - i) ≤ length d
+  spread-within = omega (arith, s .room, rest-long)
+
   pub spread-room : end < length t → to + (end - i) + length (escape (getD t end 0)) ≤ length d
   spread-room h =
       omega
       (arith, s .room, rest-long, ap length (escaped-at t end h), length-append (escape (getD t end 0)) (escaped (drop (end + 1) t)))
+
+  pub spread-sum : length t ≤ end → to + (end - i) ≡ at + length (escaped t)
+  spread-sum h = omega (arith, s .sum, rest-long, ap length (escaped-end t end h))
 
   pub spread-end : length t ≤ end → pasted d to (slice i end t) ≡ pasted d₀ at (escaped t)
   spread-end h =
@@ -174,6 +190,7 @@ module _ (t d₀ : List ℕ) (at : ℕ) (d : List ℕ) (i to end : ℕ) (s : Spr
           within = omega arith;
           room = omega (arith, s .room, l, b, g .0, part-long);
           long = b ∙ s .long;
+          sum = omega (arith, s .sum, l, g .0, part-long);
           here =
               ap₂ (λ (z : List ℕ) (m : ℕ). pasted z m v) (g .1) (g .0)
               ∙ pasted-then d₁ (to + (end - i)) x v (omega (arith, s .room, l, a, part-long))

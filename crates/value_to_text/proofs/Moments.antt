@@ -1,4 +1,4 @@
--- Days and moments, made of numbers and signs that are put one behind the other. Assumes nothing.
+-- Days and moments, made of numbers and signs that are put one after the other. Assumes nothing.
 use mathlib.Core.Path.{_≡_, refl, sym, _∙_, ap}
 use mathlib.Core.Logic.{_≢_}
 use mathlib.Core.List.{List, [], _∷_, _++_}

@@ -100,7 +100,7 @@ unfolding padded
 digits-padded zero n = tt
 digits-padded (suc k) n = all-append isDigit (padded k (n / 10)) ((48 + n % 10) ∷ []) (digits-padded k (n / 10)) (digit-yes (n % 10) (omega arith), tt)
 
--- the digits before the point and those behind it, read as one number
+-- the digits before the point and those after it, read as one number
 joined : (k c : ℕ) → decimal (inDigits (c / 10 ^ k) ++ padded k c) ≡ c
 unfolding padded
 joined zero c = ap decimal (append-nil (inDigits (c / 1))) ∙ figures (c / 1) .is ∙ div-one c
@@ -137,7 +137,7 @@ amount-spelt (suc k) c b =
       least = b .least;
     }) refl b
 
--- "amounts with their smallest scale": the last digit behind a point is no zero
+-- "amounts with their smallest scale": the last digit after a point is no zero
 last-same : (s t : List ℕ) (x y : ℕ) → s ++ (x ∷ []) ≡ t ++ (y ∷ []) → x ≡ y
 last-same [] [] x y e = cc
 last-same [] (b ∷ t) x y e = absurd (omega (arith, ap length e, length-append t (y ∷ [])))
@@ -220,7 +220,7 @@ only-fraction (decimals (suc (suc (suc zero))) n) g u e =
     three-of u (λ z. g .2 (omega arith)) a b (omega arith) ∙ ap (decimals 3) q
 only-fraction (decimals (suc (suc (suc (suc k)))) n) g u e = absurd (omega (arith, g .0 .1))
 
--- the zone of z, behind the tests
+-- the zone of z, after the tests
 abbrev zoneBy : Bool → Bool → ℕ → Zone
 zoneBy a b z = cond a zulu (cond b (behind ((840 - z) / 60) ((840 - z) % 60)) (ahead ((z - 840) / 60) ((z - 840) % 60)))
 

@@ -16,6 +16,7 @@ use Rattle.text.specs.Pasting.{pasted}
 use Rattle.text.proofs.Parts.{part-take, part-length}
 use Rattle.text.proofs.Pasting.{pasted-none}
 use Rattle.list.specs.Table.{cell, words, longer, wordsIn}
+use Rattle.list.proofs.words.Split.{nth-words}
 use Rattle.value_to_text.specs.Script.{truthText}
 use Rattle.value_to_text.specs.Raw.{escaped}
 use Rattle.value_to_text.specs.mirror.Stored.{textRaw, wordRaw, raws, rawText}
@@ -69,7 +70,7 @@ pub word-most : (t pool : List ℕ) (r n : ℕ) (w : List ℕ) → w ≡ getD (w
 word-most t pool r n w e =
     let a = cell t r 6 in
     let b = cell t r 7 in
-    omega (arith, ap length e, words-most (slice a b pool) n, part-length a b pool)
+    omega (arith, ap length (e ∙ sym (nth-words (slice a b pool) n)), words-most (slice a b pool) n, part-length a b pool)
 
 -- ---- yes or no
 

@@ -75,7 +75,7 @@ fn put_offset(buf: &mut [u8], at: usize, sign: &[u8], m: u16)
     pad(buf, at + 4, 2, (m % 60) as u64);
 }
 
-// "offset zero as `Z`"; the place behind.
+// "offset zero as `Z`"; the place after.
 fn put_zone(buf: &mut [u8], at: usize, z: u16) -> usize
     requires { ⌜ at + 6 ≤ length (now buf) ⌝ }
     ensures { λ r. ⌜ (r ≡ at + length (zoneRaw z)) × ((r ≤ at + 6) × (now (buf .exit) ≡ pasted (now (buf .entry)) at (zoneRaw z))) ⌝ }

@@ -296,12 +296,12 @@ content-run (full t i e k) r (suc d) n ns g u h b =
     ∙ content-run i 0 d (t .name) (n ∷ ns) e (on k (endOn n g u)) (h .1) (h .2)
     ∙ content-run k 0 (suc d) n ns g u (h .3) b
 
--- the root, from a state that begins its name, and the blanks behind it
+-- the root, from a state that begins its name, and the blanks after it
 done-run : (a : List ℕ) → Blanks a → run (at done) a ≡ at done
 unfolding next run
 done-run a b = ap (run (at done)) (sym (append-nil a)) ∙ loop done (λ x e. rw e refl) a [] b
 
--- what an element is rendered to behind its `<`
+-- what an element is rendered to after its `<`
 abbrev pub inner : Markup → List ℕ → List ℕ
 inner noMore a = []
 inner (piece p k) a = []

@@ -191,7 +191,7 @@ LS′ (at s) t = L s t
 pub record LS (st : St) (t : List ℕ) : Type 0 where
   pub is : LS′ st t
 
--- a state behind a test
+-- a state after a test
 pub pick : {Q : Type 0} (b : Bool) {u v : St} {t : List ℕ} → LS (cond b u v) t → (b ≡ true → LS u t → Q) → (b ≡ false → LS v t → Q) → Q
 pick true h f g = f refl h
 pick false h f g = g refl h
@@ -378,7 +378,7 @@ content-lead r d n R x t cut (more p) e h =
     let v = h .then in
     record { tree = piece (o .piece) (v .tree); good = (o .good, plain-cuts r (o .piece) (o .plain), subst (λ (m : ℕ). GoodAfter d m (v .tree)) (sym (plain-brackets r (o .piece) (o .plain))) (v .good)); gap = v .gap; blanks = v .blanks; rest = v .rest; is = front x (h .bytes) (on (v .tree) (endOn n (v .gap) (v .rest))) (spell (o .piece)) (o .is) t (cc (h .is, v .is)); then = v .then }
 
--- an element, and then what stands behind it
+-- an element, and then what stands after it
 pub data ElementL (d : ℕ) (R : List ℕ → Type 0) (t : List ℕ) : Type 0 where
   e-empty : (g : Tag) → GoodTag g → (u : List ℕ) → t ≡ 60 ∷ tagOn g (47 ∷ 62 ∷ u) → R u → ElementL d R t
   e-full : (g : Tag) → GoodTag g → (i : Markup) → GoodAfter d 0 i → (b : List ℕ) → Blanks b → (u : List ℕ) → t ≡ 60 ∷ tagOn g (62 ∷ on i (endOn (g .name) b u)) → R u → ElementL d R t

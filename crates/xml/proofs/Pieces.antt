@@ -21,7 +21,7 @@ abbrev pub Plain : Piece → Type 0
 Plain (char c) = 128 ≤ c
 Plain (entity e) = Unit {0}
 
--- behind a test
+-- after a test
 by : {Q : Type 0} (b : Bool) {u v r : Read} → cond b u v ≡ r → (b ≡ true → u ≡ r → Q) → (b ≡ false → v ≡ r → Q) → Q
 by true h f g = f refl h
 by false h f g = g refl h
@@ -108,7 +108,7 @@ takes-bad : {Q : Type 0} (l : List ℕ) → takes l bad ≡ true → Q
 takes-bad [] h = absurd (true≢false (sym h))
 takes-bad (y ∷ l) h = absurd (true≢false (sym h))
 
--- behind a test
+-- after a test
 taken : {Q : Type 0} (b : Bool) (u v : Read) (l : List ℕ) → takes l (cond b u v) ≡ true → (b ≡ true → takes l u ≡ true → Q) → (b ≡ false → takes l v ≡ true → Q) → Q
 taken true u v l h f g = f refl h
 taken false u v l h f g = g refl h
@@ -314,7 +314,7 @@ pub data Seen (p : Piece) : Type 0 where
   s-short : (c : ℕ) → p ≡ char c → lead c ≡ all → encode c ≡ c ∷ [] → Seen p
   s-long : Plain p → (x : ℕ) (l : List ℕ) (k : Part) → spell p ≡ x ∷ l → lead x ≡ more k → takes l (more k) ≡ true → Seen p
 
--- what a first byte says, and the bytes behind it
+-- what a first byte says, and the bytes after it
 lead-high : (x : ℕ) → 128 ≤ x → lead x ≡ long x
 unfolding lead
 lead-high x h = rw (le-ltb x 128 h)

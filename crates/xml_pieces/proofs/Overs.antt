@@ -50,7 +50,7 @@ module _ (L : List ℕ → Type 0) where
   pub over-last : (x : ℕ) (t : List ℕ) (i : ℕ) → L (x ∷ []) → Over L (x ∷ t) i (On (i + 1))
   over-last x t i h = (1, refl, record { within = suc-le-suc zero-le; is = h })
 
-  -- a byte, behind which M says what is still to come
+  -- a byte, after which M says what is still to come
   module _ (M : List ℕ → Type 0) (x : ℕ) (to : (l : List ℕ) → M l → L (x ∷ l)) (from : (l : List ℕ) → L (x ∷ l) → M l) (not-none : L [] → ⊥) where
     pub over-byte : (t : List ℕ) (i : ℕ) (r : Went) → Over M t (i + 1) r → Over L (x ∷ t) i r
     over-byte t i (On e) h =

@@ -140,7 +140,7 @@ module _ (x : ℕ) where
   unfolding lead
   lead-one h k = rw (le-ltb x 128 (omega arith), le-ltb x 194 h, lt-ltb x 224 k) refl
 
-  -- three bytes and four, by the byte behind
+  -- three bytes and four, by the byte after
   third : 224 ≤ x → lead x ≡ cond (ltb x 225) (more e0) (cond (ltb x 237) (more two) (cond (ltb x 238) (more ed) (cond (ltb x 239) (more two) (cond (ltb x 240) (more ef) (cond (ltb x 241) (more f0) (cond (ltb x 244) (more three) (cond (ltb x 245) (more f4) bad)))))))
   unfolding lead
   third h = rw (le-ltb x 128 (omega arith), le-ltb x 194 (omega arith), le-ltb x 224 h) refl
@@ -213,7 +213,7 @@ pub record Follows (x : ℕ) (u : Read) : Type 0 where
 here : (x y : ℕ) (u : Read) → y ≡ x → Follows y u → Follows x u
 here x y u e w = subst (λ (z : ℕ). Follows z u) e w
 
--- a first byte behind which any byte from 128 to 191 may follow
+-- a first byte after which any byte from 128 to 191 may follow
 usual : (x : ℕ) (p : Part) (u : Read) → x ≢ 224 → x ≢ 240 → x ≢ 237 → x ≢ 244 → lead x ≡ more p → ((y : ℕ) → go-on p y ≡ cond (inRange 128 191 y) u bad) → Follows x u
 usual x p u a b d e l g = record { part = p; leads = l; goes = λ y. rw (ne-eqb x 224 a, ne-eqb x 240 b, ne-eqb x 237 d, ne-eqb x 244 e) (g y) }
 

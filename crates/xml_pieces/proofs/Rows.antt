@@ -13,7 +13,7 @@ use Rattle.text.specs.Lists.{span}
 use Rattle.xml_pieces.specs.Kinds.{isBracket, goesOn, overRow}
 use Rattle.xml_pieces.specs.declared.Went.the-variants.{On, Stopped}
 
--- the place e behind the row at i
+-- the place e after the row at i
 module _ (s : List ℕ) (i e : ℕ) (is : e ≡ i + span isBracket (drop i s)) where
   pub row-is : overRow (drop i s) i ≡ cond (goesOn (e - i) (drop e s)) (On e) (Stopped e)
   unfolding overRow

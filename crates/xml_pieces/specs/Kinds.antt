@@ -23,7 +23,7 @@ IsWord w l = l ≡ w
 abbrev pub isBracket : ℕ → Bool
 isBracket x = eqb x bracket
 
--- "Text is XML 1.0 characters without .. `]]>`": behind a row of n `]` text goes on with any byte, but with `>` only behind one at most
+-- "Text is XML 1.0 characters without .. `]]>`": after a row of n `]` text goes on with any byte, but with `>` only after one at most
 abbrev pub goesOn : ℕ → List ℕ → Bool
 goesOn n [] = false
 goesOn n (x ∷ t) = not (eqb x greater && leb 2 n)

@@ -47,7 +47,7 @@ fn three(s: &[u8], at: usize, low: u8, high: u8) -> Went
     }
 }
 
-// Behind EF: EF BF may be followed by BD at most, since U+FFFE and U+FFFF are no XML 1.0 characters.
+// After EF: EF BF may be followed by BD at most, since U+FFFE and U+FFFF are no XML 1.0 characters.
 fn behind_ef(s: &[u8], at: usize) -> Went
     ensures { λ r. ⌜ r ≡ reading (go-on ef) (drop at (now (s .entry))) at ⌝ }
 {
@@ -109,7 +109,7 @@ fn long(s: &[u8], at: usize) -> Went
     Went::Stopped(at)
 }
 
-// Behind `&a`: `mp;` or `pos;`.
+// After `&a`: `mp;` or `pos;`.
 fn behind_a(s: &[u8], at: usize) -> Went
     ensures { λ r. ⌜ r ≡ reading (go-on ampersandA) (drop at (now (s .entry))) at ⌝ }
 {
@@ -123,7 +123,7 @@ fn behind_a(s: &[u8], at: usize) -> Went
     }
 }
 
-// Behind `&`: the rest of one of the five entities.
+// After `&`: the rest of one of the five entities.
 fn entity(s: &[u8], at: usize) -> Went
     ensures { λ r. ⌜ r ≡ reading (go-on ampersand) (drop at (now (s .entry))) at ⌝ }
 {

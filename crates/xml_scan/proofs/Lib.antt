@@ -17,7 +17,7 @@ pub mod Names
 pub mod Grown
 -- an attribute's name, which may hold a colon
 pub mod FullNames
--- start tags behind their name
+-- start tags after their name
 pub mod Tags
 -- elements within elements
 pub mod Nesting

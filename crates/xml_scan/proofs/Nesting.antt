@@ -68,7 +68,7 @@ close-literal : (d : ℕ) (ns : List (List ℕ)) → Literal (λ q. close q d ns
 unfolding next
 close-literal d ns = record { waits = λ y q. refl; steps = λ y q x. refl }
 
--- ---- a start tag behind its `<`
+-- ---- a start tag after its `<`
 
 module _ (s : List ℕ) (i n : ℕ) (f t : List ℕ) where
   ns : List (List ℕ)
@@ -126,7 +126,7 @@ module _ (s : List ℕ) (i n : ℕ) (f t : List ℕ) where
                 named a o ∙ v .2 ∙ ap (λ (m : List (List ℕ)). fate s j (after (16 - (n + 1)) m)) (sym (names-push 16 s f t n i c held few)),
               )
 
--- ---- an end tag behind its `</`
+-- ---- an end tag after its `</`
 
 module _ (s : List ℕ) (i : ℕ) (w : List ℕ) (h : i ≤ length s) (q : Went) (o : Passes (IsWord w) (drop i s) i q) where
   g : Spelled s i w q

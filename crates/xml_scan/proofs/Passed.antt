@@ -81,7 +81,7 @@ word-spelled s i w (On e) h o =
 word-spelled s i w (Stopped n) h o =
     λ g l. subst (Came 0 (drop i s) i (g w) (g [])) (sym (word-is w (drop i s) i (Stopped n) o)) (came-word g l w (drop i s) i)
 
--- ---- pieces: f p is the state within a piece, b the state behind it
+-- ---- pieces: f p is the state within a piece, b the state after it
 
 abbrev pub hosted : Read → (Part → At) → At → St
 hosted bad f b = dead

@@ -1,4 +1,4 @@
--- Start tags behind their name: attributes, blanks, and `>` or `/>`. Assumes nothing.
+-- Start tags after their name: attributes, blanks, and `>` or `/>`. Assumes nothing.
 use mathlib.Core.Path.{_≡_, refl, sym, _∙_, ap, subst}
 use mathlib.Core.Bool.{true, false, true≢false}
 use mathlib.Core.Logic.{_≢_}
@@ -186,7 +186,7 @@ module _ (s f t : List ℕ) (n : ℕ) where
         fate-byte s i (tail k ss d m ns) (gap k ss d m ns) j (tail-blank k ss d m ns (getD s i 0) e)
         ∙ run-over isBlank s (i + 1) b (omega (arith, span-go isBlank s i j e)) (gap k ss d m ns) (gap-blank k ss d m ns)
 
-    -- to the byte behind, which begins no name
+    -- to the byte after, which begins no name
     ended : (b < length s → isNameStart (getD s b 0) ≡ false) → (k : ℕ) (d : ℕ) (m : List ℕ) (ns : List (List ℕ)) → fate s i (tail k ss d m ns) ≡ fate s b (tail k ss d m ns)
     ended e k d m ns = go (decLt i b)
       where

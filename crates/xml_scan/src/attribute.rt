@@ -96,7 +96,7 @@ fn full_name(s: &[u8], at: usize, classes: &[u8; 256]) -> Went
     Went::Stopped(second)
 }
 
-// Over an attribute that begins at a name, behind n others: "At most four attributes", "all names different".
+// Over an attribute that begins at a name, after n others: "At most four attributes", "all names different".
 pub(crate) fn attribute(
     s: &[u8],
     at: usize,

@@ -20,7 +20,7 @@ enum Step {
     Stopped(usize),
 }
 
-// Over a start tag behind its `<`: "Nesting is at most 16".
+// Over a start tag after its `<`: "Nesting is at most 16".
 fn start_tag(
     s: &[u8],
     at: usize,
@@ -55,7 +55,7 @@ fn start_tag(
     }
 }
 
-// Over an end tag behind its `</`, for the name w.
+// Over an end tag after its `</`, for the name w.
 fn end_tag(s: &[u8], at: usize, w: &[u8]) -> Went
     requires { ⌜ at ≤ length (now s) ⌝ }
     ensures { λ r. ⌜ GoesClose (now (s .entry)) at (now (w .entry)) r ⌝ }
@@ -80,7 +80,7 @@ fn end_tag(s: &[u8], at: usize, w: &[u8]) -> Went
     }
 }
 
-// Over a tag behind its `<`, where n elements are open.
+// Over a tag after its `<`, where n elements are open.
 fn any_tag(
     s: &[u8],
     at: usize,
@@ -110,7 +110,7 @@ fn any_tag(
     }
 }
 
-// Over text and the tag behind it, where n elements are open.
+// Over text and the tag after it, where n elements are open.
 fn advance(
     s: &[u8],
     at: usize,
@@ -131,7 +131,7 @@ fn advance(
     }
 }
 
-// Over the one element, behind its `<`, with all that stands in it.
+// Over the one element, after its `<`, with all that stands in it.
 pub(crate) fn elements(s: &[u8], at: usize, classes: &[u8; 256]) -> Went
     requires { ⌜ (at ≤ length (now s)) × Classed (now classes) ⌝ }
     ensures { λ r. ⌜ Goes (now (s .entry)) at root done r ⌝ }

@@ -1,5 +1,5 @@
 // Where a text stops being house XML. One pass over the bytes, no heap; a function for each construct, which goes over it by
-// spans and answers the place behind it, or the place at which no house XML text goes on.
+// spans and answers the place after it, or the place at which no house XML text goes on.
 use elements::elements;
 use prolog::prolog;
 use table::CLASSES;
@@ -22,7 +22,7 @@ pub enum Scanned {
     Stops(usize),
 }
 
-// Over a whole text: what stands before the first element, the element, and blanks behind it.
+// Over a whole text: what stands before the first element, the element, and blanks after it.
 fn document(s: &[u8], classes: &[u8; 256]) -> Scanned
     requires { ⌜ Classed (now classes) ⌝ }
     ensures { λ r. ⌜ Right (now (s .entry)) r ⌝ }

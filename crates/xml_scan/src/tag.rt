@@ -11,7 +11,7 @@ ghost use Rattle.text.specs.Bytes.{isBlank};
 ghost use Rattle.xml_scan.specs.mirror.Classes.{Classed};
 ghost use Rattle.xml_scan.specs.mirror.Tags.{GoesTag, GoesEnd};
 
-// `>` or `/>`, and the place behind it.
+// `>` or `/>`, and the place after it.
 pub enum Tag {
     Open(usize),
     Empty(usize),

@@ -170,7 +170,7 @@ named-is o n w i e =
     let a = full-in n i in
     rw (span-of inName n w a e, ne-eqb (length n) 0 (λ z. omega (arith, full-some n i))) (pass-over inName (quoteAt o) o n w a e)
 
--- behind the name, up to the quote
+-- after the name, up to the quote
 blank-no-quote : (x : ℕ) → isBlank x ≡ true → noQuote x ≡ true
 unfolding noQuote
 blank-no-quote x e = by-blank (λ (y : ℕ). noQuote y ≡ true) x e refl refl refl refl
@@ -237,7 +237,7 @@ attribute-end o a = attr-lengths o (a .gap) (a .name) (a .before) (a .after) (sp
 attribute-some : (o : ℕ) (a : Attr) → GoodAttr a → isNone (attributeOf o a) ≡ false
 attribute-some o a g = ne-eqb (nameOf o a + length (a .name)) (nameOf o a) (λ e. omega (arith, full-some (a .name) (full-name (a .name) (g .name))))
 
--- behind an attribute
+-- after an attribute
 attribute-drop : (o : ℕ) (a : Attr) (w : List ℕ) → drop (attributeOf o a .end - o) (attr a ++ w) ≡ w
 attribute-drop o a w =
     let e : attributeOf o a .end - o ≡ length (attr a) = omega (arith, attribute-end o a) in
@@ -273,7 +273,7 @@ module _ (g w : List ℕ) (b : Blanks g) (e : span isBlank w ≡ 0) (f : span in
   first-is o [] h = attribute-none o g w b e f
   first-is o (a ∷ l) h = ap (attributeAt o) (append-assoc (attr a) (attrs l) (g ++ w)) ∙ attribute-is o a (attrs l ++ (g ++ w)) (h .0)
 
--- a tag's name does not go on into what stands behind it
+-- a tag's name does not go on into what stands after it
 pub attrs-end-name : (g w : List ℕ) → Blanks g → span inName w ≡ 0 → (l : List Attr) → GoodAttrs 4 [] l → span inName (attrs l ++ (g ++ w)) ≡ 0
 attrs-end-name g w b f [] h = blanks-end-name g w b f
 attrs-end-name g w b f (a ∷ l) h =

@@ -1,4 +1,4 @@
--- A text, an element, an end tag at a place of s, known by `drop o s ≡ ..`: what the cursor answers there, and what stands behind. Assumes nothing.
+-- A text, an element, an end tag at a place of s, known by `drop o s ≡ ..`: what the cursor answers there, and what stands after. Assumes nothing.
 use mathlib.Core.Path.{_≡_, refl, sym, _∙_, ap, subst}
 use mathlib.Core.List.{List, [], _∷_, _++_, append-assoc}
 use Prim.Native.Nat.{ℕ, zero, suc, _+_}

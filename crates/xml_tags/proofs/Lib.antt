@@ -13,7 +13,7 @@ pub mod Steps
 pub mod Slices
 -- where the root begins
 pub mod Start
--- texts, elements and end tags at a place of a text: what the cursor answers, and what stands behind
+-- texts, elements and end tags at a place of a text: what the cursor answers, and what stands after
 pub mod Elements
 -- a text's characters one by one, and its first ink
 pub mod Texts

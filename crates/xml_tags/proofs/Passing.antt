@@ -88,7 +88,7 @@ past-go s i h = rw (drop-cons s i 0 h)
 pub past-end : (s : List ℕ) (i : ℕ) → length s ≤ i → i ≡ i + one (drop i s)
 past-end s i h = rw (drop-of-length-le s h) (omega arith)
 
--- behind the first such byte
+-- after the first such byte
 pub behind-at : (b : ℕ) (s : List ℕ) (at i : ℕ) → i ≡ at + span (but b) (drop at s) → behind b at (drop at s) ≡ i + one (drop i s)
 unfolding behind
 behind-at b s at i e = pass-at (but b) (λ o l. o + one l) s at i e

@@ -32,7 +32,7 @@ module _ (s : List ℕ) where
   drop-to : (o e : ℕ) → o ≤ e → drop (e - o) (drop o s) ≡ drop e s
   drop-to o e h = let n : o + (e - o) ≡ e = omega arith in rw (drop-drop (e - o) o s, n)
 
-  -- a byte, and what stands behind it
+  -- a byte, and what stands after it
   drop-byte : (i : ℕ) → i < length s → drop i s ≡ getD s i 0 ∷ drop (i + 1) s
   drop-byte i h = rw (add-one i, drop-cons s i 0 h)
 
@@ -170,7 +170,7 @@ module _ (s : List ℕ) where
       let z = span-stop p s i (head-in 62 s i h) (ap p (greater-there i h) ∙ f) in
       omega (arith, z)
 
-  -- behind the name stands `>`
+  -- after the name stands `>`
   pub tail-greater : (o stop : ℕ) (a : Attribute) → headIs 62 (drop stop s) ≡ true → a ≡ nowhere stop
       → record { kind = Open; less = o; stop = stop; attributes = 0; first = a; end = stop + 1 } ≡ tailAt o stop (drop stop s)
   unfolding isBlank
@@ -206,7 +206,7 @@ module _ (s : List ℕ) where
             ∙ ap (tagAt o) (drop-byte o g)
             ∙ rw b (pass-at inName (tailAt o) s (o + 1) stop e))
 
-        -- behind the name stands `>`
+        -- after the name stands `>`
         pub next-plain : (a : Attribute) → headIs 62 (drop stop s) ≡ true → a ≡ nowhere stop
             → record { kind = Open; less = o; stop = stop; attributes = 0; first = a; end = stop + 1 } ≡ tokenAt at (drop at s)
         next-plain a f k = tail-greater o stop a f k ∙ next-open

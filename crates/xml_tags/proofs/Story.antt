@@ -66,7 +66,7 @@ module _ (s : List ℕ) where
     leaves-by =
         subst (λ (z : Token). z .kind ≡ Close → Text s o (z .less) ps → Tells s (z .end) more → Tells s o (chars o ps (leave ∷ more))) e leaves
 
-  -- ---- an element behind a text
+  -- ---- an element after a text
 
   module _ (a o : ℕ) (ps : List Piece) (h : Each GoodPiece ps) (at : o ≡ a + length (spells ps)) where
     empty-told : (t : Tag) (w : List ℕ) (more : List Event) → GoodTag t → drop a s ≡ spells ps ++ (60 ∷ (tag t ++ (47 ∷ 62 ∷ w)))
@@ -93,7 +93,7 @@ module _ (s : List ℕ) where
         let y = close-at s o n g w i b (x .behind) in
         leaves-by a ps more _ (x .token ∙ y .token) refl (record { good = h; is = x .part }) k
 
-  -- ---- content with its end tag, behind a text
+  -- ---- content with its end tag, after a text
 
   content-told : (c : Markup) (d a o z : ℕ) (ps : List Piece) (n g u : List ℕ) (more : List Event)
       → GoodMarkup d c → Each GoodPiece ps → IsName n → Blanks g
@@ -127,7 +127,7 @@ module _ (s : List ℕ) where
       (omega arith) (omega (arith, full-length t j q noMore)) v
       (content-told c (suc d) y y z [] n g u more (h .3) tt i b (omega arith) (omega (arith, full-length t j q noMore, full-length t j q c)) w k))
 
-  -- ---- the root, and blanks behind it
+  -- ---- the root, and blanks after it
 
   blanks-told : (o : ℕ) (l : List ℕ) → Blanks l → drop o s ≡ l → Tells s o []
   unfolding isBlank

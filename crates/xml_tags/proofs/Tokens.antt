@@ -26,7 +26,7 @@ use Rattle.xml_tags.proofs.Passing.{but-by, stops, pass-over, pass-skip
 use Rattle.xml_tags.proofs.Avoid.{text-avoids}
 use Rattle.xml_tags.proofs.Attributes.{full-in, passed-between, passed-is, first-is, attrs-end-name}
 
--- ---- on any bytes: a token ends within them, and behind its `<` if there is one
+-- ---- on any bytes: a token ends within them, and after its `<` if there is one
 
 pub record Ahead (o e : ℕ) (t : Token) : Type 0 where
   pub text : o ≤ t .less
@@ -103,7 +103,7 @@ unfolding isNameStart
 name-no-solidus [] w i = absurd i
 name-no-solidus (x ∷ n) w i = ne-eqb x solidus (λ e. true≢false (sym (i .0) ∙ ap isNameStart e))
 
--- behind the name: attributes, blanks, and then w
+-- after the name: attributes, blanks, and then w
 tail-is : (o e : ℕ) (t : Tag) (w : List ℕ) → GoodTag t → span isBlank w ≡ 0 → span inName w ≡ 0
     → tailAt o e (attrs (t .attributes) ++ (t .gap ++ w)) ≡ shutAt o e (length (t .attributes)) (firstOf e (t .attributes) (t .gap)) (e + length (attrs (t .attributes)) + length (t .gap)) w
 unfolding tailAt

@@ -1,4 +1,4 @@
--- Bytes that mark something: whether one stands next, up to the next one, past it. What stands at a place o and behind it is given as o and
+-- Bytes that mark something: whether one stands next, up to the next one, past it. What stands at a place o and after it is given as o and
 -- the list of those bytes. Assumes nothing.
 use mathlib.Core.Bool.{Bool, false, not}
 use mathlib.Core.List.{List, [], _∷_}
@@ -25,6 +25,6 @@ abbrev pub headIs : ℕ → List ℕ → Bool
 headIs b [] = false
 headIs b (x ∷ l) = eqb x b
 
--- behind the first such byte
+-- after the first such byte
 unfoldable pub behind : ℕ → ℕ → List ℕ → ℕ
 behind b = pass (but b) (λ o l. o + one l)

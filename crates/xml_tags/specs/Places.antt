@@ -19,7 +19,7 @@ RootAt s r = (t : Tree) → GoodTree t → s ≡ whole t → r ≡ rootAt t
 abbrev pub nameOf : ℕ → Attr → ℕ
 nameOf o a = o + length (a .gap)
 
--- behind the name: blanks, `=`, blanks, a quote
+-- after the name: blanks, `=`, blanks, a quote
 abbrev pub valueOf : ℕ → Attr → ℕ
 valueOf o a = nameOf o a + length (a .name) + (length (a .before) + length (a .after) + 2)
 
@@ -33,7 +33,7 @@ attributeOf o a =
       end = valueOf o a + length (spells (a .value)) + 1;
     }
 
--- the first attribute behind a place; where there is none, the place behind the blanks
+-- the first attribute after a place; where there is none, the place after the blanks
 abbrev pub firstOf : ℕ → List Attr → List ℕ → Attribute
 firstOf o [] g = nowhere (o + length g)
 firstOf o (a ∷ more) g = attributeOf o a

@@ -3,7 +3,7 @@
 pub mod Passing
 -- a mirror: how it passes attributes
 pub mod Attributes
--- a mirror: how it passes a text and the tag behind it
+-- a mirror: how it passes a text and the tag after it
 pub mod Tokens
 -- a mirror: an opening tag whose attributes are not tested
 pub mod Skimmed

@@ -9,8 +9,8 @@ ghost use mathlib.Core.Path.{_≡_};
 ghost use lib.ListN.{drop};
 ghost use Rattle.xml_tags.specs.mirror.Attributes.{nowhere, attributeAt, passedAt};
 
-// Its name stands at name .. stop, its value, without the quotes, at value .. quote; it ends behind the second quote. Where there is no
-// attribute all five are the place behind the blanks, so that the name is empty.
+// Its name stands at name .. stop, its value, without the quotes, at value .. quote; it ends after the second quote. Where there is no
+// attribute all five are the place after the blanks, so that the name is empty.
 pub struct Attribute {
     pub name: usize,
     pub stop: usize,
@@ -33,7 +33,7 @@ impl Attribute {
     }
 }
 
-// The attribute behind a place: behind the tag's name, or behind the attribute before.
+// The attribute after a place: after the tag's name, or after the attribute before.
 pub fn attribute_at(s: &[u8], at: usize) -> Attribute
     ensures { λ r. ⌜ r ≡ attributeAt at (drop at (now (s .entry))) ⌝ }
 {
@@ -64,13 +64,13 @@ pub fn attribute_at(s: &[u8], at: usize) -> Attribute
     }
 }
 
-// Attributes one after the other: how many, and where the blanks behind them end.
+// Attributes one after the other: how many, and where the blanks after them end.
 pub struct Passed {
     pub count: usize,
     pub end: usize,
 }
 
-// All attributes behind a place.
+// All attributes after a place.
 pub(crate) fn attributes_at(s: &[u8], at: usize) -> Passed
     ensures { λ r. ⌜ r ≡ passedAt at (drop at (now (s .entry))) ⌝ }
 {

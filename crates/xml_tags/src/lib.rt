@@ -2,5 +2,5 @@
 // it answers something too: no place past the end, and each answer further on than the last.
 pub mod attribute; // attribute.rt: one attribute, and how many there are
 mod pass; // pass.rt: up to a byte, and over it
-pub mod token; // token.rt: a text and the tag behind it; where the root begins
+pub mod token; // token.rt: a text and the tag after it; where the root begins
 pub mod skim; // skim.rt: texts and tags of a message that is known to be good

@@ -22,7 +22,7 @@ pub struct Tag {
     pub quote: usize,
 }
 
-// The opening tag whose `<` is at a place. Nearly all names have a `>` behind them: of these no more is asked.
+// The opening tag whose `<` is at a place. Nearly all names have a `>` after them: of these no more is asked.
 pub fn tag_at(s: &[u8], less: usize) -> Tag
     ensures { λ r. ⌜ r ≡ tagOf (openAt less (drop less (now (s .entry)))) ⌝ }
 {

@@ -1,4 +1,4 @@
-// A text and the tag behind it, by their places.
+// A text and the tag after it, by their places.
 
 use crate::attribute::Attribute;
 use crate::attribute::attribute_at;
@@ -13,7 +13,7 @@ ghost use lib.ListN.{drop};
 ghost use Rattle.xml_tags.specs.Places.{RootAt};
 ghost use Rattle.xml_tags.specs.mirror.Tokens.{bare, shutAt, tailAt, openAt, tokenAt, isDeclared, startOf};
 
-// What stands behind a text.
+// What stands after a text.
 pub enum Kind {
     // `<a ..>`
     Open,
@@ -78,7 +78,7 @@ fn shut(s: &[u8], less: usize, stop: usize, attributes: usize, first: Attribute,
     }
 }
 
-// The tag whose name ends at a place. Most have no attribute: then the place behind the blanks is known already.
+// The tag whose name ends at a place. Most have no attribute: then the place after the blanks is known already.
 fn tail(s: &[u8], less: usize, stop: usize) -> Token
     ensures { λ r. ⌜ r ≡ tailAt less stop (drop stop (now (s .entry))) ⌝ }
 {
@@ -90,7 +90,7 @@ fn tail(s: &[u8], less: usize, stop: usize) -> Token
     shut(s, less, stop, more.count + 1, first, more.end)
 }
 
-// The text from a place on, and the tag behind it.
+// The text from a place on, and the tag after it.
 pub fn next(s: &[u8], at: usize) -> Token
     ensures { λ r. ⌜ r ≡ tokenAt at (drop at (now (s .entry))) ⌝ }
 {
@@ -103,7 +103,7 @@ pub fn next(s: &[u8], at: usize) -> Token
         let end = past(s, until(s, name, b'>'));
         return Token::bare(Kind::Close, less, end);
     }
-    // Nearly all names have a `>` behind them: of these no more is asked.
+    // Nearly all names have a `>` after them: of these no more is asked.
     let stop = name_end(s, name);
     if byte_is(s, stop, b'>') {
         let end = stop + 1;

@@ -3,8 +3,8 @@
 use independent::LIMIT;
 
 use crate::feed::Case;
-use crate::message::chosen::{EVERY_ROW, WHOLE};
-use crate::message::{Draft, Part, Style};
+use crate::message::chosen::{EVERY_ROW, REPORT_EVERY_ROW, REPORT_LEAST, WHOLE};
+use crate::message::{Draft, Part, Path, Style};
 
 /// Room for any image of the set.
 const ROOM: usize = 4096;
@@ -18,21 +18,26 @@ pub fn fixed_set() -> Vec<Case> {
     files.extend(on_the_root());
     files.extend(REPLACED_IN_WHOLE.iter().map(|pairs| replaced(WHOLE, pairs)));
     files.extend(REPLACED_IN_EVERY_ROW.iter().map(|pairs| replaced(EVERY_ROW, pairs)));
+    files.extend(REPLACED_IN_LEAST_REPORT.iter().map(|pairs| replaced(REPORT_LEAST, pairs)));
+    files.extend(REPLACED_IN_REPORT.iter().map(|pairs| replaced(REPORT_EVERY_ROW, pairs)));
     files.extend(not_utf8());
     files.extend(each_element_changed());
     files.extend(each_element_left_out_and_doubled());
+    files.extend(each_element_of_a_report_left_out());
     cases.extend(files.into_iter().map(|file| Case::check(ROOM, file)));
     cases.push(Case::check(ROOM, vec![b' '; LIMIT + 1]));
     cases
 }
 
-/// Code 14 and its neighbours: "a 67-byte buffer accepts; 66 gives 14, place 67", and "14 comes last".
+/// Code 14 and its neighbours: "a 68-byte buffer accepts, 67 gives 14, place 68", and "14 comes last". The least report has 42.
 fn rooms() -> Vec<Case> {
     let late_fault = String::from_utf8(replaced(WHOLE, &[("2024-02-29", "2023-02-29")])).expect("UTF-8");
-    let rooms = [0, 1, 66, 67, 68, LIMIT, LIMIT + 1, u32::MAX as usize];
+    let rooms = [0, 1, 66, 67, 68, 69, LIMIT, LIMIT + 1, u32::MAX as usize];
     let mut cases: Vec<Case> = rooms.iter().map(|room| Case::check(*room, WHOLE)).collect();
-    cases.extend([0, 66, 67].map(|room| Case::check(room, late_fault.as_str())));
+    cases.extend([0, 67, 68].map(|room| Case::check(room, late_fault.as_str())));
+    cases.extend([0, 41, 42, 43].map(|room| Case::check(room, REPORT_LEAST)));
     cases.extend([0, 100, 500].map(|room| Case::check(room, EVERY_ROW)));
+    cases.extend([0, 100, 500].map(|room| Case::check(room, REPORT_EVERY_ROW)));
     cases.push(Case::check(0, ""));
     cases.push(Case::check(0, "<Document/>"));
     cases
@@ -58,6 +63,20 @@ const SHORT: &[&str] = &[
     "<Document xmlns=\"urn:iso:std:iso:20022:tech:xsd:camt.053.001.08\"><BkToCstmrStmt/></Document>",
     "<Document xmlns=\"urn:iso:std:iso:20022:tech:xsd:camt.053.001.08\"><BkToCstmrStmt/><BkToCstmrStmt/></Document>",
     "<Document xmlns=\"urn:iso:std:iso:20022:tech:xsd:camt.053.001.08\"><Document/></Document>",
+    "<Document xmlns=\"urn:iso:std:iso:20022:tech:xsd:camt.052.001.08\"/>",
+    "\t<Document xmlns = 'urn:iso:std:iso:20022:tech:xsd:camt.052.001.08' ></Document>",
+    "<Document xmlns=\"urn:iso:std:iso:20022:tech:xsd:camt.052.001.02\"/>",
+    "<Document xmlns=\"urn:iso:std:iso:20022:tech:xsd:camt.052.001.0\"/>",
+    "<Document xmlns=\"urn:iso:std:iso:20022:tech:xsd:camt.052.001.080\"/>",
+    "<Document xmlns=\"urn:iso:std:iso:20022:tech:xsd:camt.051.001.08\"/>",
+    "<Document xmlns=\"urn:iso:std:iso:20022:tech:xsd:camt.054.001.08\"/>",
+    "<Document xmlns=\"urn:iso:std:iso:20022:tech:xsd:camt.052.001.08\" a=\"\"/>",
+    "<document xmlns=\"urn:iso:std:iso:20022:tech:xsd:camt.052.001.08\"/>",
+    "<Document xmlns=\"urn:iso:std:iso:20022:tech:xsd:camt.052.001.08\">x</Document>",
+    "<Document xmlns=\"urn:iso:std:iso:20022:tech:xsd:camt.052.001.08\"><BkToCstmrAcctRpt/></Document>",
+    "<Document xmlns=\"urn:iso:std:iso:20022:tech:xsd:camt.052.001.08\"><BkToCstmrStmt/></Document>",
+    "<Document xmlns=\"urn:iso:std:iso:20022:tech:xsd:camt.053.001.08\"><BkToCstmrAcctRpt/></Document>",
+    "<Document xmlns=\"urn:iso:std:iso:20022:tech:xsd:camt.052.001.08\"><BkToCstmrRpt/></Document>",
 ];
 
 /// Schema hints on the root of document 01's whole example: "The root may carry these two besides xmlns, with any text".
@@ -175,6 +194,7 @@ const REPLACED_IN_WHOLE: &[Replaced] = &[
     // 4 before what stands below.
     &[("urn:iso", "urn:osi"), ("M1", "")],
     // 5, and which row.
+    &[("camt.053", "camt.052")],
     &[("<MsgId>M1</MsgId>", "<MsgID>M1</MsgID>")],
     &[("M1", "M<x/>1")],
     &[("M1", "<MsgId>M1</MsgId>")],
@@ -301,6 +321,68 @@ const REPLACED_IN_EVERY_ROW: &[Replaced] = &[
     &[("</Domn>", "</Domn><Domn/>")],
 ];
 
+/// Changes to the least report.
+const REPLACED_IN_LEAST_REPORT: &[Replaced] = &[
+    // "The namespace chooses the list": that of statements over a report, and hints that choose nothing.
+    &[("camt.052", "camt.053")],
+    &[("camt.052", "camt.054")],
+    &[("<Document ", "<Document xmlns:xsi='urn:iso:std:iso:20022:tech:xsd:camt.053.001.08' ")],
+    &[("<Document ", "<Document xsi:schemaLocation='camt.053.001.08' ")],
+    &[("<Document ", "<Document xmlns:xsi='' xsi:schemaLocation='urn:iso:std:iso:20022:tech:xsd:camt.053.001.08' ")],
+    &[("camt.052.001.08\"", "camt.052.001.08\" xmlns:xsi='urn:iso:std:iso:20022:tech:xsd:camt.054.001.08'")],
+    &[("<Document ", "<Document a='' ")],
+    // 5: names of the other list, and "source document 002's".
+    &[("<BkToCstmrAcctRpt>", "<BkToCstmrStmt>"), ("</BkToCstmrAcctRpt>", "</BkToCstmrStmt>")],
+    &[("<BkToCstmrAcctRpt>", "<BkToCstmrRpt>"), ("</BkToCstmrAcctRpt>", "</BkToCstmrRpt>")],
+    &[("<Rpt>", "<Stmt>"), ("</Rpt>", "</Stmt>")],
+    &[("</Rpt>", "</Rpt><Stmt/>")],
+    &[("<Rpt>", "<Stmt/><Rpt>")],
+    &[("</BkToCstmrAcctRpt>", "</BkToCstmrAcctRpt><BkToCstmrStmt/>")],
+    &[("</BkToCstmrAcctRpt>", "</BkToCstmrAcctRpt><BkToCstmrAcctRpt/>")],
+    // Report again and again; none.
+    &[("</Rpt>", "</Rpt><Rpt><Id>R2</Id><Acct><Id><IBAN>AT611</IBAN></Id></Acct></Rpt>")],
+    &[("<Rpt>", "<Rpt/><Rpt>")],
+    &[("<Rpt><Id>R1</Id><Acct><Id><Othr><Id>9</Id></Othr></Id></Acct></Rpt>", "")],
+    // "Bal 0..n": a group in its place all the same.
+    &[("</Acct>", "</Acct><Bal/>")],
+    &[("<Acct>", "<Bal/><Acct>")],
+    &[("</Acct>", "</Acct><Bal>x</Bal>")],
+    &[("</Acct>", "</Acct><Bal><Tp><CdOrPrtry><Cd>ITBD</Cd></CdOrPrtry></Tp></Bal>")],
+    // Other values, good and bad.
+    &[("12:00:00Z", "24:00:00Z")],
+    &[("12:00:00Z", "12:00:00.120Z")],
+    &[("M1", "A//B")],
+    &[("R1", " ")],
+    &[("<Id>R1</Id>", "")],
+    &[("<Rpt>", "<Rpt a=''>")],
+    &[("<Rpt>", "<Rpt>x")],
+];
+
+/// Changes to the report with every row.
+const REPLACED_IN_REPORT: &[Replaced] = &[
+    &[("camt.052", "camt.053")],
+    // Words: those of a report, and others.
+    &[("ITBD", "OPBD")],
+    &[("ITBD", "CLBD")],
+    &[("ITBD", "PRCD")],
+    &[("ITBD", "ITAV")],
+    &[("ITBD", "PDNG")],
+    &[("ITBD", "itbd")],
+    &[("ITBD", "ITBD ")],
+    &[("ITBD", "")],
+    &[("PDNG", "BOOK")],
+    &[("PDNG", "INFO")],
+    &[("PDNG", "ITBD")],
+    &[("PDNG", " PDNG")],
+    &[("PDNG", "PDNGBOOK")],
+    // A balance after an entry: 6.
+    &[("<Ntry>", "<Ntry/><Ntry>"), ("PDNG", "x")],
+    &[("</Ntry></Rpt>", "</Ntry><Bal/></Rpt>")],
+    // The rule on row 43.
+    &[("</Refs><Amt Ccy=\"EUR\">12.50</Amt>", "</Refs>")],
+    &[("12.50</Amt><CdtDbtInd>DBIT</CdtDbtInd><RltdPties>", "12.50</Amt><RltdPties>")],
+];
+
 /// A text with pieces replaced, each of which stands in it.
 fn replaced(text: &str, pairs: &[(&str, &str)]) -> Vec<u8> {
     let replace = |text: String, (from, to): &(&str, &str)| {
@@ -343,6 +425,18 @@ fn each_element_changed() -> Vec<Vec<u8>> {
         change(&|element| element.parts.push(Part::Text(" \t&gt;".to_string())));
     }
     files
+}
+
+/// Each element of the report with every row left out.
+fn each_element_of_a_report_left_out() -> Vec<Vec<u8>> {
+    let report = Draft::from_text(REPORT_EVERY_ROW);
+    let without = |path: &Path| {
+        let mut left_out = report.clone();
+        let (parts, index) = left_out.around(path).expect("not the root");
+        parts.remove(index);
+        Style::DENSE.write(&left_out).into_bytes()
+    };
+    report.paths().iter().skip(1).map(without).collect()
 }
 
 /// Each element of the message with every row left out, and doubled.

@@ -1,6 +1,6 @@
 //! Damage to a message's tree: one change that some code, or another, answers.
 
-use independent::list::{find, Kind, Row, NAMESPACE, ROWS};
+use independent::list::{Kind, Row, LISTS, STATEMENT};
 
 use super::draft::{Draft, Part, Path};
 use super::made::hint;
@@ -11,7 +11,7 @@ use crate::values;
 pub fn damage(draft: &mut Draft, random: &mut Random) {
     let paths = draft.paths();
     let path = &paths[random.below(paths.len())];
-    match random.below(18) {
+    match random.below(19) {
         0 => leave_out(draft, path),
         1 => double(draft, path),
         2 => swap(draft, &paths, random),
@@ -26,6 +26,7 @@ pub fn damage(draft: &mut Draft, random: &mut Random) {
         12..=14 => break_rule(draft, &paths, random),
         15 => second_choice(draft, &paths, random),
         16 if random.once_in(2) => root(draft, random),
+        17 if random.once_in(2) => other_kind(draft, &paths, random),
         _ => leave_out_required(draft, &paths, random),
     }
 }
@@ -85,7 +86,7 @@ fn move_in(draft: &mut Draft, paths: &[Path], path: &Path, random: &mut Random) 
 /// Code 9, at the root 4.
 fn attributes(element: &mut Draft, random: &mut Random) {
     let name = random.one_of(&["Ccy", "xmlns", "a", "ccy", "a:b", "xmlns:xsi", "xsi:schemaLocation", "xsi:type"]);
-    let raw = random.one_of(&["EUR", "", NAMESPACE, "&amp;"]);
+    let raw = random.one_of(&["EUR", "", STATEMENT.namespace, "&amp;"]);
     if element.attributes.iter().all(|(other, _)| other != name) {
         element.attributes.push((name.to_string(), raw.to_string()));
     }
@@ -168,7 +169,7 @@ fn second_choice(draft: &mut Draft, paths: &[Path], random: &mut Random) {
 
 /// Code 4, but for a hint that the root may carry, or may be without.
 fn root(draft: &mut Draft, random: &mut Random) {
-    match random.below(9) {
+    match random.below(10) {
         0 => draft.name = random.one_of(&["document", "Documen", "Documents", "BkToCstmrStmt"]).to_string(),
         1 => draft.attributes.clear(),
         2 => draft.attributes.push(("a".to_string(), "b".to_string())),
@@ -186,8 +187,16 @@ fn root(draft: &mut Draft, random: &mut Random) {
             let name = random.one_of(&near).to_string();
             rename_attribute(draft, &name, random);
         }
+        // Code 5: the list of the other kind.
+        8 => {
+            let space = random.one_of(&LISTS.map(|list| list.namespace));
+            draft.attributes.iter_mut().for_each(|attribute| attribute.1 = space.to_string());
+        }
         _ => {
             let others = [
+                "urn:iso:std:iso:20022:tech:xsd:camt.052.001.02",
+                "urn:iso:std:iso:20022:tech:xsd:camt.052.001.080",
+                "urn:iso:std:iso:20022:tech:xsd:camt.054.001.08",
                 "urn:iso:std:iso:20022:tech:xsd:camt.053.001.02",
                 "urn:iso:std:iso:20022:tech:xsd:camt.053.001.0",
                 "urn:iso:std:iso:20022:tech:xsd:camt.053.001.080",
@@ -196,6 +205,35 @@ fn root(draft: &mut Draft, random: &mut Random) {
             ];
             let raw = random.one_of(&others);
             draft.attributes.iter_mut().for_each(|attribute| attribute.1 = raw.to_string());
+        }
+    }
+}
+
+/// Code 5 or 12: a name, or a word, that the list of the other kind has in this place.
+fn other_kind(draft: &mut Draft, paths: &[Path], random: &mut Random) {
+    let names = [("BkToCstmrStmt", "BkToCstmrAcctRpt"), ("Stmt", "Rpt")];
+    let other = |name: &str| {
+        let found = names.iter().find(|(one, two)| [one, two].contains(&&name));
+        found.map(|(one, two)| if *one == name { *two } else { *one })
+    };
+    match random.below(3) {
+        0 => {
+            let renamed = some_path(draft, paths, random, |element| ["Stmt", "Rpt"].contains(&element.name.as_str()));
+            if let Some(element) = renamed.map(|path| draft.at(&path)) {
+                element.name = other(&element.name).expect("one of the two").to_string();
+            }
+        }
+        1 => {
+            if let Some(Part::Child(body)) = draft.parts.first_mut() {
+                body.name = other(&body.name).unwrap_or("BkToCstmrRpt").to_string();
+            }
+        }
+        _ => {
+            let word = random.one_of(&["ITBD", "PDNG"]);
+            let is_word = |element: &Draft| element.name == "Cd" && element.is_leaf();
+            if let Some(path) = some_path(draft, paths, random, is_word) {
+                draft.at(&path).parts = vec![Part::Text(word.to_string())];
+            }
         }
     }
 }
@@ -224,11 +262,12 @@ fn leave_out_required(draft: &mut Draft, paths: &[Path], random: &mut Random) {
     }
 }
 
-/// A name of the list, or one that looks like it.
+/// A name of either list, or one that looks like it.
 fn any_name(random: &mut Random) -> String {
+    let list = random.one_of(&LISTS);
     match random.below(5) {
-        0 => random.one_of(&["Xyz", "id", "Nm2", "Ccyy", "_", "Document"]).to_string(),
-        _ => ROWS[random.below(ROWS.len())].name.to_string(),
+        0 => random.one_of(&["Xyz", "id", "Nm2", "Ccyy", "_", "Document", "Stmt", "Rpt"]).to_string(),
+        _ => list.rows[random.below(list.rows.len())].name.to_string(),
     }
 }
 
@@ -240,16 +279,17 @@ fn some_path(draft: &mut Draft, paths: &[Path], random: &mut Random, wanted: fn(
     Some(found[random.below(found.len())].clone())
 }
 
-/// The row of an element by the names on its way, if it has one.
+/// The row of an element by the names on its way, if it has one in the list that the root's namespace chooses.
 fn row_at(draft: &Draft, path: &[usize]) -> Option<&'static Row> {
+    let list = draft.list()?;
     let mut element = draft;
-    let mut row = find(1)?;
+    let mut row = list.root();
     for index in path {
         let Part::Child(child) = &element.parts[*index] else {
             return None;
         };
         element = child;
-        row = independent::list::children(row.number).find(|row| row.name == element.name)?;
+        row = list.children(row.number).find(|row| row.name == element.name)?;
     }
     Some(row)
 }

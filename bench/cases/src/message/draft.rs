@@ -1,6 +1,7 @@
 //! A message before it is written: a tree of names, attributes and raw texts that can be changed at will.
 
 use independent::house::{self, Element};
+use independent::list::List;
 
 use crate::random::Random;
 
@@ -66,6 +67,12 @@ impl Draft {
     pub fn around(&mut self, path: &[usize]) -> Option<(&mut Vec<Part>, usize)> {
         let (index, above) = path.split_last()?;
         Some((&mut self.at(above).parts, *index))
+    }
+
+    /// The list that a root's namespace chooses, if it chooses one.
+    pub fn list(&self) -> Option<&'static List> {
+        let space = self.attributes.iter().find(|(name, _)| name == "xmlns")?;
+        List::of_namespace(space.1.as_bytes())
     }
 
     /// Whether the element holds text, as leaves do.

@@ -1,6 +1,6 @@
 //! Valid messages made from a seed: every row, type, optional element and count.
 
-use independent::list::{children, find, Kind, Row, NAMESPACE, RULE_FIRST, RULE_SECOND};
+use independent::list::{Kind, List, Row, REPORT, RULE_FIRST, RULE_SECOND, STATEMENT};
 
 use super::draft::{Draft, Part};
 use crate::random::Random;
@@ -17,10 +17,10 @@ pub enum Size {
     Large,
 }
 
-/// A message that meets the list.
+/// A message of either kind that meets its list: of three, two are statements.
 pub fn valid(random: &mut Random, size: Size) -> Draft {
-    let root = find(1).expect("the root's row");
-    let mut draft = group(root, random, size).attribute("xmlns", NAMESPACE);
+    let list = if random.once_in(3) { &REPORT } else { &STATEMENT };
+    let mut draft = group(list, list.root(), random, size).attribute("xmlns", list.namespace);
     if random.once_in(4) {
         hint("xmlns:xsi", &mut draft, random);
         if random.once_in(2) {
@@ -32,14 +32,17 @@ pub fn valid(random: &mut Random, size: Size) -> Draft {
 
 /// Puts a schema hint before, between or after the attributes of a root, "with any text".
 pub fn hint(name: &str, root: &mut Draft, random: &mut Random) {
-    let texts = ["http://www.w3.org/2001/XMLSchema-instance", "", "a b", " ", "&lt;xsi&gt;", "ä€", NAMESPACE, ":"];
+    let texts = [
+        "http://www.w3.org/2001/XMLSchema-instance", "", "a b", " ", "&lt;xsi&gt;", "ä€", STATEMENT.namespace,
+        REPORT.namespace, ":",
+    ];
     let attribute = (name.to_string(), random.one_of(&texts).to_string());
     root.attributes.insert(random.below(root.attributes.len() + 1), attribute);
 }
 
-fn element(row: &Row, random: &mut Random, size: Size) -> Draft {
+fn element(list: &List, row: &Row, random: &mut Random, size: Size) -> Draft {
     match row.kind {
-        Kind::Group | Kind::Choice => group(row, random, size),
+        Kind::Group | Kind::Choice => group(list, row, random, size),
         Kind::Amt => {
             let currency = values::made::valid(Kind::Ccy, random);
             Draft::leaf(row.name, &values::made::valid(Kind::Amt, random)).attribute("Ccy", &currency)
@@ -49,8 +52,8 @@ fn element(row: &Row, random: &mut Random, size: Size) -> Draft {
 }
 
 /// Every group gets at least one child, a choice exactly one, rows 47 and 48 come together or not at all.
-fn group(row: &Row, random: &mut Random, size: Size) -> Draft {
-    let rows: Vec<&Row> = children(row.number).collect();
+fn group(list: &List, row: &Row, random: &mut Random, size: Size) -> Draft {
+    let rows: Vec<&Row> = list.children(row.number).collect();
     let forced = random.below(rows.len());
     let both = chosen(random, size);
     let mut draft = Draft::new(row.name);
@@ -61,12 +64,12 @@ fn group(row: &Row, random: &mut Random, size: Size) -> Draft {
             _ => times(child, random, size),
         };
         for _ in 0..count {
-            draft.parts.push(Part::Child(element(child, random, size)));
+            draft.parts.push(Part::Child(element(list, child, random, size)));
         }
     }
     if draft.parts.is_empty() {
         let only = rows.iter().find(|child| ![RULE_FIRST, RULE_SECOND].contains(&child.number));
-        draft.parts.push(Part::Child(element(only.expect("an optional child"), random, size)));
+        draft.parts.push(Part::Child(element(list, only.expect("an optional child"), random, size)));
     }
     draft
 }

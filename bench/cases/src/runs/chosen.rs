@@ -1,28 +1,32 @@
-//! Hand-chosen runs, and the systematic ones around two images.
+//! Hand-chosen runs, and the systematic ones around an image of each version and kind.
 
-use independent::list::{find, Kind};
+use independent::list::{Kind, List};
 
-use super::{image_of, items_of, put_together, take_apart};
+use super::{former, front_of, image_of, items_of, put_together, take_apart, with_front, FRONTS};
 use crate::feed::Case;
-use crate::message::chosen::{EVERY_ROW, WHOLE};
+use crate::message::chosen::{EVERY_ROW, REPORT_EVERY_ROW, REPORT_LEAST, WHOLE};
 
 /// The fixed set for programs in the gate: reads and picks.
 pub fn fixed_set() -> Vec<Case> {
     let mut cases: Vec<Case> = reads().into_iter().map(Case::read).collect();
-    cases.extend(picks(&image_of(WHOLE.as_bytes()), &image_of(EVERY_ROW.as_bytes())));
+    cases.extend(picks());
     cases
 }
 
 /// The runs of the fixed set that are read.
 pub fn reads() -> Vec<Vec<u8>> {
-    let whole = image_of(WHOLE.as_bytes());
-    let every_row = image_of(EVERY_ROW.as_bytes());
-    let mut runs = cuts(&whole);
-    runs.extend(heads(&whole));
+    let [whole, every_row, report, least] =
+        [WHOLE, EVERY_ROW, REPORT_EVERY_ROW, REPORT_LEAST].map(|file| image_of(file.as_bytes()));
+    let mut runs: Vec<Vec<u8>> = [&whole, &former(&whole), &least].into_iter().flat_map(|image| cuts(image)).collect();
+    runs.extend([&whole, &least].into_iter().flat_map(|image| heads(image)));
     runs.extend(joined(&whole, &every_row));
+    runs.extend(mixed(&whole, &report, &least));
     runs.extend(items_changed(&every_row));
-    runs.extend(bad_values_in(&every_row));
-    runs.extend(orders());
+    runs.extend(items_left_out(&report));
+    runs.extend(items_left_out(&former(&whole)));
+    runs.extend(items_of_another_kind());
+    runs.extend(FRONTS.into_iter().flat_map(|(front, list)| bad_values_in(front, list)));
+    runs.extend(FRONTS.into_iter().flat_map(|(front, list)| orders(front, list)));
     runs
 }
 
@@ -31,15 +35,42 @@ fn cuts(image: &[u8]) -> Vec<Vec<u8>> {
     (0..=image.len()).map(|length| image[..length].to_vec()).collect()
 }
 
-/// Codes 15 and 16: other first bytes.
+/// 15: other first bytes.
+const OTHER_MARKS: [&[u8]; 6] =
+    [b"KTP\x00\x01", b"kTO\x00\x01", b"KtO\x00\x02\x01", b"XTO\x00\x02\x02", b"KTP\x00\x03", b"\x00\x00\x00\x00\x00"];
+
+/// 16: versions 0, 3, 4, 255, 256, 257, 258, 512, 513 and the last, with and without a kind byte.
+const OTHER_VERSIONS: [&[u8]; 14] = [
+    b"KTO\x00\x00", b"KTO\x00\x00\x01", b"KTO\x00\x03", b"KTO\x00\x03\x01", b"KTO\x00\x03\x02", b"KTO\x00\x04\x01",
+    b"KTO\x00\xff\x01", b"KTO\x01\x00", b"KTO\x01\x00\x01", b"KTO\x01\x01", b"KTO\x01\x02\x01", b"KTO\x02\x00\x02",
+    b"KTO\x02\x01\x01", b"KTO\xff\xff",
+];
+
+/// 17: bad kind bytes; none, so that the first item is taken for it; two, and one in version 1, so that it is taken for an item.
+const OTHER_KINDS: [&[u8]; 13] = [
+    b"KTO\x00\x02\x00", b"KTO\x00\x02\x03", b"KTO\x00\x02\x04", b"KTO\x00\x02\x80", b"KTO\x00\x02\xff", b"KTO\x00\x02",
+    b"KTO\x00\x02\x01\x01", b"KTO\x00\x02\x02\x02", b"KTO\x00\x02\x02\x01", b"KTO\x00\x01\x01", b"KTO\x00\x01\x02",
+    b"KTO\x00\x01\x00", b"KTO\x00\x01\x03",
+];
+
+/// An image's items with each good front and with the bad ones, and each front alone.
 fn heads(image: &[u8]) -> Vec<Vec<u8>> {
-    let heads: [&[u8; 5]; 11] = [
-        b"KTP\x00\x01", b"kTO\x00\x01", b"KtO\x00\x01", b"XTO\x00\x01", b"KTO\x00\x00", b"KTO\x00\x02", b"KTO\x01\x00",
-        b"KTO\x01\x01", b"KTO\xff\xff", b"KTP\x00\x02", b"\x00\x00\x00\x00\x00",
-    ];
-    let mut runs: Vec<Vec<u8>> = heads.iter().map(|head| [&head[..], &image[5..]].concat()).collect();
+    let good = FRONTS.map(|(front, _)| front);
+    let heads = [&good[..], &OTHER_MARKS, &OTHER_VERSIONS, &OTHER_KINDS].concat();
+    let items = &image[front_of(image).len()..];
+    let mut runs: Vec<Vec<u8>> = heads.iter().flat_map(|head| [[head, items].concat(), head.to_vec()]).collect();
     runs.extend(
-        [&b"KTO\x00"[..], b"KTX\x00", b"KTO\x02", b"KTO\x00\x01\x00", b"KTO\x00\x01\x01\x00"].map(<[u8]>::to_vec),
+        [
+            &b"KTO\x00"[..],
+            b"KTX\x00",
+            b"KTO\x02",
+            b"KTO\x00\x01\x00",
+            b"KTO\x00\x01\x01\x00",
+            b"KTO\x00\x02\x01\x00",
+            b"KTO\x00\x02\x02\x00",
+            b"KTO\x00\x02\x02\x01\x00",
+        ]
+        .map(<[u8]>::to_vec),
     );
     runs.push([b"\x00", image].concat());
     runs
@@ -55,9 +86,37 @@ fn joined(whole: &[u8], every_row: &[u8]) -> Vec<Vec<u8>> {
         [whole, b"\x00"].concat(),
         [whole, b"garbage \xff\xff"].concat(),
         [whole, &whole[..30]].concat(),
-        [&whole[..66], whole].concat(),
+        [&whole[..67], whole].concat(),
         every_row.to_vec(),
     ]
+}
+
+/// Runs of mixed versions and kinds.
+fn mixed(whole: &[u8], report: &[u8], least: &[u8]) -> Vec<Vec<u8>> {
+    let former = former(whole);
+    vec![
+        report.to_vec(),
+        [report, whole].concat(),
+        [whole, report].concat(),
+        [least, &former, whole].concat(),
+        [&former, least].concat(),
+        [&former[..66], least].concat(),
+        [&least[..least.len() - 1], whole].concat(),
+        [report, b"KTO\x00\x02\x03"].concat(),
+    ]
+}
+
+/// Items of one kind with the front of another version or kind: what a report may be without or have, and a statement may not.
+fn items_of_another_kind() -> Vec<Vec<u8>> {
+    let messages = [
+        REPORT_LEAST.to_string(),
+        REPORT_EVERY_ROW.to_string(),
+        REPORT_EVERY_ROW.replace("ITBD", "CLBD"),
+        REPORT_EVERY_ROW.replace("PDNG", "BOOK"),
+        EVERY_ROW.to_string(),
+    ];
+    let images = messages.map(|message| image_of(message.as_bytes()));
+    images.iter().flat_map(|image| FRONTS.map(|(front, _)| with_front(front, image))).collect()
 }
 
 /// Each item left out, doubled, swapped with the next, or followed by an early 0; and a strange row before it.
@@ -68,7 +127,7 @@ fn items_changed(image: &[u8]) -> Vec<Vec<u8>> {
         let mut change = |change: &dyn Fn(&mut Vec<Vec<u8>>)| {
             let mut changed = items.clone();
             change(&mut changed);
-            runs.push(put_together(&changed));
+            runs.push(put_together(front_of(image), &changed));
         };
         change(&|items| drop(items.remove(index)));
         change(&|items| items.insert(index, items[index].clone()));
@@ -84,13 +143,27 @@ fn items_changed(image: &[u8]) -> Vec<Vec<u8>> {
     runs
 }
 
-/// Each kind of leaf with each bad value, in place of its first good one.
-fn bad_values_in(image: &[u8]) -> Vec<Vec<u8>> {
+/// Each item left out, or followed by an early 0.
+fn items_left_out(image: &[u8]) -> Vec<Vec<u8>> {
     let items = take_apart(image);
+    let run = |items: &[Vec<u8>]| put_together(front_of(image), items);
+    let left_out = |index: usize| run(&[&items[..index], &items[index + 1..]].concat());
+    (0..items.len()).flat_map(|index| [left_out(index), run(&items[..index])]).collect()
+}
+
+/// The rows of a message with a leaf of each kind, once.
+const EACH_KIND: [u8; 40] = [
+    1, 2, 3, 4, 5, 6, 7, 8, 9, 10, 11, 14, 15, 16, 17, 18, 19, 20, 21, 22, 23, 24, 25, 26, 27, 28, 34, 35, 36, 37, 38,
+    39, 40, 41, 42, 43, 49, 50, 51, 52,
+];
+
+/// Each kind of leaf with each bad value, in place of its first good one.
+fn bad_values_in(front: &[u8], list: &List) -> Vec<Vec<u8>> {
+    let items = items_of(list, &EACH_KIND);
     let mut runs = Vec::new();
     let mut seen: Vec<Kind> = Vec::new();
     for (index, item) in items.iter().enumerate() {
-        let kind = find(item[0]).expect("a row").kind;
+        let kind = list.find(item[0]).expect("a row").kind;
         if seen.contains(&kind) {
             continue;
         }
@@ -98,7 +171,7 @@ fn bad_values_in(image: &[u8]) -> Vec<Vec<u8>> {
         for value in odd_values(kind) {
             let mut changed = items.clone();
             changed[index] = [&item[..1], &value].concat();
-            runs.push(put_together(&changed));
+            runs.push(put_together(front, &changed));
         }
     }
     runs
@@ -220,8 +293,8 @@ fn odd_times() -> Vec<Vec<u8>> {
     values
 }
 
-/// Orders of items in one entry's details, written as rows; each begins with a whole statement and entry.
-fn orders() -> Vec<Vec<u8>> {
+/// Orders of items in one entry's details, written as rows; each begins with a whole statement or report, and entry.
+fn orders(front: &[u8], list: &List) -> Vec<Vec<u8>> {
     let up_to_entry = [1, 2, 3, 4, 5, 6, 7, 9, 10, 11, 15, 16, 17, 18, 19, 20, 21, 22, 23, 24, 25, 27, 28, 34];
     let details: [&[u8]; 36] = [
         &[],
@@ -261,7 +334,7 @@ fn orders() -> Vec<Vec<u8>> {
         &[40, 41, 42, 43, 56, 57, 15],
         &[40, 41, 42, 43, 56, 57, 6],
     ];
-    let run = |rows: &[u8]| put_together(&items_of(rows));
+    let run = |rows: &[u8]| put_together(front, &items_of(list, rows));
     let mut runs: Vec<Vec<u8>> = details.iter().map(|rows| run(&[&up_to_entry[..], rows].concat())).collect();
     runs.push(run(&[1, 2, 3, 4, 5, 6, 7, 9, 10, 11, 12, 13]));
     runs.push(run(&[1, 2, 3, 4, 5, 6, 7, 9, 10, 12, 11]));
@@ -271,29 +344,50 @@ fn orders() -> Vec<Vec<u8>> {
     runs.push(run(&[1, 1]));
     runs.push(run(&[2]));
     runs.push(run(&[1, 2, 6]));
+    // Without a balance: the end, an entry, the next statement or report; and a balance after an entry.
+    let up_to_account = [1, 2, 3, 4, 5, 6, 7, 9, 10, 11];
+    let entry = [23, 24, 25, 27, 28, 34, 40, 41];
+    runs.push(run(&up_to_account));
+    runs.push(run(&[&up_to_account[..], &entry].concat()));
+    runs.push(run(&[&up_to_account[..], &up_to_account[5..], &entry].concat()));
+    runs.push(run(&[&up_to_account[..], &entry, &[15, 16, 17, 18, 19, 20, 21, 22]].concat()));
     runs
 }
 
-/// Picks: every row once, rows that are no leaves, later and missing items, and runs that are no images.
-fn picks(whole: &[u8], every_row: &[u8]) -> Vec<Case> {
-    let mut cases: Vec<Case> = (0..=58).map(|row| Case::pick(row, 0, every_row)).collect();
-    for (row, n) in
-        [(7, 1), (7, 2), (13, 1), (18, 2), (18, 3), (19, 1), (19, 2), (19, 3), (22, 2), (57, 1), (57, 2), (4, 1)]
-    {
-        cases.push(Case::pick(row, n, every_row));
+/// Picks: every row once of each version and kind, rows that are no leaves, later and missing items, and runs that are no images.
+fn picks() -> Vec<Case> {
+    let [whole, every_row, report, least] =
+        [WHOLE, EVERY_ROW, REPORT_EVERY_ROW, REPORT_LEAST].map(|file| image_of(file.as_bytes()));
+    let mut cases = Vec::new();
+    for image in [&every_row, &former(&every_row), &report] {
+        cases.extend((0..=58).map(|row| Case::pick(row, 0, &image[..])));
+        for (row, n) in
+            [(7, 1), (7, 2), (13, 1), (18, 2), (18, 3), (19, 1), (19, 2), (19, 3), (22, 2), (57, 1), (57, 2), (4, 1)]
+        {
+            cases.push(Case::pick(row, n, &image[..]));
+        }
     }
     for (row, n) in
         [(255, 0), (256, 0), (260, 0), (300, 0), (65_540, 0), (u32::MAX, 0), (4, u32::MAX), (4, 256), (4, 65_536)]
     {
-        cases.push(Case::pick(row, n, every_row));
+        cases.push(Case::pick(row, n, &every_row[..]));
     }
-    let joined = [whole, every_row].concat();
-    cases.extend(
-        [(4, 0), (4, 1), (7, 1), (11, 0), (13, 0), (22, 0), (22, 1)].map(|(row, n)| Case::pick(row, n, &joined[..])),
-    );
-    cases.extend([0, 2, 5, 20, 50, 66].map(|length| Case::pick(4, 0, &whole[..length])));
-    cases.push(Case::pick(4, 0, [&b"KTO\x00\x02"[..], &whole[5..]].concat()));
-    cases.push(Case::pick(300, 9, &whole[..66]));
-    cases.push(Case::pick(4, 0, [&whole[..66], b"\x06"].concat()));
+    for joined in
+        [[&whole[..], &every_row].concat(), [&former(&whole)[..], &report].concat(), [least, whole.clone()].concat()]
+    {
+        cases.extend(
+            [(4, 0), (4, 1), (7, 1), (11, 0), (13, 0), (22, 0), (22, 1)]
+                .map(|(row, n)| Case::pick(row, n, &joined[..])),
+        );
+    }
+    cases.extend([0, 2, 5, 6, 20, 50, 67].map(|length| Case::pick(4, 0, &whole[..length])));
+    for front in [&b"KTO\x00\x00"[..], b"KTO\x00\x03", b"KTO\x01\x00", b"KTO\x00\x02", b"KTO\x00\x01\x01"] {
+        cases.push(Case::pick(4, 0, with_front(front, &whole)));
+    }
+    for kind in [0, 3, 255] {
+        cases.push(Case::pick(4, 0, with_front(&[b"KTO\x00\x02", &[kind][..]].concat(), &whole)));
+    }
+    cases.push(Case::pick(300, 9, &whole[..67]));
+    cases.push(Case::pick(4, 0, [&whole[..67], b"\x06"].concat()));
     cases
 }

@@ -6,14 +6,24 @@ mod damage;
 pub use chosen::{fixed_set, reads};
 pub use damage::damaged;
 
-use independent::content::{END, HEADER};
+use independent::content::END;
+use independent::list::{List, REPORT, STATEMENT};
 use independent::read::first_image;
 
-use crate::message::chosen::EVERY_ROW;
+use crate::message::chosen::{EVERY_ROW, REPORT_EVERY_ROW};
+
+/// What stands before the items of an image: `KTO`, the version, and in version 2 the kind byte.
+pub const FORMER_FRONT: &[u8] = b"KTO\x00\x01";
+pub const STATEMENT_FRONT: &[u8] = b"KTO\x00\x02\x01";
+pub const REPORT_FRONT: &[u8] = b"KTO\x00\x02\x02";
+
+/// Each version and kind, with the list that its items go by.
+pub const FRONTS: [(&[u8], &List); 3] =
+    [(FORMER_FRONT, &STATEMENT), (STATEMENT_FRONT, &STATEMENT), (REPORT_FRONT, &REPORT)];
 
 /// The image of an accepted file.
 pub fn image_of(file: &[u8]) -> Vec<u8> {
-    independent::content::image(&independent::check::content(file).expect("a valid message"))
+    independent::content::image(&independent::check::message(file).expect("a valid message"))
 }
 
 /// An image's items, each with its row byte.
@@ -24,15 +34,32 @@ pub fn take_apart(image: &[u8]) -> Vec<Vec<u8>> {
     starts.zip(ends).map(|(start, end)| image[start..end].to_vec()).collect()
 }
 
-/// Header, items, closing 0.
-pub fn put_together(items: &[impl AsRef<[u8]>]) -> Vec<u8> {
-    let items = items.iter().flat_map(AsRef::as_ref);
-    HEADER.iter().chain(items).chain(&[END]).copied().collect()
+/// What stands before an image's items.
+pub fn front_of(image: &[u8]) -> &[u8] {
+    &image[..first_image(image).expect("an image").items[0].at]
 }
 
-/// An item for each of these rows, as the message with every row has it first.
-pub fn items_of(rows: &[u8]) -> Vec<Vec<u8>> {
-    let every_row = take_apart(&image_of(EVERY_ROW.as_bytes()));
+/// Front, items, closing 0.
+pub fn put_together(front: &[u8], items: &[impl AsRef<[u8]>]) -> Vec<u8> {
+    let items = items.iter().flat_map(AsRef::as_ref);
+    front.iter().chain(items).chain(&[END]).copied().collect()
+}
+
+/// The image with another front.
+pub fn with_front(front: &[u8], image: &[u8]) -> Vec<u8> {
+    put_together(front, &take_apart(image))
+}
+
+/// A statement's image in version 1, as it was written before there were kinds.
+pub fn former(image: &[u8]) -> Vec<u8> {
+    assert!(image.starts_with(STATEMENT_FRONT), "a statement");
+    with_front(FORMER_FRONT, image)
+}
+
+/// An item for each of these rows, as the message of a list with every row has it first.
+pub fn items_of(list: &List, rows: &[u8]) -> Vec<Vec<u8>> {
+    let message = if *list == REPORT { REPORT_EVERY_ROW } else { EVERY_ROW };
+    let every_row = take_apart(&image_of(message.as_bytes()));
     rows.iter().map(|row| every_row.iter().find(|item| item[0] == *row).expect("every row").clone()).collect()
 }
 
@@ -41,7 +68,7 @@ pub fn with_microseconds(image: &[u8], microseconds: u32) -> Vec<u8> {
     let mut items = take_apart(image);
     let time = items.iter_mut().find(|item| item[0] == DATE_TIME).expect("every message has one");
     time[8..12].copy_from_slice(&microseconds.to_be_bytes());
-    put_together(&items)
+    put_together(front_of(image), &items)
 }
 
 /// The row of CreDtTm, whose value begins with a day and a time of day: seven bytes.

@@ -1,6 +1,7 @@
-//! A month of a rent account as a draft: rents and what else tenants pay, bills, collective bookings, a payment that came back.
+//! A rent account as a draft, a month of it as a statement, or a day at noon as a report: rents and what else tenants pay,
+//! bills, collective bookings, a payment that came back.
 
-use independent::list::NAMESPACE;
+use independent::list::{List, REPORT};
 
 use super::texts;
 use crate::message::{Draft, Part};
@@ -10,8 +11,14 @@ use crate::random::Random;
 struct Month {
     year: usize,
     number: usize,
-    /// In cents; below 0 where more goes out than comes in.
+    /// In cents; below 0 where more goes out than comes in. What is pending is not booked yet.
     sum: i64,
+}
+
+/// When an entry is entered: its day, and whether it is only pending.
+struct Entered {
+    day: usize,
+    pending: bool,
 }
 
 impl Month {
@@ -20,24 +27,32 @@ impl Month {
     }
 }
 
-/// A message with one statement of so many entries.
-pub fn statement(entries: usize, random: &mut Random) -> Draft {
+/// A message with one statement, or one report, of so many entries.
+pub fn message(list: &List, entries: usize, random: &mut Random) -> Draft {
     let mut month = Month { year: random.between(2022, 2026), number: random.between(1, 12), sum: 0 };
     let opening = random.below(2_500_000) as i64 - 200_000;
-    // Booked in order, over the first 28 days.
+    let is_report = *list == REPORT;
+    let (first, last) = if is_report { (15, 15) } else { (1, 28) };
+    // Booked in order, over the first 28 days; in a report on one day, and the last fifth is pending.
+    let entered = |number: usize| Entered {
+        day: first + number * (last + 1 - first) / entries,
+        pending: is_report && number >= entries - entries / 5,
+    };
     let booked: Vec<Draft> =
-        (0..entries).map(|number| entry(number + 1, 1 + number * 28 / entries, &mut month, random)).collect();
+        (0..entries).map(|number| entry(number + 1, entered(number), &mut month, random)).collect();
     let house = random.between(1, 40);
     let id = format!("{}/{:03}/L{house}", month.year, month.number);
     let account = group("Acct", vec![group("Id", vec![leaf("IBAN", &texts::iban(random))]), leaf("Ccy", "EUR")]);
     let head = vec![leaf("Id", &id), leaf("ElctrncSeqNb", &month.number.to_string()), account];
+    let (closing, hour) = if is_report { ("ITBD", 12) } else { ("CLBD", 21) };
     let balances =
-        [balance("OPBD", opening, &month.day(1)), balance("CLBD", opening + month.sum, &month.day(28))].to_vec();
-    let created = format!("{}T21:{:02}:{:02}+01:00", month.day(28), random.below(60), random.below(60));
-    let message = format!("KA-{}-{:05}", month.day(28).replace('-', ""), random.below(100_000));
+        [balance("OPBD", opening, &month.day(first)), balance(closing, opening + month.sum, &month.day(last))].to_vec();
+    let created = format!("{}T{hour}:{:02}:{:02}+01:00", month.day(last), random.below(60), random.below(60));
+    let message = format!("KA-{}-{:05}", month.day(last).replace('-', ""), random.below(100_000));
     let header = group("GrpHdr", vec![leaf("MsgId", &message), leaf("CreDtTm", &created)]);
-    let statement = group("Stmt", [head, balances, booked].concat());
-    group("Document", vec![group("BkToCstmrStmt", vec![header, statement])]).attribute("xmlns", NAMESPACE)
+    let (body, account) = if is_report { ("BkToCstmrAcctRpt", "Rpt") } else { ("BkToCstmrStmt", "Stmt") };
+    let account = group(account, [head, balances, booked].concat());
+    group("Document", vec![group(body, vec![header, account])]).attribute("xmlns", list.namespace)
 }
 
 /// "debit balances counting negative"
@@ -73,10 +88,12 @@ struct Transaction {
     text: String,
 }
 
-fn entry(number: usize, day: usize, month: &mut Month, random: &mut Random) -> Draft {
+fn entry(number: usize, Entered { day, pending }: Entered, month: &mut Month, random: &mut Random) -> Draft {
     let booking = booking(month, random);
     let cents: u64 = booking.transactions.iter().map(|transaction| transaction.cents).sum();
-    month.sum += if booking.credit { cents as i64 } else { -(cents as i64) };
+    if !pending {
+        month.sum += if booking.credit { cents as i64 } else { -(cents as i64) };
+    }
     let day = month.day(day);
     let side = leaf("CdtDbtInd", if booking.credit { "CRDT" } else { "DBIT" });
     let mut parts = vec![amount(cents), side.clone()];
@@ -84,9 +101,11 @@ fn entry(number: usize, day: usize, month: &mut Month, random: &mut Random) -> D
         parts.push(leaf("RvslInd", "true"));
     }
     let family = group("Fmly", vec![leaf("Cd", booking.code.0), leaf("SubFmlyCd", booking.code.1)]);
+    parts.push(group("Sts", vec![leaf("Cd", if pending { "PDNG" } else { "BOOK" })]));
+    if !pending {
+        parts.push(group("BookgDt", vec![leaf("Dt", &day)]));
+    }
     parts.extend([
-        group("Sts", vec![leaf("Cd", "BOOK")]),
-        group("BookgDt", vec![leaf("Dt", &day)]),
         group("ValDt", vec![leaf("Dt", &day)]),
         leaf("AcctSvcrRef", &format!("{}-{number:05}", day.replace('-', ""))),
         group("BkTxCd", vec![group("Domn", vec![leaf("Cd", "PMNT"), family])]),
@@ -179,18 +198,19 @@ mod tests {
     use super::*;
     use crate::message::Style;
     use crate::runs::image_of;
+    use independent::list::LISTS;
     use independent::read::first_image;
     use independent::types::Value;
 
-    /// "opening plus credits minus debits equals closing, debit balances counting negative"
+    /// "opening plus credits minus debits equals closing, debit balances counting negative"; "PDNG entries .. don't count in the sum"
     #[test]
     fn balances_agree_with_entries() {
-        for seed in 0..50 {
+        for (seed, list) in (0..50).flat_map(|seed| LISTS.map(|list| (seed, list))) {
             let mut random = Random::new(seed);
-            let draft = statement(seed as usize, &mut random);
+            let draft = message(list, seed as usize, &mut random);
             let image = image_of(Style::DENSE.write(&draft).as_bytes());
             let mut sums = [0_i64; 60];
-            let mut last = 0;
+            let (mut last, mut signed) = (0, 0);
             for item in first_image(&image).unwrap().items {
                 match item.leaf.map(|(value, _)| value) {
                     Some(Value::Amt(amount)) => {
@@ -199,13 +219,17 @@ mod tests {
                     }
                     // CRDT counts up, DBIT down; of the two balances the second counts the other way.
                     Some(Value::Word(place)) if [20, 25].contains(&item.row) => {
-                        let signed = if place == 1 { last } else { -last };
-                        sums[usize::from(item.row)] = signed - if item.row == 20 { sums[20] } else { -sums[25] };
+                        signed = if place == 1 { last } else { -last };
+                        if item.row == 20 {
+                            sums[20] = signed - sums[20];
+                        }
                     }
+                    // An entry counts where it is booked.
+                    Some(Value::Word(1)) if item.row == 28 => sums[28] += signed,
                     _ => {}
                 }
             }
-            assert_eq!(sums[20], sums[25], "seed {seed}: closing less opening, and the sum of the entries");
+            assert_eq!(sums[20], sums[28], "seed {seed}: closing less opening, and the sum of the entries");
         }
     }
 }

@@ -1,6 +1,6 @@
 //! One fault in a statement, as it happens to files, for each code.
 
-use independent::list::{children, find, Kind, Row};
+use independent::list::{Kind, List, Row};
 use independent::LIMIT;
 
 use crate::message::{Draft, Part, Path};
@@ -11,7 +11,7 @@ pub fn to_draft(code: u8, draft: &mut Draft, random: &mut Random) -> Result<Opti
     let what = match code {
         4 => {
             let old = random.one_of(&["camt.053.001.02", "camt.053.001.04", "camt.053.001.10", "camt.054.001.08"]);
-            draft.attributes[0].1 = draft.attributes[0].1.replace("camt.053.001.08", old);
+            draft.attributes[0].1 = draft.attributes[0].1.replace(list_of(draft).message, old);
             format!("a message of another kind or version, {old}")
         }
         5 => strange_child(draft, random),
@@ -69,14 +69,21 @@ fn broken_xml(file: &mut Vec<u8>, random: &mut Random) -> String {
     }
 }
 
+/// The list of an undamaged message.
+fn list_of(draft: &Draft) -> &'static List {
+    draft.list().expect("an undamaged message")
+}
+
 /// The elements that have a row for which something holds, each with its way.
 fn places(draft: &Draft, wanted: impl Fn(&Row, &Draft) -> bool) -> Vec<(Path, &'static Row)> {
     let mut found = Vec::new();
-    collect(draft, find(1).expect("the root's row"), &mut Vec::new(), &wanted, &mut found);
+    let list = list_of(draft);
+    collect(list, draft, list.root(), &mut Vec::new(), &wanted, &mut found);
     found
 }
 
 fn collect(
+    list: &List,
     draft: &Draft,
     row: &'static Row,
     path: &mut Path,
@@ -88,9 +95,9 @@ fn collect(
     }
     for (index, part) in draft.parts.iter().enumerate() {
         if let Part::Child(child) = part {
-            let row = children(row.number).find(|row| row.name == child.name).expect("an undamaged message");
+            let row = list.children(row.number).find(|row| row.name == child.name).expect("an undamaged message");
             path.push(index);
-            collect(child, row, path, wanted, found);
+            collect(list, child, row, path, wanted, found);
             path.pop();
         }
     }
@@ -149,7 +156,8 @@ fn doubled(draft: &mut Draft, random: &mut Random) -> String {
 
 /// 8: a required element left out of a group that has another.
 fn left_out(draft: &mut Draft, random: &mut Random) -> String {
-    let alone = |row: &Row| children(row.parent).filter(|sibling| sibling.count.required).count() < 2;
+    let list = list_of(draft);
+    let alone = |row: &Row| list.children(row.parent).filter(|sibling| sibling.count.required).count() < 2;
     let (path, row) =
         some(draft, random, |row, _| row.parent > 1 && row.count.required && !row.count.repeats && !alone(row));
     let (parts, index) = draft.around(&path).expect("not the root");

@@ -21,7 +21,7 @@ pub fn chosen() -> Vec<ValueCase> {
     }
     cases.extend(ibans().iter().map(|text| plain(IBAN, 0, text)));
     cases.extend(CURRENCIES.iter().map(|text| plain(CCY, 0, text)));
-    for parameter in 0..3 {
+    for parameter in 0..5 {
         cases.extend(WORDS.iter().map(|text| plain(ENUM, parameter, text)));
     }
     cases.extend(BOOLEANS.iter().map(|text| plain(BOOL, 0, text)));

@@ -193,12 +193,12 @@ fn date_time(random: &mut Random) -> String {
 #[cfg(test)]
 mod tests {
     use super::*;
-    use independent::list::ROWS;
+    use independent::list::{REPORT, STATEMENT};
 
     #[test]
     fn good_texts_are_good() {
         let mut random = Random::new(1);
-        for row in ROWS.iter().filter(|row| row.kind.is_leaf()) {
+        for row in [STATEMENT.rows, REPORT.rows].concat().iter().filter(|row| row.kind.is_leaf()) {
             for _ in 0..2000 {
                 let raw = valid(row.kind, &mut random);
                 let text = independent::house::resolve(raw.as_bytes()).unwrap();
@@ -211,7 +211,7 @@ mod tests {
     #[test]
     fn doubtful_texts_are_mostly_bad() {
         let mut random = Random::new(1);
-        for row in ROWS.iter().filter(|row| row.kind.is_leaf()) {
+        for row in [STATEMENT.rows, REPORT.rows].concat().iter().filter(|row| row.kind.is_leaf()) {
             let bad = (0..400).filter(|_| {
                 let text = independent::house::resolve(doubtful(row.kind, &mut random).as_bytes());
                 text.is_none_or(|text| independent::types::value(row.kind, &text, Some(*b"EUR")).is_none())

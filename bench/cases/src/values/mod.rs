@@ -19,7 +19,8 @@ pub struct ValueCase {
 }
 
 /// The words of ENUM by the parameter of a feed.
-const WORDS: [&[&str]; 3] = [&["OPBD", "CLBD", "PRCD"], &["CRDT", "DBIT"], &["BOOK"]];
+const WORDS: [&[&str]; 5] =
+    [&["OPBD", "CLBD", "PRCD"], &["CRDT", "DBIT"], &["BOOK"], &["OPBD", "CLBD", "PRCD", "ITBD"], &["BOOK", "PDNG"]];
 
 impl ValueCase {
     pub fn list_kind(&self) -> Kind {

@@ -1,22 +1,25 @@
 //! The fixed set of runs for the writer.
 
-use independent::list::find;
+use independent::list::List;
 use independent::LIMIT;
 
 use super::{image_for_file_of, needed};
 use crate::feed::Case;
-use crate::message::chosen::{EVERY_ROW, WHOLE};
-use crate::runs::{image_of, items_of, put_together, reads, with_microseconds};
+use crate::message::chosen::{EVERY_ROW, REPORT_EVERY_ROW, REPORT_LEAST, WHOLE};
+use crate::runs::{former, image_of, items_of, put_together, reads, with_microseconds, FRONTS};
 use crate::values;
 
 /// Write cases only. The longest are the images of files at the limit.
 pub fn fixed_set() -> Vec<Case> {
     let mut cases = Vec::new();
-    for image in [WHOLE, EVERY_ROW].map(|file| image_of(file.as_bytes())) {
-        cases.extend(rooms(&image));
-        cases.extend(followed(&image).into_iter().map(|run| Case::write(LIMIT, run)));
+    let images = [WHOLE, EVERY_ROW, REPORT_LEAST, REPORT_EVERY_ROW].map(|file| image_of(file.as_bytes()));
+    for image in images.iter().chain(&[former(&images[0]), former(&images[1])]) {
+        cases.extend(rooms(image));
+        cases.extend(followed(image).into_iter().map(|run| Case::write(LIMIT, run)));
     }
-    cases.extend(every_value().into_iter().map(|run| Case::write(LIMIT, run)));
+    for (front, list) in FRONTS {
+        cases.extend(every_value(front, list).into_iter().map(|run| Case::write(LIMIT, run)));
+    }
     cases.extend(refused().into_iter().zip([0, LIMIT].into_iter().cycle()).map(|(run, room)| Case::write(room, run)));
     cases.extend(at_the_limit());
     cases.extend(finer());
@@ -27,7 +30,10 @@ pub fn fixed_set() -> Vec<Case> {
 /// where the file would be over the limit too.
 fn finer() -> Vec<Case> {
     let image = image_of(EVERY_ROW.as_bytes());
-    let mut cases = Vec::new();
+    let report = image_of(REPORT_EVERY_ROW.as_bytes());
+    let mut cases: Vec<Case> = [(&former(&image), 1), (&report, 1), (&report, 120_000)]
+        .map(|(image, microseconds)| Case::write(LIMIT, with_microseconds(image, microseconds)))
+        .to_vec();
     for digits in 0..=6 {
         for number in ["100000", "123456", "000001", "999999"] {
             let microseconds = format!("{:0<6}", &number[..digits]).parse().expect("six digits");
@@ -49,7 +55,7 @@ fn rooms(image: &[u8]) -> Vec<Case> {
 
 /// "an image at the start of a run": with something behind it.
 fn followed(image: &[u8]) -> Vec<Vec<u8>> {
-    let behind = [b"\x00", &b"garbage \xff\xff"[..], b"KTO\x00\x02", image, &image[..30]];
+    let behind = [b"\x00", &b"garbage \xff\xff"[..], b"KTO\x00\x02", b"KTO\x00\x03", image, &image[..30]];
     behind.map(|behind| [image, behind].concat()).to_vec()
 }
 
@@ -88,19 +94,19 @@ const PIECES: [(u8, &[u8]); 15] = [
     (57, &[43, 56, 57]),
 ];
 
-/// Runs with the value of every good text among the chosen ones of each kind: all of a kind in one message, but for those
-/// that a message has once.
-fn every_value() -> Vec<Vec<u8>> {
+/// Runs of a version and kind with the value of every good text among the chosen ones of each kind of leaf: all of these in one
+/// message, but for those that a message has once.
+fn every_value(front: &[u8], list: &List) -> Vec<Vec<u8>> {
     let mut runs = Vec::new();
     for (leaf, rows) in PIECES {
         let start = BEFORE.iter().position(|row| *row == rows[0]).unwrap_or(BEFORE.len());
-        let pieces = values_of(leaf).into_iter().map(|value| {
-            let mut items = items_of(rows);
+        let pieces = values_of(list, leaf).into_iter().map(|value| {
+            let mut items = items_of(list, rows);
             let item = items.iter_mut().find(|item| item[0] == leaf).expect("the leaf is among the rows");
             *item = [&[leaf], &value[..]].concat();
             items
         });
-        let run = |pieces: Vec<Vec<u8>>| put_together(&[items_of(&BEFORE[..start]), pieces].concat());
+        let run = |pieces: Vec<Vec<u8>>| put_together(front, &[items_of(list, &BEFORE[..start]), pieces].concat());
         match start {
             0 => runs.extend(pieces.map(run)),
             _ => runs.push(run(pieces.flatten().collect())),
@@ -110,8 +116,8 @@ fn every_value() -> Vec<Vec<u8>> {
 }
 
 /// The chosen values of a leaf's kind, as they stand in an image.
-fn values_of(leaf: u8) -> Vec<Vec<u8>> {
-    let kind = find(leaf).expect("a row").kind;
+fn values_of(list: &List, leaf: u8) -> Vec<Vec<u8>> {
+    let kind = list.find(leaf).expect("a row").kind;
     values::fixed_set().iter().filter(|case| case.list_kind() == kind).filter_map(|case| case.answer()).collect()
 }
 
@@ -119,17 +125,19 @@ fn values_of(leaf: u8) -> Vec<Vec<u8>> {
 mod tests {
     use super::*;
     use crate::feed::codes;
-    use independent::list::ROWS;
     use std::collections::BTreeSet;
 
     #[test]
     fn every_kind_stands_in_it() {
-        let held: Vec<_> = PIECES.iter().map(|(leaf, _)| find(*leaf).unwrap().kind).collect();
-        for row in ROWS.iter().filter(|row| row.kind.is_leaf()) {
-            assert_eq!(held.iter().filter(|kind| **kind == row.kind).count(), 1, "{:?}", row.kind);
+        for (front, list) in FRONTS {
+            let held: Vec<_> = PIECES.iter().map(|(leaf, _)| list.find(*leaf).unwrap().kind).collect();
+            for row in list.rows.iter().filter(|row| row.kind.is_leaf()) {
+                assert_eq!(held.iter().filter(|kind| **kind == row.kind).count(), 1, "{:?}", row.kind);
+            }
+            let runs = every_value(front, list);
+            assert!(runs.iter().all(|run| independent::read(run).is_accepted()));
+            assert!(PIECES.iter().all(|(leaf, _)| !values_of(list, *leaf).is_empty()));
         }
-        let values = every_value().iter().map(|run| independent::read(run)).filter(|read| read.is_accepted()).count();
-        assert_eq!(values, every_value().len());
     }
 
     /// All codes of a write but 1: a run over the limit would be as long as all the others together.

@@ -4,7 +4,7 @@ use independent::LIMIT;
 
 use crate::feed::Case;
 use crate::random::Random;
-use crate::runs::{filled, image_of, put_together, take_apart};
+use crate::runs::{filled, front_of, image_of, put_together, take_apart};
 
 /// What stands before the transactions of the message below, and behind them.
 const BEFORE: &str = concat!(
@@ -29,11 +29,12 @@ pub fn image_for_file_of(length: usize) -> Vec<u8> {
     let left = length - [BEFORE, &last("x"), BEHIND].concat().len();
     let (times, more) = (left / SHORT.len(), left % SHORT.len());
     let one = [BEFORE, SHORT, &last(&"x".repeat(1 + more)), BEHIND].concat();
-    let items = take_apart(&image_of(one.as_bytes()));
+    let image = image_of(one.as_bytes());
+    let items = take_apart(&image);
     let first = items.iter().position(|item| item[0] == 43).expect("a transaction");
     let (before, rest) = items.split_at(first);
     let (short, last) = rest.split_at(SHORT_ITEMS);
-    put_together(&[&before.concat(), &short.concat().repeat(times), &last.concat()])
+    put_together(front_of(&image), &[&before.concat(), &short.concat().repeat(times), &last.concat()])
 }
 
 /// A run or a file with the limit's length, or one byte less or more, with enough room and with too little; or an image whose

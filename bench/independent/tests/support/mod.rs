@@ -16,9 +16,15 @@ pub fn whole_example() -> String {
 pub const WHOLE_IMAGE: &str = "4B544F0001 010203 0400024D31 0507E80301060000000000000348 06 0700025331 090A0C0D000139 \
                                0F10111202 13455552000000000000000005 1401 151607E8021D 00";
 
-pub fn whole_image() -> Vec<u8> {
+/// Those 67 bytes, version 1.
+pub fn former_image() -> Vec<u8> {
     let digits: String = WHOLE_IMAGE.split_whitespace().collect();
     (0..digits.len()).step_by(2).map(|i| u8::from_str_radix(&digits[i..i + 2], 16).unwrap()).collect()
+}
+
+/// Section 5 of document 02: "Document 01's whole example is then written as 68 bytes, version 2 and kind byte 1".
+pub fn whole_image() -> Vec<u8> {
+    [b"KTO\x00\x02\x01", &former_image()[5..]].concat()
 }
 
 pub fn document(inside: &str) -> String {

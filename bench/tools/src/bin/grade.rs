@@ -1,5 +1,5 @@
-//! `grade FILE..` judges statement files with the unit and says what is wrong where; `grade show IMAGE..` prints images, `grade write
-//! IMAGE..` writes them as files, `grade make DIR` makes statements. Exit status: 0 all accepted, 1 some refused, 2 a fault of its own.
+//! `grade FILE..` judges files of statements and reports with the unit and says what is wrong where; `grade show IMAGE..` prints images,
+//! `grade write IMAGE..` writes them as files, `grade make DIR` makes statements or reports. Exit status: 0 all accepted, 1 some refused, 2 a fault of its own.
 
 use std::ffi::OsString;
 use std::fs;
@@ -8,16 +8,18 @@ use std::path::{Path, PathBuf};
 use std::process::ExitCode;
 
 use cases::statement::CODES;
+use independent::list::{REPORT, STATEMENT};
 use tools::grade::{
     find_files, judge, keep, make_files, object, show, write_files, Found, Order, Outcome, Page, Report, Tally,
 };
 use tools::output::{self, named};
 use tools::unit::Unit;
 
-const USAGE: &str = "usage: grade [OPTIONS] FILE..                 judge statement files, and the .xml files of folders
+const USAGE: &str =
+    "usage: grade [OPTIONS] FILE..                 judge files of statements and reports, and the .xml files of folders
        grade show IMAGE..                     print images as trees
-       grade write [--write DIR] IMAGE..      write images as statement files, NAME.xml beside each image or in DIR
-       grade make [--seed S] [--entries N] [--files M] [--code C|all] [--dense] DIR
+       grade write [--write DIR] IMAGE..      write images as files, NAME.xml beside each image or in DIR
+       grade make [--report] [--seed S] [--entries N] [--files M] [--code C|all] [--dense] DIR
                                               make statements, and a table of the answers that they must get
 options:
   --write DIR    keep the images of accepted files, as DIR/NAME.kto
@@ -26,6 +28,7 @@ options:
   --replay PATH  the proved program replay (target/bin/replay, or what REPLAY names)
   --independent  ask the independent program instead of the unit
 of make:
+  --report       intraday reports (camt.052) instead of statements (camt.053)
   --seed S       the first file's seed, the next file has the next one (1)
   --entries N    how many entries each statement has (20)
   --files M      how many files (1; with --code all 14)
@@ -61,7 +64,7 @@ impl Options {
             write: None,
             json: false,
             html: None,
-            order: Order { seed: 1, entries: 20, files: 0, codes: vec![0], dense: false },
+            order: Order { list: &STATEMENT, seed: 1, entries: 20, files: 0, codes: vec![0], dense: false },
             of_make: false,
             words: Vec::new(),
         }
@@ -87,17 +90,17 @@ impl Options {
 
     fn take_of_make(&mut self, option: &str, words: &mut impl Iterator<Item = OsString>) -> Option<()> {
         self.of_make = true;
-        if option == "--dense" {
-            self.order.dense = true;
-            return Some(());
-        }
-        let value = words.next()?.into_string().ok()?;
+        let mut value = || words.next()?.into_string().ok();
         match option {
-            "--seed" => self.order.seed = value.parse().ok()?,
-            "--entries" => self.order.entries = value.parse().ok()?,
-            "--files" => self.order.files = value.parse().ok()?,
-            "--code" if value == "all" => self.order.codes = CODES.collect(),
-            "--code" => self.order.codes = vec![value.parse().ok()?],
+            "--dense" => self.order.dense = true,
+            "--report" => self.order.list = &REPORT,
+            "--seed" => self.order.seed = value()?.parse().ok()?,
+            "--entries" => self.order.entries = value()?.parse().ok()?,
+            "--files" => self.order.files = value()?.parse().ok()?,
+            "--code" => match value()?.as_str() {
+                "all" => self.order.codes = CODES.collect(),
+                code => self.order.codes = vec![code.parse().ok()?],
+            },
             _ => return None,
         }
         Some(())

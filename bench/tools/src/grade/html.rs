@@ -4,7 +4,7 @@
 use std::fmt::Write;
 
 use super::names::{code_in_words, code_meaning, code_name};
-use super::report::{Outcome, Refusal, Report, Tally};
+use super::report::{kind_in_words, Acceptance, Outcome, Refusal, Report, Tally};
 use super::spot::Spot;
 
 /// The page of the files judged so far.
@@ -100,8 +100,9 @@ impl Page {
     /// Folded away: nobody has to do anything about these.
     fn accepted(&self) -> String {
         let line = |report: &Report| match &report.outcome {
-            Outcome::Accepted(length) => {
-                Some(format!("<li>{} <small>image of {length} bytes</small></li>\n", path(report)))
+            Outcome::Accepted(Acceptance { list, length }) => {
+                let kind = list.map_or(String::new(), |list| kind_in_words(list) + ", ");
+                Some(format!("<li>{} <small>{kind}image of {length} bytes</small></li>\n", path(report)))
             }
             _ => None,
         };
@@ -193,14 +194,18 @@ li { overflow-wrap: anywhere; }
 #[cfg(test)]
 mod tests {
     use super::*;
+    use independent::list::STATEMENT;
 
     #[test]
     fn a_page_counts_links_and_escapes() {
         let mut page = Page::new("the unit");
         let spot = Spot { line: 7, column: 3, text: "  <Nm>A & B</Nm>".to_string(), before: 2 };
-        let refusal = Refusal { code: 12, row: 52, place: 99, spot };
+        let refusal = Refusal { list: Some(&STATEMENT), code: 12, row: 52, place: 99, spot };
         page.add(Report { path: "<a>&\"b\".xml".into(), outcome: Outcome::Refused(refusal) });
-        page.add(Report { path: "good.xml".into(), outcome: Outcome::Accepted(67) });
+        page.add(Report {
+            path: "good.xml".into(),
+            outcome: Outcome::Accepted(Acceptance { list: Some(&STATEMENT), length: 68 }),
+        });
         page.add(Report { path: "gone.xml".into(), outcome: Outcome::Unreadable("no such file".to_string()) });
         let text = page.text();
         for piece in [
@@ -215,7 +220,7 @@ mod tests {
             "<span class=\"line\">7 | </span>  <mark>&lt;</mark>Nm&gt;A &amp; B&lt;/Nm&gt;\n<span class=\"line\">  | </span>  <b>^</b></pre>",
             "<li>gone.xml: no such file</li>",
             "<details id=\"code-0\">\n<summary>Accepted <small>1 file</small></summary>",
-            "<li>good.xml <small>image of 67 bytes</small></li>",
+            "<li>good.xml <small>statement (camt.053.001.08), image of 68 bytes</small></li>",
         ] {
             assert!(text.contains(piece), "{piece} in\n{text}");
         }

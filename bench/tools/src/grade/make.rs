@@ -1,4 +1,4 @@
-//! Statements made for tests, with the answer that each must get.
+//! Statements and reports made for tests, with the answer that each must get.
 
 use std::fs::{self, File, OpenOptions};
 use std::io::{self, Write};
@@ -6,6 +6,7 @@ use std::path::Path;
 
 use cases::feed::Case;
 use cases::statement::{make_by, Wanted};
+use independent::list::List;
 use independent::LIMIT;
 
 use super::write::file_of;
@@ -14,6 +15,8 @@ use crate::unit::{Line, Unit};
 
 /// What is to be made.
 pub struct Order {
+    /// Statements or reports.
+    pub list: &'static List,
     /// The first file's seed; each file has the next one.
     pub seed: u64,
     pub entries: usize,
@@ -23,7 +26,7 @@ pub struct Order {
     pub dense: bool,
 }
 
-/// Writes the statements into a folder, and a table of their answers, `ANSWERS.txt`, in the form of that in `examples/`. No file is
+/// Writes the messages into a folder, and a table of their answers, `ANSWERS.txt`, in the form of that in `examples/`. No file is
 /// written over; each stands in the table as soon as it is written. Dense ones are as the unit writes them.
 pub fn make_files(unit: &Unit, order: &Order, folder: &Path, out: &mut dyn Write) -> io::Result<()> {
     fs::create_dir_all(folder).map_err(named(folder))?;
@@ -37,7 +40,7 @@ pub fn make_files(unit: &Unit, order: &Order, folder: &Path, out: &mut dyn Write
     let mut table = write_new(&answers, head.as_bytes())?;
     for (number, code) in (1..=order.files).zip(order.codes.iter().cycle()) {
         let seed = order.seed.wrapping_add(number as u64 - 1);
-        let wanted = Wanted { seed, entries: order.entries, code: *code, dense: order.dense };
+        let wanted = Wanted { list: order.list, seed, entries: order.entries, code: *code, dense: order.dense };
         let written = |file: &[u8]| written(unit, file).map_err(|error| error.to_string());
         let made = make_by(wanted, written).map_err(io::Error::other)?;
         let name = match code {
@@ -58,7 +61,7 @@ fn written(unit: &Unit, file: &[u8]) -> io::Result<Vec<u8>> {
     let line = file_of(unit, &image)?;
     match (code, line.code) {
         (0, 0) => Ok(line.bytes),
-        (checked, written) => Err(io::Error::other(format!("the unit refuses a good statement: {checked}, {written}"))),
+        (checked, written) => Err(io::Error::other(format!("the unit refuses a good message: {checked}, {written}"))),
     }
 }
 

@@ -21,7 +21,7 @@ pub use json::object;
 pub use judge::judge;
 pub use kept::keep;
 pub use make::{make_files, Order};
-pub use report::{Outcome, Refusal, Report, Tally};
+pub use report::{Acceptance, Outcome, Refusal, Report, Tally};
 pub use show::{item_line, show};
 pub use spot::Spot;
 pub use write::write_files;

@@ -1,6 +1,6 @@
 //! The names of the codes, as the answer type of the unit has them, and `include/kto.h` after `KTO_`. `.ci/pages.py` holds them to it.
 
-use independent::list;
+use independent::list::List;
 use independent::Code;
 
 const NAMES: [(u8, &str); 21] = [
@@ -43,8 +43,8 @@ pub fn code_in_words(code: u8) -> String {
 }
 
 /// `row 30 Document/BkToCstmrStmt/Stmt/Ntry/BookgDt/Dt`; nothing of 0, which is no row.
-pub fn row_in_words(row: u8) -> Option<String> {
-    list::find(row).map(|row| format!("row {} {}", row.number, list::path(row)))
+pub fn row_in_words(list: &List, row: u8) -> Option<String> {
+    list.find(row).map(|found| format!("row {row} {}", list.path(found)))
 }
 
 #[cfg(test)]

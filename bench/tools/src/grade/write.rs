@@ -4,6 +4,8 @@ use std::io::{self, Write};
 use std::path::Path;
 
 use cases::feed::Case;
+use independent::list::STATEMENT;
+use independent::read::first_image;
 use independent::LIMIT;
 
 use super::divide::{divide, Part};
@@ -21,7 +23,8 @@ pub fn write_files(unit: &Unit, path: &Path, run: &[u8], folder: &Path, out: &mu
         if code != 0 {
             all_written = false;
             // Where the refusal has a row (20), its place is that of the item in the image; of 19 it is a length.
-            let why = match row_in_words(row) {
+            let list = first_image(bytes).map_or(&STATEMENT, |found| found.list);
+            let why = match row_in_words(list, row) {
                 Some(row) => format!("{row}, byte {}", start + place),
                 None => format!("{place} bytes needed"),
             };

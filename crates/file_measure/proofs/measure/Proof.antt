@@ -1,70 +1,14 @@
--- `measure` meets its contract: codes 1, 2 and 3 in turn, then the message. Assumes nothing.
+-- `measure` meets its contract: the answer of what is measured. Assumes nothing.
 use borrow.Author.Needs.{needs}
 use Rattle.file_measure.proofs.measure.Statement.{statement}
 use Rattle.file_measure.proofs.measure.Tie as tie
-use native.Mathlib.Omega.{arith}
-use Rattle.file.proofs.Early.{all-utf8}
-use Rattle.file_measure.proofs.Finds.{finds-long, finds-bytes, finds-markup, is-whole}
+use Rattle.file_measure.proofs.Finds.{measures-finds}
 
-too-long-requires : tie.Need-too-long-requires
-too-long-requires c κs = search needs
+measured-requires : tie.Need-measured-requires
+measured-requires c κs = search needs
 
 returns : tie.Need-returns
-returns c =
-    finds-long _ _ (omega (arith, c .before .if1 .taken)) (c .too-long .ensures)
-
-utf8-end-requires : tie.Need-utf8-end-requires
-utf8-end-requires c κs = search needs
-
-not-utf8-requires : tie.Need-not-utf8-requires
-not-utf8-requires c κs = search needs
-
-returns-2 : tie.Need-returns-2
-returns-2 c =
-    finds-bytes _ _ (omega (arith, c .before .before .before .if1 .left)) _ (c .before .before .utf8-end .ensures) (omega (arith, c .before .if2 .taken)) (c .not-utf8 .ensures)
-
-scan-requires : tie.Need-scan-requires
-scan-requires c κs = search needs
-
-enum-known-n : tie.Need-enum-known-n
-enum-known-n c = search needs
-
-not-house-xml-requires : tie.Need-not-house-xml-requires
-not-house-xml-requires c κs = search needs
-
-enum-told : tie.Need-enum-told
-enum-told c = search needs
-
-message-requires : tie.Need-message-requires
-message-requires c κs =
-    is-whole _ (omega (arith, c .before .before .before .before .before .if1 .left)) (all-utf8 _ _ (c .before .before .before .before .utf8-end .ensures) (omega (arith, c .before .before .before .if2 .left))) (c .before .before .scan .result) (c .before .before .scan .ensures) (c .enum-told .given .1)
-
-returns-3 : tie.Need-returns-3
-returns-3 c =
-    let at-n = c .before .before in
-    let at-scan = at-n .before .before in
-    let at-if2 = at-scan .before in
-    let at-utf8-end = at-if2 .before in
-    let at-if1 = at-utf8-end .before in
-    finds-markup _ _ (omega (arith, at-if1 .if1 .left)) (all-utf8 _ _ (at-utf8-end .utf8-end .ensures) (omega (arith, at-if2 .if2 .left)))
-    (at-scan .scan .result) (at-scan .scan .ensures) _ (at-n .n .given .1) (c .not-house-xml .ensures)
-
-returns-4 : tie.Need-returns-4
-returns-4 c = search needs
+returns c = measures-finds _ _ (c .before .measured .ensures)
 
 pub measure-spec : {M : Type 1} → statement M
-measure-spec =
-    tie.close
-    (tie.spec
-    too-long-requires
-    returns
-    utf8-end-requires
-    not-utf8-requires
-    returns-2
-    scan-requires
-    enum-known-n
-    not-house-xml-requires
-    enum-told
-    message-requires
-    returns-3
-    returns-4)
+measure-spec = tie.close (tie.spec measured-requires returns)

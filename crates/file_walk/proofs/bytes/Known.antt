@@ -1,4 +1,4 @@
--- A step that refuses nothing: what it met, by the bytes behind the place where it began. Assumes nothing.
+-- A step that refuses nothing: what it met, by the bytes after the place where it began. Assumes nothing.
 use mathlib.Core.Path.{_≡_, refl, sym, _∙_, ap, subst}
 use mathlib.Core.Logic.{_≢_}
 use mathlib.Core.Bool.{Bool, true, false, cond, true≢false, false≢true}
@@ -126,7 +126,7 @@ module _ (s : List ℕ) (at : ℕ) where
         go true b = ap (λ (x : Token). x .end) (is-close h b)
         go false b = absurd (not-close h b c)
 
-  -- in a group without ink the tag stands behind the blanks
+  -- in a group without ink the tag stands after the blanks
   pub blanks-less : (t : List ℕ) (row : ℕ) → isGroupIn (cell t row 2) ≡ true → ltb (inkBefore t s row at (k .less)) (k .less) ≡ false → at + span isBlank (drop at s) ≡ k .less
   unfolding inkBefore
   blanks-less t row g h =
@@ -213,7 +213,7 @@ module _ (t pool s st : List ℕ) (here : Here) where
       let w = one-way (ltb ink (token .less)) (refusedAt here (table.textInGroup (here .level .row) ink)) (metIn t pool s st here (token .kind) token) refl n in
       (w .0, subst Went (sym (w .1)) (stays (token .kind) refl (ap (λ (x : Turn). goesOn (x .met)) (sym (w .1)) ∙ n)))
 
-  -- ---- by the byte behind the `<`
+  -- ---- by the byte after the `<`
 
   goes : (q : Kind) → token .kind ≡ q → rank q ≢ 3 → token .kind ≢ End
   goes q e n = λ f. unlike (token .kind) q End e f n

@@ -130,7 +130,7 @@ module _ (T : Speller) (t pool s : List ℕ) (sd : Sound t pool) (m : Coins (jud
     -- ---- the text
 
     module _ (ps : List Piece) (x : Text s (here .at) (k .less) ps) (more : List Event) (is : es ≡ chars (here .at) ps more) where
-      -- behind the text
+      -- after the text
       abbrev inside : State
       inside = at lv below ats (kept (isGroup (kindOf l (lv .row))) ps)
 

@@ -4,14 +4,14 @@ use mathlib.Core.Logic.{_≢_, inl}
 use mathlib.Core.Bool.{Bool, true, false, _&&_, not}
 use mathlib.Core.List.{List, [], _∷_, _++_}
 use mathlib.Core.Option.{Option}
-use Prim.Native.Nat.{ℕ, _≤_, _<_}
+use Prim.Native.Nat.{ℕ, _+_, _≤_, _<_}
 use native.Mathlib.Omega.{arith}
 use lib.ListN.{length, length-append}
 use borrow.Author.Tests.{lt-ltb}
 use Rattle.answer.specs.declared.Answer.{Answer}
 use Rattle.answer.specs.Table as table
 use Rattle.text.specs.Lists.{same}
-use Rattle.text_characters.specs.Pieces.{Piece}
+use Rattle.text_characters.specs.Pieces.{Piece, spell}
 use Rattle.list.specs.Listing.{Listing, isGroup}
 use Rattle.list.specs.WellFormed.{WellFormed}
 use Rattle.list.specs.Table.{cell, listOf}
@@ -19,12 +19,12 @@ use Rattle.list.specs.Sound.{Sound}
 use Rattle.list.proofs.rows.Rows.{size-is, name-is}
 use Rattle.list.proofs.sound.Tests.{byCases}
 use Rattle.xml.specs.House.{Markup, noMore, piece, emptyTag, full, render, OneElement, declaration, Tree, whole as text, GoodTree}
-use Rattle.xml.specs.Message.{Attrs, partsOf, messageOf, rootAt}
+use Rattle.xml.specs.Message.{Attrs, Inside, nothingInside, character, element, partsOf, messageOf, rootAt}
 use Rattle.xml_tags.specs.declared.token.Kind.{Kind as Mark}
 use Rattle.xml_tags.specs.declared.token.Kind.the-variants.{Open, Empty, End}
 use Rattle.xml_tags.specs.declared.token.Token.{Token}
 use Rattle.xml_tags.specs.mirror.Tokens.{startOf}
-use Rattle.xml_tags.specs.Story.{Event, enter, leave, events, chars, tokenIn, Tagged, Tells}
+use Rattle.xml_tags.specs.Story.{Event, char, enter, leave, events, chars, tokenIn, Tagged, Tells}
 use Rattle.xml_tags.proofs.Tokens.{Ahead, token-within}
 use Rattle.xml_tags.proofs.Story.{start-root, start-opens, told}
 use Rattle.file_walk.specs.declared.found.Found.the-variants.{Violation}
@@ -36,7 +36,7 @@ use Rattle.file_walk.specs.Denotes.{OneElement as Single}
 use Rattle.file_walk.specs.mirror.Machine.{Speller, judgeOf, before, at, after, fresh, run, walk, emits}
 use Rattle.file_walk.specs.mirror.Tables.{freshIn, levels}
 use Rattle.file_walk.specs.mirror.Stride.{refusedAt}
-use Rattle.file_walk.specs.mirror.Begin.{isFirstIn, isRootIn, rootAt as root-in, rootedIn, hollowIn, foundIn, beginBy, beginIn}
+use Rattle.file_walk.specs.mirror.Begin.{isFirstIn, isRootIn, rootAt as root-in, rootedIn, hollowIn, foundIn, beginBy, beginIn, unrooted}
 use Rattle.file_walk.proofs.violation.Answers.{attrs-group}
 use Rattle.file_walk.proofs.Carrying.{root-judged}
 use Rattle.file_walk.proofs.bytes.Sound.{fresh-in}
@@ -65,6 +65,30 @@ some-events (full t j g i) o h = omega arith
 pub first-is : (T : Speller) (l : Listing) → WellFormed l → (m : Tree) → GoodTree m → firstViolation (judgeOf T) l (messageOf m) ≡ run T l before (events (messageOf m) [])
 unfolding walk
 first-is T l w m g = sym (walk-is T l w (messageOf m) (one-element (m .root) (rootAt m) (g .one)))
+
+-- ---- the root's tag keeps to a list, by the message and by its events
+
+abbrev pub rooted : Listing → Inside → Bool
+rooted l nothingInside = false
+rooted l (character o x k) = false
+rooted l (element o n ats i k) = isRoot l n ats
+
+module _ (l : Listing) where
+  abbrev rootedBy : List Event → Bool
+  rootedBy [] = false
+  rootedBy (char o x ∷ es) = rootedBy es
+  rootedBy (enter o n ats ∷ es) = isRoot l n ats
+  rootedBy (leave ∷ es) = false
+
+  rooted-events : (i : Markup) (o : ℕ) → OneElement i → rootedBy (events (partsOf o i) []) ≡ rooted l (partsOf o i)
+  rooted-events noMore o h = absurd h
+  rooted-events (piece p i) o h = absurd h
+  rooted-events (emptyTag t i) o h = refl
+  rooted-events (full t j g i) o h = refl
+
+  rooted-behind : (o : ℕ) (ps : List Piece) (es : List Event) → rootedBy (chars o ps es) ≡ rootedBy es
+  rooted-behind o [] es = refl
+  rooted-behind o (p ∷ ps) es = rooted-behind (o + length (spell p)) ps es
 
 start-within : (m : Tree) → GoodTree m → startOf (text m) ≤ length (text m)
 start-within m g =
@@ -133,7 +157,7 @@ module _ (T : Speller) (t pool : List ℕ) (sd : Sound t pool) (m : Tree) (good 
     unfolding emits
     handed-root = ap (emits T list before) is ∙ emits-before T list (startOf s) ps (enter (k .less) n ats ∷ more)
 
-    -- where the walk stands behind the root's tag
+    -- where the walk stands after the root's tag
     abbrev root : Here
     root = root-in t (k .less) (k .end)
 
@@ -191,3 +215,35 @@ module _ (T : Speller) (t pool : List ℕ) (sd : Sound t pool) (m : Tree) (good 
 
   pub began : Began T t pool (text m) sd m (beginIn t pool (text m))
   began = began-by (told-of (told m good))
+
+  -- ---- what is met there says whether the root keeps to the list
+
+  module _ (ps : List Piece) (n : List ℕ) (ats : Attrs) (more : List Event) (is : es ≡ chars (startOf s) ps (enter (k .less) n ats ∷ more)) (g : Tagged s k n ats) (going : k .kind ≢ End) where
+    kept-is : isRootIn t pool s (k .less) (k .stop) (k .attributes) ≡ rooted list (messageOf m)
+    kept-is = test-is ps n ats more is g going ∙ sym (ap (rootedBy list) is ∙ rooted-behind list (startOf s) ps (enter (k .less) n ats ∷ more)) ∙ rooted-events list (m .root) (rootAt m) (good .one)
+
+  met-by : (q : Mark) → k .kind ≡ q → unrooted (beginIn t pool s .met) ≡ unrooted (foundIn t pool s q k .met)
+  met-by q e = ap (λ z. unrooted (z .met)) (sym (by-kind q e))
+
+  open-kept : (b : Bool) (here : Here) (less : ℕ) → unrooted (rootedIn b here less .met) ≡ not b
+  unfolding rootedIn
+  open-kept true here less = refl
+  open-kept false here less = refl
+
+  empty-kept : (b : Bool) (here : Here) (less : ℕ) → unrooted (hollowIn b here less .met) ≡ not b
+  unfolding hollowIn
+  empty-kept true here less = refl
+  empty-kept false here less = refl
+
+  keeps-by : Told s (startOf s) es → unrooted (beginIn t pool s .met) ≡ not (rooted list (messageOf m))
+  keeps-by (byOpen ps n ats more is kind x g tells) =
+      met-by Open kind ∙ open-kept (isRootIn t pool s (k .less) (k .stop) (k .attributes)) (root-in t (k .less) (k .end)) (k .less)
+      ∙ ap not (kept-is ps n ats more is g (goes-on (k .kind) Open kind (omega arith)))
+  keeps-by (byEmpty ps n ats more is kind x g) =
+      met-by Empty kind ∙ empty-kept (isRootIn t pool s (k .less) (k .stop) (k .attributes)) (root-in t (k .less) (k .end)) (k .less)
+      ∙ ap not (kept-is ps n ats (leave ∷ more) is g (goes-on (k .kind) Empty kind (omega arith)))
+  keeps-by (byClose ps more is kind x tells) = absurd (closing-text 0 (startOf s) ps (leave ∷ more) (subst (Closing 0) is (closing-events (messageOf m) 0 [] refl)))
+  keeps-by (byEnd is) = absurd (omega (arith, some-events (m .root) (rootAt m) (good .one), ap length is))
+
+  pub keeps : unrooted (beginIn t pool (text m) .met) ≡ not (rooted (listOf t pool) (messageOf m))
+  keeps = keeps-by (told-of (told m good))

@@ -27,7 +27,7 @@ use Rattle.file_walk.specs.mirror.Stride.{isCurrency}
 use Rattle.file_walk.proofs.bytes.Sound.{Placed}
 use Rattle.file_walk.proofs.bytes.Joint.{judged}
 
--- these events close n open elements, and nothing is open behind them
+-- these events close n open elements, and nothing is open after them
 abbrev pub Closing : ℕ → List Event → Type 0
 Closing n [] = n ≡ 0
 Closing n (char o c ∷ es) = Closing n es
@@ -109,7 +109,7 @@ module _ (T : Speller) (t pool s : List ℕ) (sd : Sound t pool) where
       pub found : finds here below ats es ≡ Fine
       pub handed : hands here below ats es ≡ []
 
-    -- one step from here did one of these; st is the stack behind it
+    -- one step from here did one of these; st is the stack after it
     pub data Turned : Type 0 where
       refused : Refuses → Turned
       opened : Enters → Turned

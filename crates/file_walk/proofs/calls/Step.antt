@@ -134,7 +134,7 @@ module _ (g : Bool) (at : ℕ) where
   unfolding inkFrom
   ink-leaf less h = rw h
 
--- a text that is looked at from behind its blanks: the tag behind it, and its first ink
+-- a text that is looked at from after its blanks: the tag after it, and its first ink
 module _ (s : List ℕ) (g : Bool) (at o : ℕ) (k : Token) (e : o ≡ textFrom s g at) (is : k ≡ tokenIn s o) where
   pub token-from : k ≡ tokenIn s at
   unfolding textFrom
@@ -254,7 +254,7 @@ module _ (t pool s st : List ℕ) (here : Here) (k : Token) (i : ℕ) (e : i ≡
       let z : ltb (inkAhead t pool s st here k) (k .less) ≡ false = ap (λ n. ltb n (k .less)) (sym e) ∙ le-ltb i (k .less) h in
       (rw z (g ∙ ap (λ y. metIn t pool s st here y k) (sym f)), rw z (j ∙ ap (λ y. leftIn t pool s st here y k) (sym f)))
 
--- the token is the one behind here
+-- the token is the one after here
 module _ (t pool s st : List ℕ) (here : Here) (k : Token) (is : k ≡ tokenIn s (here .at)) (i : ℕ) (e : i ≡ inkBefore t s (here .level .row) (here .at) (k .less)) where
   abbrev pub Steps : Turn → List ℕ → Type 0
   Steps x below = (x ≡ stepIn t pool s st here) × (below ≡ stackIn t pool s st here)

@@ -147,7 +147,7 @@ module _ (T : Speller) (l : Listing) where
     unfolding fresh
     stands-fresh r o = record { last = refl; due = due-start l r; oddTo = λ e. absurd (false≢true e); oddFrom = never-odd r; top = tt; theirs = tt }
 
-    -- the flag behind a child of row r, the last one being x
+    -- the flag after a child of row r, the last one being x
     abbrev flagged : Bool → ℕ → ℕ → Bool
     flagged odd r x = odd || (not (eqb r x) && (misses (mate (l .rules) r) x || misses (pair (l .rules) x) r))
 

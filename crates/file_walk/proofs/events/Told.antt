@@ -1,4 +1,4 @@
--- What is told behind a place of a text, by the token there, and how events run on. Assumes nothing.
+-- What is told after a place of a text, by the token there, and how events run on. Assumes nothing.
 use mathlib.Core.Path.{_≡_, refl, sym, _∙_, ap}
 use mathlib.Core.Logic.{_≢_}
 use mathlib.Core.List.{List, [], _∷_}
@@ -15,7 +15,7 @@ use Rattle.file_walk.specs.declared.found.Found.the-variants.{Fine}
 use Rattle.file_walk.specs.mirror.Machine.{Speller, before, after, run, emits}
 use Rattle.file_walk.proofs.bytes.Stands.{Closing}
 
--- ---- what is told behind a place, by the token there
+-- ---- what is told after a place, by the token there
 
 pub data Told (s : List ℕ) (o : ℕ) (es : List Event) : Type 0 where
   byOpen : (ps : List Piece) (n : List ℕ) (ats : Attrs) (more : List Event) → es ≡ chars o ps (enter (tokenIn s o .less) n ats ∷ more)
@@ -55,7 +55,7 @@ closing-events (character o x k) n more h = closing-events k n more h
 closing-events (element o m ats i k) n more h = closing-events i (suc n) (leave ∷ events k more) (closing-events k n more h)
 
 module _ (T : Speller) (l : Listing) where
-  -- behind the root nothing is found or handed out
+  -- after the root nothing is found or handed out
   pub run-after : (es : List Event) → run T l after es ≡ Fine
   unfolding run
   run-after [] = refl

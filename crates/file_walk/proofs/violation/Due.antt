@@ -80,7 +80,7 @@ module _ (l : Listing) where
         | no y ↦ lack-less p q r seen (firstFrom-some (lack l p seen) 1 (size l) r (sym e) pos .lowest q h (omega arith))
       ]
 
-      -- behind r, what is not required
+      -- after r, what is not required
       free : (q : ℕ) → 1 ≤ q → q < 1 + size l → (Child l p q → required (rowAt l q .count) ≡ false) → lack l p (r ∷ seen) q ≡ false
       free q h k f = byCases (lack l p (r ∷ seen) q)
           (λ y. let w = lack-when p q (r ∷ seen) y in

@@ -2,7 +2,7 @@
 use mathlib.Core.Bool.{Bool, true, false, cond, not, _&&_, _||_}
 use mathlib.Core.List.{List}
 use Prim.Native.Nat.{ℕ, zero, suc, _+_}
-use lib.Dec.{ltb}
+use lib.Dec.{eqb, ltb}
 use lib.ListN.{length, drop}
 use lib.Seq.{slice}
 use Rattle.answer.specs.Table as table
@@ -18,7 +18,8 @@ use Rattle.xml_tags.specs.mirror.Tokens.{openAt, startOf}
 use Rattle.file_walk.specs.declared.hints.Carried.{Carried}
 use Rattle.file_walk.specs.declared.step.Here.{Here}
 use Rattle.file_walk.specs.declared.step.Turn.{Turn}
-use Rattle.file_walk.specs.declared.step.Met.the-variants.{Opened}
+use Rattle.file_walk.specs.declared.step.Met.{Met}
+use Rattle.file_walk.specs.declared.step.Met.the-variants.{Opened, Closed, Refused, Lost}
 use Rattle.file_walk.specs.mirror.Tables.{freshIn}
 use Rattle.file_walk.specs.mirror.Stride.{named, refusedAt, lostAt}
 
@@ -87,3 +88,10 @@ module _ (t pool s : List ℕ) where
 
   abbrev pub beginIn : Turn
   beginIn = beginBy (openAt (startOf s) (drop (startOf s) s))
+
+-- by what was met: the tag is not the root's, which code 4 says
+abbrev pub unrooted : Met → Bool
+unrooted Opened = false
+unrooted Closed = false
+unrooted (Refused a) = eqb (a .code) 4
+unrooted Lost = false

@@ -60,7 +60,7 @@ module _ (l : Listing) where
   fresh r o = record { row = r; place = o; last = 0; due = nextDue l r 0; odd = false }
 
   -- a child of row r: when it comes for the first time, its rule's first row must be the child before it, and the rule's second row must be the
-  -- child behind its first
+  -- child after its first
   unfoldable pub advance : Level → ℕ → Level
   advance lv r = record {
     row = lv .row;

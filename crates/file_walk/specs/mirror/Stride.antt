@@ -1,4 +1,4 @@
--- A mirror: one step of the walk over bytes and tables, a text and the tag behind it. Assumes nothing.
+-- A mirror: one step of the walk over bytes and tables, a text and the tag after it. Assumes nothing.
 use mathlib.Core.Bool.{Bool, cond, _&&_}
 use mathlib.Core.List.{List}
 use Prim.Native.Nat.{ℕ, _+_, _-_}
@@ -48,7 +48,7 @@ ownIn t s r count a =
 unfoldable pub inkBefore : List ℕ → List ℕ → ℕ → ℕ → ℕ → ℕ
 inkBefore t s row at less = cond (isGroupIn (cell t row 2)) (inkIn s at less) less
 
--- the same in two steps, g saying whether it is a group: from where a text is looked at, behind its blanks in a group, and the first ink
+-- the same in two steps, g saying whether it is a group: from where a text is looked at, after its blanks in a group, and the first ink
 -- from there
 unfoldable pub textFrom : List ℕ → Bool → ℕ → ℕ
 textFrom s g at = cond g (at + span isBlank (drop at s)) at
@@ -92,7 +92,7 @@ rowIn t pool s lv less stop = cond (ltb less (length s)) (childAlong t pool (lv 
 abbrev pub inner : List ℕ → Here → ℕ → ℕ → ℕ → Attribute → Here
 inner t here r less end a = record { level = freshIn t r less; depth = here .depth + 1; at = end; value = a .value; quote = a .quote }
 
--- by what the tests of an opening tag found: what an element that goes on leads to, and the stack behind it; an element without content
+-- by what the tests of an opening tag found: what an element that goes on leads to, and the stack after it; an element without content
 abbrev pub enteredBy : List ℕ → Here → ℕ → ℕ → ℕ → Attribute → Found → Turn
 enteredBy t here r less end a (Violation v) = refusedAt here v
 enteredBy t here r less end a Fine =
@@ -125,7 +125,7 @@ numberOf Close = 2
 numberOf End = 3
 
 module _ (t pool s st : List ℕ) (here : Here) where
-  -- by what stands behind the text
+  -- by what stands after the text
   abbrev pub metIn : Kind → Token → Turn
   metIn Close k = closedIn t (isGroupIn (cell t (here .level .row) 2)) st here (k .less) (k .end)
   metIn End k = lostAt here (k .less)
@@ -152,7 +152,7 @@ module _ (t pool s st : List ℕ) (here : Here) where
   unfoldable pub stackBy : Token → List ℕ
   stackBy k = cond (ltb (inkAhead k) (k .less)) st (leftIn (k .kind) k)
 
-  -- by the token behind here
+  -- by the token after here
   abbrev pub stepIn : Turn
   stepIn = stepBy (tokenIn s (here .at))
 

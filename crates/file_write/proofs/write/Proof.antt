@@ -17,8 +17,8 @@ returns c =
     let at-reading = at-if1 .before .before in
     write-unread _ _ (at-reading .reading .ensures) (at-if1 .if1 .taken) _
 
-rows-requires : tie.Need-rows-requires
-rows-requires c κs = search needs
+rows-of-requires : tie.Need-rows-of-requires
+rows-of-requires c κs = search needs
 
 slice-aggregate-lay : tie.Need-slice-aggregate-lay
 slice-aggregate-lay c = search needs
@@ -40,7 +40,7 @@ first-stale-requires c κs =
     let at-if1 = at-rows .before in
     let at-reading = at-if1 .before .before in
     write-held _ _ (at-reading .reading .ensures) (omega (arith, at-if1 .if1 .left)) _
-    (laid-says _ (laid-over _ _ _ _ (at-rows .rows .ensures) refl (at-lay .lay .ensures))) _ (at-pool .pool .ensures)
+    (laid-says _ _ (laid-over _ _ _ _ (at-rows .rows-of .ensures) refl (at-lay .lay .ensures))) _ (at-pool .pool .ensures)
 
 shared-slice-read-wide : tie.Need-shared-slice-read-wide
 shared-slice-read-wide c =
@@ -52,7 +52,7 @@ shared-slice-read-wide c =
     let at-if1 = at-rows .before in
     let at-reading = at-if1 .before .before in
     write-there _ _ (at-reading .reading .ensures) (omega (arith, at-if1 .if1 .left)) _
-    (laid-says _ (laid-over _ _ _ _ (at-rows .rows .ensures) refl (at-lay .lay .ensures))) _ (at-pool .pool .ensures)
+    (laid-says _ _ (laid-over _ _ _ _ (at-rows .rows-of .ensures) refl (at-lay .lay .ensures))) _ (at-pool .pool .ensures)
     _ (at-first-stale .first-stale .ensures) (at-if2 .if2 .taken)
 
 wide-requires : tie.Need-wide-requires
@@ -72,7 +72,7 @@ returns-2 c =
     let at-if1 = at-rows .before in
     let at-reading = at-if1 .before .before in
     write-finer _ _ (at-reading .reading .ensures) (omega (arith, at-if1 .if1 .left)) _
-    (laid-says _ (laid-over _ _ _ _ (at-rows .rows .ensures) refl (at-lay .lay .ensures))) _ (at-pool .pool .ensures)
+    (laid-says _ _ (laid-over _ _ _ _ (at-rows .rows-of .ensures) refl (at-lay .lay .ensures))) _ (at-pool .pool .ensures)
     _ (at-first-stale .first-stale .ensures) (at-if2 .if2 .taken) _ (at-wide .wide .ensures) _ _ (c .too-fine .ensures)
 
 slice-aggregate-emit : tie.Need-slice-aggregate-emit
@@ -89,7 +89,7 @@ emit-requires c κs =
     let at-if1 = at-rows .before in
     let at-reading = at-if1 .before .before in
     write-held _ _ (at-reading .reading .ensures) (omega (arith, at-if1 .if1 .left)) _
-    (laid-says _ (laid-over _ _ _ _ (at-rows .rows .ensures) refl (at-lay .lay .ensures))) _ (at-pool .pool .ensures)
+    (laid-says _ _ (laid-over _ _ _ _ (at-rows .rows-of .ensures) refl (at-lay .lay .ensures))) _ (at-pool .pool .ensures)
 
 too-large-requires : tie.Need-too-large-requires
 too-large-requires c κs = search needs
@@ -106,7 +106,7 @@ returns-3 c =
     let at-if1 = at-rows .before in
     let at-reading = at-if1 .before .before in
     write-large _ _ (at-reading .reading .ensures) (omega (arith, at-if1 .if1 .left)) _
-    (laid-says _ (laid-over _ _ _ _ (at-rows .rows .ensures) refl (at-lay .lay .ensures))) _ (at-pool .pool .ensures)
+    (laid-says _ _ (laid-over _ _ _ _ (at-rows .rows-of .ensures) refl (at-lay .lay .ensures))) _ (at-pool .pool .ensures)
     _ (at-first-stale .first-stale .ensures) (at-if2 .if2 .left) _ _ _ (at-emit .emit .ensures) _ _ (at-if3 .if3 .taken) (c .too-large .ensures)
 
 no-room-requires : tie.Need-no-room-requires
@@ -125,7 +125,7 @@ returns-4 c =
     let at-if1 = at-rows .before in
     let at-reading = at-if1 .before .before in
     write-short _ _ (at-reading .reading .ensures) (omega (arith, at-if1 .if1 .left)) _
-    (laid-says _ (laid-over _ _ _ _ (at-rows .rows .ensures) refl (at-lay .lay .ensures))) _ (at-pool .pool .ensures)
+    (laid-says _ _ (laid-over _ _ _ _ (at-rows .rows-of .ensures) refl (at-lay .lay .ensures))) _ (at-pool .pool .ensures)
     _ (at-first-stale .first-stale .ensures) (at-if2 .if2 .left) _ _ _ (at-emit .emit .ensures) _ _ (omega (arith, at-if3 .if3 .left)) (at-if4 .if4 .taken) (c .no-room .ensures)
 
 slice-aggregate-emit-3 : tie.Need-slice-aggregate-emit-3
@@ -139,7 +139,7 @@ emit-requires-2 c κs =
     let at-if1 = at-rows .before in
     let at-reading = at-if1 .before .before in
     write-held _ _ (at-reading .reading .ensures) (omega (arith, at-if1 .if1 .left)) _
-    (laid-says _ (laid-over _ _ _ _ (at-rows .rows .ensures) refl (at-lay .lay .ensures))) _ (at-pool .pool .ensures)
+    (laid-says _ _ (laid-over _ _ _ _ (at-rows .rows-of .ensures) refl (at-lay .lay .ensures))) _ (at-pool .pool .ensures)
 
 accepted-requires : tie.Need-accepted-requires
 accepted-requires c κs = search needs
@@ -153,7 +153,7 @@ same-length c =
     let at-if1 = at-rows .before in
     let at-reading = at-if1 .before .before in
     write-long _ _ (at-reading .reading .ensures) (omega (arith, at-if1 .if1 .left)) _
-    (laid-says _ (laid-over _ _ _ _ (at-rows .rows .ensures) refl (at-lay .lay .ensures))) _ (at-pool .pool .ensures) _ _ _
+    (laid-says _ _ (laid-over _ _ _ _ (at-rows .rows-of .ensures) refl (at-lay .lay .ensures))) _ (at-pool .pool .ensures) _ _ _
     (at-emit2 .emit2 .ensures)
 
 returns-5 : tie.Need-returns-5
@@ -170,7 +170,7 @@ returns-5 c =
     let at-if1 = at-rows .before in
     let at-reading = at-if1 .before .before in
     write-whole _ _ (at-reading .reading .ensures) (omega (arith, at-if1 .if1 .left)) _
-    (laid-says _ (laid-over _ _ _ _ (at-rows .rows .ensures) refl (at-lay .lay .ensures))) _ (at-pool .pool .ensures)
+    (laid-says _ _ (laid-over _ _ _ _ (at-rows .rows-of .ensures) refl (at-lay .lay .ensures))) _ (at-pool .pool .ensures)
     _ (at-first-stale .first-stale .ensures) (at-if2 .if2 .left) _ _ _ (at-emit .emit .ensures) _ _ (omega (arith, at-if3 .if3 .left))
     (omega (arith, at-if4 .if4 .left)) (c .accepted .ensures) _ _ (at-emit2 .emit2 .ensures)
 
@@ -180,7 +180,7 @@ write-spec =
     (tie.spec
     reading-requires
     returns
-    rows-requires
+    rows-of-requires
     slice-aggregate-lay
     lay-requires
     pool-requires

@@ -18,12 +18,12 @@ use Rattle.list.specs.Listing.{Leaf, Listing, isGroup}
 use Rattle.list.specs.WellFormed.{WellFormed}
 use Rattle.list.specs.Content.{Content, Meets}
 use Rattle.image.specs.Image.{Values, Lawful, Item, versioned, header, itemsBytes, body, image}
-use Rattle.image.specs.Place.{Holds, Breaks, Front, current, Among, Apart, Accepts, Reads, over, foreign, version, broken, wholeImage}
+use Rattle.image.specs.Place.{Holds, Breaks, Front, current, Among, Apart, Accepts, Reads, over, foreign, version, kindless, broken, wholeImage}
 use Rattle.image.specs.Pick.{rowsOf, Picked, Missing, Picks, refused, missing, found, PickAnswers, Hands}
 use Rattle.image.proofs.content.Rows.{less, same, clash}
 use Rattle.image.proofs.content.Prefix.{body-prefix}
 use Rattle.image.proofs.content.Stops.{breaks-one}
-use Rattle.image.proofs.answers.Heads.{front-long, front-three, front-five}
+use Rattle.image.proofs.answers.Heads.{front-long, front-three, front-five, front-six, second-named}
 
 module _ (vs : Values) (l : Listing) where
   -- how often a row is among items
@@ -74,18 +74,24 @@ module _ (vs : Values) (l : Listing) where
   not-missing from c r n p s a (inr h) =
       omega (arith, ap (many r) (a .at), many-append r (a .before) ((r, some (a .value)) ∷ a .behind), many-same r (some (a .value)) (a .behind), a .nth)
 
--- ---- the header and what stands behind it
+-- ---- the header and what stands after it
 
-not-headed : (run : List ℕ) (l : Listing) (h s : List ℕ) → Front l h → run ≡ h ++ s → (length run < 5) ⊎ (take 3 run ≢ ascii "KTO") → ⊥
+pub not-headed : (run : List ℕ) (l : Listing) (h s : List ℕ) → Front l h → run ≡ h ++ s → (length run < 5) ⊎ (take 3 run ≢ ascii "KTO") → ⊥
 not-headed run l h s f e (inl x) = omega (arith, front-long l h f, length-append h s, ap length e)
 not-headed run l h s f e (inr x) = x (ap (take 3) e ∙ front-three l h f s)
 
-not-version : (run : List ℕ) (l : Listing) (h s : List ℕ) → Front l h → run ≡ h ++ s → take 5 run ≢ versioned 1 → ⊥
-not-version run l h s f e x = x (ap (take 5) e ∙ front-five l h f s)
+pub not-version : (run : List ℕ) (l : Listing) (h s : List ℕ) → Front l h → run ≡ h ++ s → take 5 run ≢ versioned 1 → take 5 run ≢ versioned 2 → ⊥
+not-version run l h s f e x y = elim (front-five l h f s) [ inl z ↦ x (ap (take 5) e ∙ z) | inr z ↦ y (ap (take 5) e ∙ z) ]
+
+pub not-kindless : (run : List ℕ) (l : Listing) (h s : List ℕ) → Front l h → run ≡ h ++ s → take 5 run ≡ versioned 2 → take 6 run ≢ header l → ⊥
+not-kindless run l h s f e x y = y (ap (take 6) e ∙ front-six l h f s (sym (ap (take 5) e) ∙ x))
 
 foreign-not : (run : List ℕ) → (length run < 5) ⊎ (take 3 run ≢ ascii "KTO") → 5 ≤ length run → take 3 run ≡ ascii "KTO" → ⊥
 foreign-not run (inl h) g e = omega arith
 foreign-not run (inr h) g e = h e
+
+foreign-no-second : (run : List ℕ) → (length run < 5) ⊎ (take 3 run ≢ ascii "KTO") → take 5 run ≡ versioned 2 → ⊥
+foreign-no-second run x e = foreign-not run x (second-named run e .0) (second-named run e .1)
 
 module _ (vs : Values) (ls : List Listing) where
   -- an image begins whatever goes on with it
@@ -107,7 +113,8 @@ module _ (vs : Values) (ls : List Listing) where
   pub accepting : (run : List ℕ) (a : Answer) → Reads vs ls run a → a .code ≡ 0 → (length run ≤ limit) × Accepts vs ls run (a .place)
   accepting run a (over h e) z = absurd (omega (arith, ap (λ (x : Answer). x .code) e))
   accepting run a (foreign h x e) z = absurd (omega (arith, ap (λ (x : Answer). x .code) e))
-  accepting run a (version h x y w e) z = absurd (omega (arith, ap (λ (x : Answer). x .code) e))
+  accepting run a (version h x y w v e) z = absurd (omega (arith, ap (λ (x : Answer). x .code) e))
+  accepting run a (kindless h x y e) z = absurd (omega (arith, ap (λ (x : Answer). x .code) e))
   accepting run a (broken h l i p q s x n y e) z = absurd (omega (arith, ap (λ (x : Answer). x .code) e))
   accepting run a (wholeImage h n w e) z = (h, subst (Accepts vs ls run) (sym (ap (λ (x : Answer). x .place) e)) w)
 
@@ -158,6 +165,14 @@ module _ (vs : Values) (ls : List Listing) where
     not-both : (l m : Listing) → l ≡ m → (s t : List ℕ) → s ≡ t → (j k : ℕ) → Breaks vs l s j → Holds vs m t k → ⊥
     not-both l m e s t f j k a b = a .none k (subst (λ (z : Listing). Holds vs z s k) (sym e) (subst (λ (z : List ℕ). Holds vs m z k) (sym f) b))
 
+    -- demand 3, over every list and every version: where a run begins with two images they are of one list, one version and one content, and what follows is the same
+    pub told-kinds : (l m : Listing) → Among l ls → Among m ls → (h g : List ℕ) → Front l h → Front m g → (a b : Content (vs .Value)) → Meets (vs .Is) l a → Meets (vs .Is) m b → (u v : List ℕ)
+        → (h ++ body vs l a) ++ u ≡ (g ++ body vs m b) ++ v → (l ≡ m) × (h ≡ g) × (a ≡ b) × (u ≡ v)
+    told-kinds l m i j h g f k a b ma mb u v e =
+        let o = apart .one l m i j h g (body vs l a ++ u) (body vs m b ++ v) f k (sym (append-assoc h (body vs l a) u) ∙ e ∙ append-assoc g (body vs m b) v) in
+        let c = body-prefix vs lw l (wf l i) a b u v ma (subst (λ (z : Listing). Meets (vs .Is) z b) (sym (o .0)) mb) (o .2 ∙ ap (λ (z : Listing). body vs z b ++ v) (sym (o .0))) in
+        (o .0, o .1, c .0, c .1)
+
     module _ (run : List ℕ) (m n : ℕ) (a : Accepts vs ls run m) (b : Accepts vs ls run n) where
       one-front : (a .list ≡ b .list) × (a .head ≡ b .head) × (a .behind ≡ b .behind)
       one-front = apart .one (a .list) (b .list) (a .among) (b .among) (a .head) (b .head) (a .behind) (b .behind) (a .front) (b .front) (sym (a .at) ∙ b .at)
@@ -187,22 +202,32 @@ module _ (vs : Values) (ls : List Listing) where
     pub reads-one : (run : List ℕ) (a b : Answer) → Reads vs ls run a → Reads vs ls run b → a ≡ b
     reads-one run a b (over h e) (over g f) = e ∙ sym f
     reads-one run a b (over h e) (foreign i x f) = absurd (omega arith)
-    reads-one run a b (over h e) (version i x y z f) = absurd (omega arith)
+    reads-one run a b (over h e) (version i x y z w f) = absurd (omega arith)
+    reads-one run a b (over h e) (kindless i x y f) = absurd (omega arith)
     reads-one run a b (over h e) (broken i l k p q s x n y f) = absurd (omega arith)
     reads-one run a b (over h e) (wholeImage i n x f) = absurd (omega arith)
     reads-one run a b (foreign i x e) (over g f) = absurd (omega arith)
     reads-one run a b (foreign i x e) (foreign j y f) = e ∙ sym f
-    reads-one run a b (foreign i x e) (version j y z u f) = absurd (foreign-not run x y z)
+    reads-one run a b (foreign i x e) (version j y z u w f) = absurd (foreign-not run x y z)
+    reads-one run a b (foreign i x e) (kindless j y z f) = absurd (foreign-no-second run x y)
     reads-one run a b (foreign i x e) (broken j l k p q s y n z f) = absurd (not-headed run l p s q y x)
     reads-one run a b (foreign i x e) (wholeImage j n y f) = absurd (not-headed run (y .list) (y .head) (y .behind) (y .front) (y .at) x)
-    reads-one run a b (version i x y z e) (over g f) = absurd (omega arith)
-    reads-one run a b (version i x y z e) (foreign j u f) = absurd (foreign-not run u x y)
-    reads-one run a b (version i x y z e) (version j u v t f) = e ∙ sym f
-    reads-one run a b (version i x y z e) (broken j l k p q s u n v f) = absurd (not-version run l p s q u z)
-    reads-one run a b (version i x y z e) (wholeImage j n u f) = absurd (not-version run (u .list) (u .head) (u .behind) (u .front) (u .at) z)
+    reads-one run a b (version i x y z w e) (over g f) = absurd (omega arith)
+    reads-one run a b (version i x y z w e) (foreign j u f) = absurd (foreign-not run u x y)
+    reads-one run a b (version i x y z w e) (version j u v t r f) = e ∙ sym f
+    reads-one run a b (version i x y z w e) (kindless j u v f) = absurd (w u)
+    reads-one run a b (version i x y z w e) (broken j l k p q s u n v f) = absurd (not-version run l p s q u z w)
+    reads-one run a b (version i x y z w e) (wholeImage j n u f) = absurd (not-version run (u .list) (u .head) (u .behind) (u .front) (u .at) z w)
+    reads-one run a b (kindless i x y e) (over g f) = absurd (omega arith)
+    reads-one run a b (kindless i x y e) (foreign j u f) = absurd (foreign-no-second run u x)
+    reads-one run a b (kindless i x y e) (version j u v t r f) = absurd (r x)
+    reads-one run a b (kindless i x y e) (kindless j u v f) = e ∙ sym f
+    reads-one run a b (kindless i x y e) (broken j l k p q s u n v f) = absurd (not-kindless run l p s q u x (y l k))
+    reads-one run a b (kindless i x y e) (wholeImage j n u f) = absurd (not-kindless run (u .list) (u .head) (u .behind) (u .front) (u .at) x (y (u .list) (u .among)))
     reads-one run a b (broken i l k h q s x n y e) (over g f) = absurd (omega arith)
     reads-one run a b (broken i l k h q s x n y e) (foreign j u f) = absurd (not-headed run l h s q x u)
-    reads-one run a b (broken i l k h q s x n y e) (version j u v t f) = absurd (not-version run l h s q x t)
+    reads-one run a b (broken i l k h q s x n y e) (version j u v t r f) = absurd (not-version run l h s q x t r)
+    reads-one run a b (broken i l k h q s x n y e) (kindless j u v f) = absurd (not-kindless run l h s q x u (v l k))
     reads-one run a b (broken i l k h q s x n y e) (broken j l′ k′ h′ q′ s′ x′ n′ y′ f) =
         let o = apart .one l l′ k k′ h h′ s s′ q q′ (sym x ∙ x′) in
         let z : n ≡ n′ = same-breaks l l′ k (o .0) s s′ (o .2) n n′ y y′ in
@@ -210,7 +235,8 @@ module _ (vs : Values) (ls : List Listing) where
     reads-one run a b (broken i l k h q s x n y e) (wholeImage j m u f) = absurd (unbroken run l k h q s x n y m u)
     reads-one run a b (wholeImage i n x e) (over g f) = absurd (omega arith)
     reads-one run a b (wholeImage i n x e) (foreign j y f) = absurd (not-headed run (x .list) (x .head) (x .behind) (x .front) (x .at) y)
-    reads-one run a b (wholeImage i n x e) (version j y z u f) = absurd (not-version run (x .list) (x .head) (x .behind) (x .front) (x .at) u)
+    reads-one run a b (wholeImage i n x e) (version j y z u w f) = absurd (not-version run (x .list) (x .head) (x .behind) (x .front) (x .at) u w)
+    reads-one run a b (wholeImage i n x e) (kindless j u v f) = absurd (not-kindless run (x .list) (x .head) (x .behind) (x .front) (x .at) u (v (x .list) (x .among)))
     reads-one run a b (wholeImage i n x e) (broken j l k h q s y m z f) = absurd (unbroken run l k h q s y m z n x)
     reads-one run a b (wholeImage i n x e) (wholeImage j m y f) = e ∙ ap accepted (accepts-one run n m x y) ∙ sym f
 

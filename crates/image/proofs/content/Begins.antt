@@ -1,4 +1,4 @@
--- Items begin some content that meets the list exactly when each may come directly behind the one before it. Assumes nothing.
+-- Items begin some content that meets the list exactly when each may come directly after the one before it. Assumes nothing.
 use mathlib.Core.Path.{_≡_, refl, sym, _∙_, subst}
 use mathlib.Core.Logic.{_≢_}
 use mathlib.Core.List.{List, [], _∷_, _++_, append-nil, head-eq-of-cons-eq, tail-eq-of-cons-eq, nil≢cons}

@@ -12,7 +12,7 @@ use Rattle.image.specs.mirror.Follow.{parentOf, Simple, Compound, Fits, 
 use Rattle.image.proofs.content.Rows.{clash, group-is, value-is, Well}
 
 module _ (vs : Values) (l : Listing) where
-  -- what may follow in p behind its child q (0: none yet)
+  -- what may follow in p after its child q (0: none yet)
   abbrev pub After : ℕ → ℕ → Content (vs .Value) → Type 0
   After p q end = Shut l p q
   After p q (value r v k) = Fits l p q r × ValueOf (vs .Is) l (rowAt l r .kind) v × After p r k
@@ -28,7 +28,7 @@ module _ (vs : Values) (l : Listing) where
     after : Simple l q → Rest q t → Takes q t
     inside : Compound l q → (c : Content (vs .Value)) → After q 0 c → (u : List (Item vs)) → t ≡ items c ++ u → Rest q u → Takes q t
 
-  -- content of p behind q, then the rest of p
+  -- content of p after q, then the rest of p
   pub record Goes (p q : ℕ) (t : List (Item vs)) : Type 0 where
     pub content : Content (vs .Value)
     pub fits : After p q content

@@ -1,4 +1,4 @@
--- The rows side by side keep to their group exactly when each may come directly behind the one before it. Assumes nothing.
+-- The rows side by side keep to their group exactly when each may come directly after the one before it. Assumes nothing.
 use mathlib.Core.Path.{_≡_, refl, sym, _∙_, ap, subst}
 use mathlib.Core.Logic.{_≢_, _↔_, _⊎_, inl, inr, ⊎-elim}
 use mathlib.Core.Bool.{Bool, true, false, _||_, _&&_, true≢false, false≢true}
@@ -82,7 +82,7 @@ module _ (l : Listing) where
   Chain p q [] = Shut l p q
   Chain p q (r ∷ rs) = Fits l p q r × Chain p r rs
 
-  -- the rows in p behind its child q (0: none yet)
+  -- the rows in p after its child q (0: none yet)
   pub record From (p q : ℕ) (rs : List ℕ) : Type 0 where
     pub own : Each (Child l p) rs
     pub order : Rising q rs
@@ -145,7 +145,7 @@ module _ (l : Listing) where
     chain-counts p q [] c s cs h = within-none (countOf l s) (required-not q s (c .clear s cs h (omega (arith, cs .last))))
     chain-counts p q (r ∷ rs) c s cs h = count-on p q r rs (c .0) (c .1) s cs h (λ g. chain-counts p r rs (c .1) s cs g) (cmp s r)
 
-    -- behind the first row of a rule comes the second
+    -- after the first row of a rule comes the second
     owed-on : (p q r b : ℕ) (rs : List ℕ) → Fits l p q r → Child l p q → ruled l q b ≡ true → Cmp r b → 0 < times b (r ∷ rs)
     owed-on p q r b rs f cq e (same g) = rw (times-hit b r rs g) (omega arith)
     owed-on p q r b rs f cq e (less g) = ⊎-elim (λ h. absurd (in-rule q b r e cq (f .child) h g)) (λ h. absurd (once q b e .0 (subst (λ (z : ℕ). repeats (countOf l z) ≡ true) (sym (h .0)) (h .1)))) (f .order)

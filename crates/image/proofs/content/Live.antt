@@ -69,7 +69,7 @@ module _ (vs : Values) (lw : Lawful vs) (l : Listing) (w : Well l) where
       kinds-clash : {k : Kind} → k ≡ choice → k ≡ group → ⊥
       kinds-clash a b = let z : _≡_ {A = ℕ} 0 1 = cc in omega arith
 
-  -- the first child behind q that is due fits
+  -- the first child after q that is due fits
   due-fits : (p q x : ℕ) → 0 < p → Child l p q → Child l p x → q < x → due l q x ≡ true → ((s : ℕ) → q < s → s < x → (mine p s && due l q s) ≡ false) → Fits l p q x
   due-fits p q x z cq cx h d low = record {
     child = cx;

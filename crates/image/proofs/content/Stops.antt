@@ -56,7 +56,7 @@ module _ (vs : Values) (lw : Lawful vs) (l : Listing) (wf : WellFormed l) where
   pub ends-here : (q : ℕ) (u : List ℕ) → Simple l q → Over l q → Ends vs l q (0 ∷ u) 1
   ends-here q u k o = record { whole = []; rest = u; at = refl; trail = tt; leaf = k; over = o; long = refl }
 
-  -- behind a trail
+  -- after a trail
   trail-behind : (is js : List (Item vs)) (q : ℕ) → Trail vs l q (is ++ js) → Trail vs l (lastRow vs l q is) js
   trail-behind [] js q h = h
   trail-behind (i ∷ is) js q h = trail-behind is js (i .0) (h .2)

@@ -6,7 +6,7 @@ use Prim.Native.Nat.{ℕ}
 use Rattle.list.specs.Listing.{Kind, group, choice, leaf, Listing, rowAt}
 use Rattle.list.specs.Content.{Content, items}
 use Rattle.list.specs.Within.{Within}
-use Rattle.image.specs.Image.{Values, Item, header, valueBytes, itemsBytes, body, image}
+use Rattle.image.specs.Image.{Values, Item, versioned, valueBytes, itemsBytes, body, image}
 use Rattle.image.proofs.answers.Heads.{header-is}
 
 module _ (vs : Values) (l m : Listing) (w : Within l m) where
@@ -26,4 +26,4 @@ module _ (vs : Values) (l m : Listing) (w : Within l m) where
 
   pub image-within : (c : Content (vs .Value)) → image vs l c ≡ image vs m c
   unfolding image
-  image-within c = ap₂ (λ (h b : List ℕ). h ++ (b ++ (0 ∷ []))) (header-is l ∙ sym (header-is m)) (bytes-within (items c))
+  image-within c = ap₂ (λ (h b : List ℕ). h ++ (b ++ (0 ∷ []))) (header-is l ∙ ap (λ (b : ℕ). versioned 2 ++ (b ∷ [])) (w .byte) ∙ sym (header-is m)) (bytes-within (items c))

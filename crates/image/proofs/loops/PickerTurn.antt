@@ -131,7 +131,7 @@ leaf-code c e = go (ltb c 2) refl e
     go true h q = absurd (false≢true q)
     go false h q = (ltb-false c 2 h, leb-true c 11 q)
 
--- the value that is found, behind the bytes of its length, lies within the run
+-- the value that is found, after the bytes of its length, lies within the run
 pub found-end : (t s : List ℕ) (r from n p : ℕ) → 0 < p → Finds t (itemEnd t s) s from r n p → (p + headOf t r ≤ itemEnd t s r p) × (itemEnd t s r p ≤ length s)
 unfolding itemEnd isLeaf headOf begins
 found-end t s r from n p h f =

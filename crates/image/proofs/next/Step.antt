@@ -111,7 +111,7 @@ pub record Lines (t : List ℕ) (l : Listing) : Type 0 where
   pub line : (r : ℕ) → 0 < r → r ≤ size l → Line t l r
 
 module _ (l : Listing) (w : Well l) where
-  -- the lowest row due behind q in p
+  -- the lowest row due after q in p
   data Lowest (p q n : ℕ) : Type 0 where
     nothing : n ≡ 0 → ((s : ℕ) → Child l p s → q < s → due l q s ≡ false) → Lowest p q n
     lies : Child l p n → q < n → due l q n ≡ true → ((s : ℕ) → Child l p s → q < s → s < n → due l q s ≡ false) → Lowest p q n

@@ -10,7 +10,7 @@ use Rattle.list.specs.Listing.{amt}
 use Rattle.value.proofs.types.Values.{text-bytes, money-bytes, day-bytes, moment-bytes}
 use Rattle.value.specs.Value.{Value, text, place, truth, natural, day, moment, IsValue, money, bytes}
 
--- a text's own bytes stand behind the two of its length; the other kinds have as many bytes as docs/IMAGE.md says, whatever the value
+-- a text's own bytes stand after the two of its length; the other kinds have as many bytes as docs/IMAGE.md says, whatever the value
 pub record Sizes : Type 0 where
   pub ofText : (cs : List ℕ) → length (bytes (text cs)) ≡ 2 + length (encodeAll cs)
   pub ofEnum : (n : ℕ) → length (bytes (place n)) ≡ 1

@@ -6,6 +6,6 @@ use Rattle.list.specs.Table.{cell}
 use Rattle.value_from_bytes.specs.mirror.Ends.{valueEnd}
 use Rattle.image.specs.mirror.Step.{isLeaf}
 
--- behind the row byte of row x, at i: a group's item ends there, a leaf's behind its value; 0 where no value stands there
+-- after the row byte of row x, at i: a group's item ends there, a leaf's after its value; 0 where no value stands there
 unfoldable pub itemEnd : List ℕ → List ℕ → ℕ → ℕ → ℕ
 itemEnd t s x i = cond (isLeaf t x) (valueEnd (cell t x 2) (cell t x 3) (cell t x 15) s i) i

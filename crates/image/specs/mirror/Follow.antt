@@ -1,4 +1,4 @@
--- A mirror: which row may come directly behind which, from the row of the last item alone. Assumes nothing.
+-- A mirror: which row may come directly after which, from the row of the last item alone. Assumes nothing.
 use mathlib.Core.Path.{_≡_}
 use mathlib.Core.Logic.{_⊎_}
 use mathlib.Core.Bool.{Bool, true, false, _&&_, _||_}
@@ -85,7 +85,7 @@ module _ (vs : Values) (l : Listing) where
   abbrev pub ItemOk : ℕ → Option (vs .Value) → Type 0
   ItemOk r v = OfKind (rowAt l r .kind) v
 
-  -- the items go one behind the other from row q on
+  -- the items go one after the other from row q on
   abbrev pub Trail : ℕ → List (Item vs) → Type 0
   Trail q [] = Unit {0}
   Trail q (i ∷ is) = Next l (i .0) q × ItemOk (i .0) (i .1) × Trail (i .0) is

@@ -28,7 +28,7 @@ headOf t r = cond (leb (cell t r 2) 5) 2 0
 
 -- t is the first table; `fin x i` is the end of the value of row x at i, 0 where none stands there; s is the run
 module _ (t : List ℕ) (fin : ℕ → ℕ → ℕ) (s : List ℕ) where
-  -- at i, behind an item of row q
+  -- at i, after an item of row q
   unfoldable pub turn : ℕ → ℕ → Turn Answer
   turn q i =
       cond (leb (length s) i) (stop (brokenImage i))

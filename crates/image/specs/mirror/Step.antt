@@ -1,4 +1,4 @@
--- A mirror: which row may come directly behind which, as the code finds it in the first table. Assumes nothing.
+-- A mirror: which row may come directly after which, as the code finds it in the first table. Assumes nothing.
 use mathlib.Core.Bool.{Bool, true, false, cond}
 use mathlib.Core.List.{List}
 use Prim.Native.Nat.{ℕ, zero, suc}
@@ -13,7 +13,7 @@ isLeaf t r = cond (ltb (cell t r 2) 2) false (leb (cell t r 2) 11)
 unfoldable pub again : List ℕ → ℕ → Bool
 again t r = cond (ltb (cell t r 1) 2) false (leb (cell t r 1) 3)
 
--- the lowest sibling due behind q: its rule's second row, or the next required one; 0 where there is none
+-- the lowest sibling due after q: its rule's second row, or the next required one; 0 where there is none
 unfoldable pub owed : List ℕ → ℕ → ℕ
 owed t q = cond (eqb (cell t q 13) 0) (cell t q 12) (cell t q 13)
 
@@ -25,11 +25,11 @@ before due x = cond (eqb due 0) true (leb x due)
 unfoldable pub mated : List ℕ → ℕ → ℕ → Bool
 mated t q x = cond (eqb (cell t x 8) 0) true (eqb (cell t x 8) q)
 
--- x comes behind its sibling q
+-- x comes after its sibling q
 unfoldable pub inOrder : List ℕ → ℕ → ℕ → Bool
 inOrder t q x = cond (eqb q x) (again t x) (ltb q x)
 
--- x may stand behind q, the last child so far of their parent p
+-- x may stand after q, the last child so far of their parent p
 unfoldable pub beside : List ℕ → ℕ → ℕ → ℕ → Bool
 beside t p q x = cond (eqb (cell t p 2) 1) false (cond (inOrder t q x) (cond (before (owed t q) x) (mated t q x) false) false)
 
@@ -45,7 +45,7 @@ climbs t (suc k) q x =
     (cond (eqb (cell t q 0) (cell t x 0)) (beside t (cell t x 0) q x)
     (cond (eqb (owed t q) 0) (climbs t k (cell t q 0) x) false))
 
--- x may come directly behind q
+-- x may come directly after q
 unfoldable pub follows : List ℕ → ℕ → ℕ → Bool
 follows t q x = cond (eqb x 0) false (cond (ltb (cell t 0 0) x) false (cond (isLeaf t q) (climbs t 16 q x) (inside t q x)))
 
@@ -54,6 +54,6 @@ unfoldable pub rests : List ℕ → ℕ → ℕ → Bool
 rests t zero q = false
 rests t (suc k) q = cond (leb q 1) true (cond (eqb (owed t q) 0) (rests t k (cell t q 0)) false)
 
--- an image may end behind q
+-- an image may end after q
 unfoldable pub ended : List ℕ → ℕ → Bool
 ended t q = cond (isLeaf t q) (rests t 16 q) false

@@ -3,14 +3,14 @@ use mathlib.Core.Path.{_≡_}
 use mathlib.Core.Logic.{_≢_, _⊎_}
 use mathlib.Core.Bool.{Bool, true, false}
 use mathlib.Core.List.{List, _++_}
-use Prim.Native.Nat.{ℕ, _≤_, _<_}
-use lib.ListN.{length, take}
+use Prim.Native.Nat.{ℕ, _+_, _*_, _≤_, _<_}
+use lib.ListN.{length, getD, take}
 use Rattle.answer.specs.Table.{limit}
 use Rattle.text.specs.Bytes.{ascii}
 use Rattle.list.specs.Listing.{Listing}
-use Rattle.image.specs.Image.{versioned}
-use Rattle.image_reading.specs.Reads.{HouseReads}
-use Rattle.image_reading.specs.Forms.{Formed}
+use Rattle.image.specs.Place.{Among, Front}
+use Rattle.image_reading.specs.Reads.{stored, HouseReads}
+use Rattle.image_reading.specs.Forms.{Headed}
 use Rattle.image_reading.specs.declared.front.Reading.{Reading}
 
 -- five bytes or more, of which the first three are `KTO`
@@ -21,12 +21,21 @@ pub record Named (s : List ℕ) (b : Bool) : Type 0 where
   pub yes′ : b ≡ true → Kto s
   pub no′ : b ≡ false → (length s < 5) ⊎ (take 3 s ≢ ascii "KTO")
 
--- of version 1, or not
-pub record OfVersion (s : List ℕ) (b : Bool) : Type 0 where
-  pub yes′ : b ≡ true → take 5 s ≡ versioned 1
-  pub no′ : b ≡ false → take 5 s ≢ versioned 1
+-- the version, in 16 bits after the name
+abbrev pub versionOf : List ℕ → ℕ
+versionOf s = 256 * getD s 3 0 + getD s 4 0
 
--- up to the items: no image begins here, or one of this form may, whose items begin behind its header
+-- the byte after it, of a list; or 0, where it is missing or no list's
+pub record KindByte (s : List ℕ) (k : ℕ) : Type 0 where
+  pub its : k ≢ 0 → (k ≤ 2) × (k ≡ getD s 5 0)
+  pub none : k ≡ 0 → (getD s 5 0 ≡ 0) ⊎ (2 < getD s 5 0)
+
+-- how a run of any length begins; where as no image does, what a reader answers
+pub record Starts (run : List ℕ) (r : Reading) : Type 0 where
+  pub head : Headed run (r .kind) (r .from)
+  pub why : r .kind ≡ 0 → (r .answer .code ≢ 0) × (length run ≤ limit → HouseReads run (r .answer))
+
+-- up to the items: no image begins here, or one of the list of this kind byte may, whose items begin after its header
 pub data Fronts (run : List ℕ) (r : Reading) : Type 0 where
-  nothing : HouseReads run (r .answer) → r .answer .code ≢ 0 → r .form ≡ 0 → r .from ≡ 0 → Fronts run r
-  headed : length run ≤ limit → (l : Listing) (h s : List ℕ) → Formed (r .form) l h → run ≡ h ++ s → r .from ≡ length h → Fronts run r
+  nothing : HouseReads run (r .answer) → r .answer .code ≢ 0 → r .kind ≡ 0 → r .from ≡ 0 → Fronts run r
+  headed : length run ≤ limit → (l : Listing) → Among l stored → (h s : List ℕ) → Front l h → run ≡ h ++ s → r .kind ≡ l .byte → r .from ≡ length h → Fronts run r

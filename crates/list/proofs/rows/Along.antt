@@ -148,7 +148,7 @@ module _ (t pool : List ℕ) (s : Sound t pool) where
         (λ y. rw y (sym (child-is l p n (s .well) (along t pool n 255 last) (finds 255 last (along t pool n 255 last) b refl (ltb-true 0 _ y)))))
         (λ d. rw d (first h))
 
-  -- the next required child of p, behind q
+  -- the next required child of p, after q
   pub due-after : (p q : ℕ) → p ≤ size l → (q ≡ 0) ⊎ Child l p q → dueAfter t p q ≡ nextDue l p q
   unfolding dueAfter
   due-after p q h (inl e) = rw (eq-eqb q 0 e) (s .derived p h .dueChild ∙ ap (nextDue l p) (sym e))

@@ -192,6 +192,7 @@ module _ (l : Listing) where
       kinds = λ p r c. kind-is (rowAt l r .kind) (row p r c 7);
       rules = rules-are (l .rules) (whole 6);
       space = every-is isUnmarked (l .space) (whole 7);
+      byte = in-range-is 1 255 (l .byte) (whole 8);
     }
 
 -- ---- the columns that follow

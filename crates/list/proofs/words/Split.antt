@@ -14,7 +14,7 @@ use borrow.Author.Tests.{eq-eqb, ne-eqb}
 use Rattle.text.specs.Lists.{span, same}
 use Rattle.text.proofs.Spans.{span-le}
 use Rattle.text.proofs.Parts.{part-take}
-use Rattle.list.specs.Table.{words, longer, placeFrom, placeIn}
+use Rattle.list.specs.Table.{words, wordsOf, longer, placeFrom, placeIn}
 use Rattle.list.specs.mirror.Lookup.{notSpace}
 use Rattle.list.proofs.sound.Tests.{byCases}
 use Rattle.list.proofs.words.Places.{place-here, place-on}
@@ -45,7 +45,7 @@ words-last (x ∷ xs) e = byCases (eqb x 32)
     (λ y. absurd (omega (arith, span-space x xs y)))
     (λ n. words-other x xs n ∙ ap (longer x) (words-last xs (omega (arith, span-other x xs n))))
 
--- a space: the word before it, and the words behind it
+-- a space: the word before it, and the words after it
 words-more : (s : List ℕ) (k : ℕ) → span notSpace s ≡ k → k < length s → words s ≡ take k s ∷ words (drop (suc k) s)
 words-more [] k e h = absurd (omega arith)
 words-more (x ∷ xs) k e h = byCases (eqb x 32)
@@ -57,6 +57,17 @@ words-more (x ∷ xs) k e h = byCases (eqb x 32)
         → eqb x 32 ≡ false → words (x ∷ xs) ≡ take k (x ∷ xs) ∷ words (drop (suc k) (x ∷ xs))
     go zero e h f n = absurd (omega arith)
     go (suc k) e h f n = words-other x xs n ∙ ap (longer x) (f k (omega arith) (omega arith))
+
+-- a text with a byte has these words; as the n-th word, one without has no other than none
+some-words : (s : List ℕ) → 0 < length s → words s ≡ wordsOf s
+some-words [] h = absurd (omega arith)
+some-words (x ∷ xs) h = refl
+
+pub nth-words : (s : List ℕ) (n : ℕ) → getD (words s) n [] ≡ getD (wordsOf s) n []
+unfolding words
+nth-words [] zero = refl
+nth-words [] (suc n) = refl
+nth-words (x ∷ xs) n = refl
 
 -- ---- in a part of the pool
 
@@ -109,7 +120,7 @@ module _ (pool : List ℕ) (i e j : ℕ) (to : e ≤ length pool) (at : j ≡ i 
       let k : span notSpace (slice i e pool) ≡ length (slice i e pool) = omega (arith, most, long) in
       words-last (slice i e pool) k ∙ ap (λ w. w ∷ []) (sym (take-length (slice i e pool)) ∙ ap (λ n. take n (slice i e pool)) (sym k) ∙ first)
 
-  -- a space stands there, and then the words behind it
+  -- a space stands there, and then the words after it
   next-word : j < e → words (slice i e pool) ≡ slice i j pool ∷ words (slice (j + 1) e pool)
   next-word h =
       let n : i + suc (span notSpace (slice i e pool)) ≡ j + 1 = omega arith in
@@ -132,12 +143,21 @@ pub record Seeks (pool w : List ℕ) (e i place n : ℕ) : Type 0 where
   pub low : place ≤ i + 1
   pub rest : placeFrom place (words (slice i e pool)) w ≡ n
 
-pub seek-start : (pool w : List ℕ) (i x e y z : ℕ) → e ≡ min x (length pool) → i ≡ y → x ≡ z → Seeks pool w e i 1 (placeIn (words (slice y z pool)) w)
-seek-start pool w i x e y z h f g = record {
-  to = omega arith;
-  low = omega arith;
-  rest = ap (λ p. placeFrom 1 (words p) w) (slice-least pool i x e h ∙ ap₂ (λ a b. slice a b pool) f g);
-}
+module _ (pool w : List ℕ) (i x e y z : ℕ) (h : e ≡ min x (length pool)) (f : i ≡ y) (g : x ≡ z) where
+  whole : slice i e pool ≡ slice y z pool
+  whole = slice-least pool i x e h ∙ ap₂ (λ a b. slice a b pool) f g
+
+  -- of a row without words nothing is sought
+  pub seek-nothing : e ≤ i → 0 ≡ placeIn (wordsOf (slice y z pool)) w
+  unfolding placeFrom
+  seek-nothing l = ap (λ p. placeFrom 1 (wordsOf p) w) (sym (empty-part (slice i e pool) (omega (arith, length-slice i e pool (omega arith)))) ∙ whole)
+
+  pub seek-start : i < e → Seeks pool w e i 1 (placeIn (wordsOf (slice y z pool)) w)
+  seek-start l = record {
+    to = omega arith;
+    low = omega arith;
+    rest = ap (λ v. placeFrom 1 v w) (some-words (slice i e pool) (omega (arith, length-slice i e pool (omega arith)))) ∙ ap (λ p. placeFrom 1 (wordsOf p) w) whole;
+  }
 
 module _ {pool w : List ℕ} {e i place n j : ℕ} {x : Bool} (k : Seeks pool w e i place n) (at : j ≡ i + span notSpace (slice i e pool))
     (f : x ≡ same (slice i j pool) w) where
@@ -165,15 +185,15 @@ module _ {pool w : List ℕ} {e i place n j : ℕ} {x : Bool} (k : Seeks pool w 
 
 -- ---- counting to a word
 
--- the n-th word is still left words behind the one that starts at i
+-- the n-th word is still left words after the one that starts at i
 pub record Counts (pool : List ℕ) (e i left : ℕ) (w : List ℕ) : Type 0 where
   pub to : e ≤ length pool
   pub rest : getD (words (slice i e pool)) left [] ≡ w
 
-pub count-start : (pool : List ℕ) (i x e y z n : ℕ) → e ≡ min x (length pool) → i ≡ y → x ≡ z → Counts pool e i n (getD (words (slice y z pool)) n [])
+pub count-start : (pool : List ℕ) (i x e y z n : ℕ) → e ≡ min x (length pool) → i ≡ y → x ≡ z → Counts pool e i n (getD (wordsOf (slice y z pool)) n [])
 count-start pool i x e y z n h f g = record {
   to = omega arith;
-  rest = ap (λ p. getD (words p) n []) (slice-least pool i x e h ∙ ap₂ (λ a b. slice a b pool) f g);
+  rest = ap (λ p. getD (words p) n []) (slice-least pool i x e h ∙ ap₂ (λ a b. slice a b pool) f g) ∙ nth-words (slice y z pool) n;
 }
 
 no-word : (n : ℕ) → [] ≡ getD (words []) n []

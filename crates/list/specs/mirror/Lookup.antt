@@ -14,11 +14,11 @@ dueAfter t p q = cond (eqb q 0) (cell t p 11) (cell t q 12)
 unfoldable pub notSpace : ℕ → Bool
 notSpace x = not (eqb x 32)
 
--- the first row called n among r and the siblings behind it, of which at most k are looked at; 0 where there is none
+-- the first row called n among r and the siblings after it, of which at most k are looked at; 0 where there is none
 unfoldable pub along : List ℕ → List ℕ → List ℕ → ℕ → ℕ → ℕ
 along t pool n zero r = 0
 along t pool n (suc k) r = cond (eqb r 0) 0 (cond (same (nameIn t pool r) n) r (along t pool n k (cell t r 10)))
 
--- p's child called n: first among the child that came last (0: none) and the siblings behind it, where the next one mostly is; then among all
+-- p's child called n: first among the child that came last (0: none) and the siblings after it, where the next one mostly is; then among all
 unfoldable pub childAlong : List ℕ → List ℕ → ℕ → ℕ → List ℕ → ℕ
 childAlong t pool p last n = cond (ltb 0 (along t pool n 255 last)) (along t pool n 255 last) (along t pool n 255 (cell t p 9))

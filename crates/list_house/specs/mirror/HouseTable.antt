@@ -6,7 +6,7 @@ use Rattle.text.specs.Bytes.{ascii}
 
 unfoldable pub houseRows : List ℕ
 houseRows =
-    57 ∷ 265 ∷ 311 ∷ 0 ∷ 0 ∷ 0 ∷ 0 ∷ 0 ∷ 0 ∷ 1 ∷ 1 ∷ 1 ∷ 1 ∷ 0 ∷ 0 ∷ 0 ∷  -- the list
+    57 ∷ 265 ∷ 311 ∷ 1 ∷ 0 ∷ 0 ∷ 0 ∷ 0 ∷ 0 ∷ 1 ∷ 1 ∷ 1 ∷ 1 ∷ 0 ∷ 0 ∷ 0 ∷  -- the list
     0 ∷ 0 ∷ 0 ∷ 0 ∷ 0 ∷ 8 ∷ 0 ∷ 0 ∷ 0 ∷ 2 ∷ 0 ∷ 2 ∷ 0 ∷ 0 ∷ 1 ∷ 0 ∷  -- 1 Document
     1 ∷ 0 ∷ 0 ∷ 0 ∷ 8 ∷ 21 ∷ 0 ∷ 0 ∷ 0 ∷ 3 ∷ 0 ∷ 3 ∷ 0 ∷ 0 ∷ 2 ∷ 0 ∷  -- 2 BkToCstmrStmt
     2 ∷ 0 ∷ 0 ∷ 0 ∷ 21 ∷ 27 ∷ 0 ∷ 0 ∷ 0 ∷ 4 ∷ 6 ∷ 4 ∷ 6 ∷ 0 ∷ 3 ∷ 0 ∷  -- 3 GrpHdr
@@ -66,6 +66,68 @@ houseRows =
     56 ∷ 3 ∷ 3 ∷ 140 ∷ 233 ∷ 238 ∷ 0 ∷ 0 ∷ 0 ∷ 0 ∷ 0 ∷ 0 ∷ 0 ∷ 0 ∷ 8 ∷ 0 ∷  -- 57 Ustrd
     []
 
+unfoldable pub reportRows : List ℕ
+reportRows =
+    57 ∷ 358 ∷ 404 ∷ 2 ∷ 0 ∷ 0 ∷ 0 ∷ 0 ∷ 0 ∷ 1 ∷ 1 ∷ 1 ∷ 1 ∷ 0 ∷ 0 ∷ 0 ∷  -- report: the list
+    0 ∷ 0 ∷ 0 ∷ 0 ∷ 0 ∷ 8 ∷ 0 ∷ 0 ∷ 0 ∷ 2 ∷ 0 ∷ 2 ∷ 0 ∷ 0 ∷ 1 ∷ 0 ∷  -- report: 1 Document
+    1 ∷ 0 ∷ 0 ∷ 0 ∷ 311 ∷ 327 ∷ 0 ∷ 0 ∷ 0 ∷ 3 ∷ 0 ∷ 3 ∷ 0 ∷ 0 ∷ 2 ∷ 0 ∷  -- report: 2 BkToCstmrAcctRpt
+    2 ∷ 0 ∷ 0 ∷ 0 ∷ 21 ∷ 27 ∷ 0 ∷ 0 ∷ 0 ∷ 4 ∷ 6 ∷ 4 ∷ 6 ∷ 0 ∷ 3 ∷ 0 ∷  -- report: 3 GrpHdr
+    3 ∷ 0 ∷ 2 ∷ 0 ∷ 27 ∷ 32 ∷ 0 ∷ 0 ∷ 0 ∷ 0 ∷ 5 ∷ 0 ∷ 5 ∷ 0 ∷ 4 ∷ 0 ∷  -- report: 4 MsgId
+    3 ∷ 0 ∷ 11 ∷ 0 ∷ 32 ∷ 39 ∷ 0 ∷ 0 ∷ 0 ∷ 0 ∷ 0 ∷ 0 ∷ 0 ∷ 0 ∷ 4 ∷ 0 ∷  -- report: 5 CreDtTm
+    2 ∷ 2 ∷ 0 ∷ 0 ∷ 327 ∷ 330 ∷ 0 ∷ 0 ∷ 0 ∷ 7 ∷ 0 ∷ 7 ∷ 0 ∷ 0 ∷ 3 ∷ 0 ∷  -- report: 6 Rpt
+    6 ∷ 0 ∷ 2 ∷ 0 ∷ 43 ∷ 45 ∷ 0 ∷ 0 ∷ 0 ∷ 0 ∷ 8 ∷ 0 ∷ 9 ∷ 0 ∷ 4 ∷ 0 ∷  -- report: 7 Id
+    6 ∷ 1 ∷ 8 ∷ 0 ∷ 45 ∷ 57 ∷ 0 ∷ 0 ∷ 0 ∷ 0 ∷ 9 ∷ 0 ∷ 9 ∷ 0 ∷ 4 ∷ 0 ∷  -- report: 8 ElctrncSeqNb
+    6 ∷ 0 ∷ 0 ∷ 0 ∷ 57 ∷ 61 ∷ 0 ∷ 0 ∷ 0 ∷ 10 ∷ 15 ∷ 10 ∷ 0 ∷ 0 ∷ 4 ∷ 0 ∷  -- report: 9 Acct
+    9 ∷ 0 ∷ 1 ∷ 0 ∷ 43 ∷ 45 ∷ 0 ∷ 0 ∷ 0 ∷ 11 ∷ 14 ∷ 0 ∷ 0 ∷ 0 ∷ 5 ∷ 0 ∷  -- report: 10 Id
+    10 ∷ 4 ∷ 4 ∷ 0 ∷ 61 ∷ 65 ∷ 0 ∷ 0 ∷ 0 ∷ 0 ∷ 12 ∷ 0 ∷ 0 ∷ 0 ∷ 6 ∷ 0 ∷  -- report: 11 IBAN
+    10 ∷ 4 ∷ 0 ∷ 0 ∷ 65 ∷ 69 ∷ 0 ∷ 0 ∷ 0 ∷ 13 ∷ 0 ∷ 13 ∷ 0 ∷ 0 ∷ 6 ∷ 0 ∷  -- report: 12 Othr
+    12 ∷ 0 ∷ 3 ∷ 34 ∷ 43 ∷ 45 ∷ 0 ∷ 0 ∷ 0 ∷ 0 ∷ 0 ∷ 0 ∷ 0 ∷ 0 ∷ 7 ∷ 0 ∷  -- report: 13 Id
+    9 ∷ 1 ∷ 5 ∷ 0 ∷ 69 ∷ 72 ∷ 0 ∷ 0 ∷ 0 ∷ 0 ∷ 0 ∷ 0 ∷ 0 ∷ 0 ∷ 5 ∷ 0 ∷  -- report: 14 Ccy
+    6 ∷ 3 ∷ 0 ∷ 0 ∷ 72 ∷ 75 ∷ 0 ∷ 0 ∷ 0 ∷ 16 ∷ 23 ∷ 16 ∷ 0 ∷ 0 ∷ 4 ∷ 0 ∷  -- report: 15 Bal
+    15 ∷ 0 ∷ 0 ∷ 0 ∷ 75 ∷ 77 ∷ 0 ∷ 0 ∷ 0 ∷ 17 ∷ 19 ∷ 17 ∷ 19 ∷ 0 ∷ 5 ∷ 0 ∷  -- report: 16 Tp
+    16 ∷ 0 ∷ 0 ∷ 0 ∷ 77 ∷ 86 ∷ 0 ∷ 0 ∷ 0 ∷ 18 ∷ 0 ∷ 18 ∷ 0 ∷ 0 ∷ 6 ∷ 0 ∷  -- report: 17 CdOrPrtry
+    17 ∷ 0 ∷ 6 ∷ 0 ∷ 86 ∷ 88 ∷ 330 ∷ 349 ∷ 0 ∷ 0 ∷ 0 ∷ 0 ∷ 0 ∷ 0 ∷ 7 ∷ 4 ∷  -- report: 18 Cd
+    15 ∷ 0 ∷ 9 ∷ 0 ∷ 88 ∷ 91 ∷ 0 ∷ 0 ∷ 0 ∷ 0 ∷ 20 ∷ 0 ∷ 20 ∷ 0 ∷ 5 ∷ 0 ∷  -- report: 19 Amt
+    15 ∷ 0 ∷ 6 ∷ 0 ∷ 91 ∷ 100 ∷ 252 ∷ 261 ∷ 0 ∷ 0 ∷ 21 ∷ 0 ∷ 21 ∷ 0 ∷ 5 ∷ 2 ∷  -- report: 20 CdtDbtInd
+    15 ∷ 0 ∷ 0 ∷ 0 ∷ 100 ∷ 102 ∷ 0 ∷ 0 ∷ 0 ∷ 22 ∷ 0 ∷ 22 ∷ 0 ∷ 0 ∷ 5 ∷ 0 ∷  -- report: 21 Dt
+    21 ∷ 0 ∷ 10 ∷ 0 ∷ 100 ∷ 102 ∷ 0 ∷ 0 ∷ 0 ∷ 0 ∷ 0 ∷ 0 ∷ 0 ∷ 0 ∷ 6 ∷ 0 ∷  -- report: 22 Dt
+    6 ∷ 3 ∷ 0 ∷ 0 ∷ 102 ∷ 106 ∷ 0 ∷ 0 ∷ 0 ∷ 24 ∷ 0 ∷ 24 ∷ 0 ∷ 0 ∷ 4 ∷ 0 ∷  -- report: 23 Ntry
+    23 ∷ 0 ∷ 9 ∷ 0 ∷ 88 ∷ 91 ∷ 0 ∷ 0 ∷ 0 ∷ 0 ∷ 25 ∷ 0 ∷ 25 ∷ 0 ∷ 5 ∷ 0 ∷  -- report: 24 Amt
+    23 ∷ 0 ∷ 6 ∷ 0 ∷ 91 ∷ 100 ∷ 252 ∷ 261 ∷ 0 ∷ 0 ∷ 26 ∷ 0 ∷ 27 ∷ 0 ∷ 5 ∷ 2 ∷  -- report: 25 CdtDbtInd
+    23 ∷ 1 ∷ 7 ∷ 0 ∷ 106 ∷ 113 ∷ 0 ∷ 0 ∷ 0 ∷ 0 ∷ 27 ∷ 0 ∷ 27 ∷ 0 ∷ 5 ∷ 0 ∷  -- report: 26 RvslInd
+    23 ∷ 0 ∷ 0 ∷ 0 ∷ 113 ∷ 116 ∷ 0 ∷ 0 ∷ 0 ∷ 28 ∷ 29 ∷ 28 ∷ 34 ∷ 0 ∷ 5 ∷ 0 ∷  -- report: 27 Sts
+    27 ∷ 0 ∷ 6 ∷ 0 ∷ 86 ∷ 88 ∷ 349 ∷ 358 ∷ 0 ∷ 0 ∷ 0 ∷ 0 ∷ 0 ∷ 0 ∷ 6 ∷ 2 ∷  -- report: 28 Cd
+    23 ∷ 1 ∷ 0 ∷ 0 ∷ 116 ∷ 123 ∷ 0 ∷ 0 ∷ 0 ∷ 30 ∷ 31 ∷ 30 ∷ 34 ∷ 0 ∷ 5 ∷ 0 ∷  -- report: 29 BookgDt
+    29 ∷ 0 ∷ 10 ∷ 0 ∷ 100 ∷ 102 ∷ 0 ∷ 0 ∷ 0 ∷ 0 ∷ 0 ∷ 0 ∷ 0 ∷ 0 ∷ 6 ∷ 0 ∷  -- report: 30 Dt
+    23 ∷ 1 ∷ 0 ∷ 0 ∷ 123 ∷ 128 ∷ 0 ∷ 0 ∷ 0 ∷ 32 ∷ 33 ∷ 32 ∷ 34 ∷ 0 ∷ 5 ∷ 0 ∷  -- report: 31 ValDt
+    31 ∷ 0 ∷ 10 ∷ 0 ∷ 100 ∷ 102 ∷ 0 ∷ 0 ∷ 0 ∷ 0 ∷ 0 ∷ 0 ∷ 0 ∷ 0 ∷ 6 ∷ 0 ∷  -- report: 32 Dt
+    23 ∷ 1 ∷ 2 ∷ 0 ∷ 128 ∷ 139 ∷ 0 ∷ 0 ∷ 0 ∷ 0 ∷ 34 ∷ 0 ∷ 34 ∷ 0 ∷ 5 ∷ 0 ∷  -- report: 33 AcctSvcrRef
+    23 ∷ 0 ∷ 0 ∷ 0 ∷ 139 ∷ 145 ∷ 0 ∷ 0 ∷ 0 ∷ 35 ∷ 42 ∷ 0 ∷ 0 ∷ 0 ∷ 5 ∷ 0 ∷  -- report: 34 BkTxCd
+    34 ∷ 1 ∷ 0 ∷ 0 ∷ 145 ∷ 149 ∷ 0 ∷ 0 ∷ 0 ∷ 36 ∷ 40 ∷ 36 ∷ 0 ∷ 0 ∷ 6 ∷ 0 ∷  -- report: 35 Domn
+    35 ∷ 0 ∷ 3 ∷ 4 ∷ 86 ∷ 88 ∷ 0 ∷ 0 ∷ 0 ∷ 0 ∷ 37 ∷ 0 ∷ 37 ∷ 0 ∷ 7 ∷ 0 ∷  -- report: 36 Cd
+    35 ∷ 0 ∷ 0 ∷ 0 ∷ 149 ∷ 153 ∷ 0 ∷ 0 ∷ 0 ∷ 38 ∷ 0 ∷ 38 ∷ 0 ∷ 0 ∷ 7 ∷ 0 ∷  -- report: 37 Fmly
+    37 ∷ 0 ∷ 3 ∷ 4 ∷ 86 ∷ 88 ∷ 0 ∷ 0 ∷ 0 ∷ 0 ∷ 39 ∷ 0 ∷ 39 ∷ 0 ∷ 8 ∷ 0 ∷  -- report: 38 Cd
+    37 ∷ 0 ∷ 3 ∷ 4 ∷ 153 ∷ 162 ∷ 0 ∷ 0 ∷ 0 ∷ 0 ∷ 0 ∷ 0 ∷ 0 ∷ 0 ∷ 8 ∷ 0 ∷  -- report: 39 SubFmlyCd
+    34 ∷ 1 ∷ 0 ∷ 0 ∷ 162 ∷ 167 ∷ 0 ∷ 0 ∷ 0 ∷ 41 ∷ 0 ∷ 41 ∷ 0 ∷ 0 ∷ 6 ∷ 0 ∷  -- report: 40 Prtry
+    40 ∷ 0 ∷ 3 ∷ 35 ∷ 86 ∷ 88 ∷ 0 ∷ 0 ∷ 0 ∷ 0 ∷ 0 ∷ 0 ∷ 0 ∷ 0 ∷ 7 ∷ 0 ∷  -- report: 41 Cd
+    23 ∷ 3 ∷ 0 ∷ 0 ∷ 167 ∷ 175 ∷ 0 ∷ 0 ∷ 0 ∷ 43 ∷ 0 ∷ 0 ∷ 0 ∷ 0 ∷ 5 ∷ 0 ∷  -- report: 42 NtryDtls
+    42 ∷ 3 ∷ 0 ∷ 0 ∷ 175 ∷ 181 ∷ 0 ∷ 0 ∷ 0 ∷ 44 ∷ 0 ∷ 0 ∷ 0 ∷ 0 ∷ 6 ∷ 0 ∷  -- report: 43 TxDtls
+    43 ∷ 1 ∷ 0 ∷ 0 ∷ 181 ∷ 185 ∷ 0 ∷ 0 ∷ 0 ∷ 45 ∷ 47 ∷ 0 ∷ 0 ∷ 0 ∷ 7 ∷ 0 ∷  -- report: 44 Refs
+    44 ∷ 1 ∷ 2 ∷ 0 ∷ 185 ∷ 195 ∷ 0 ∷ 0 ∷ 0 ∷ 0 ∷ 46 ∷ 0 ∷ 0 ∷ 0 ∷ 8 ∷ 0 ∷  -- report: 45 EndToEndId
+    44 ∷ 1 ∷ 2 ∷ 0 ∷ 195 ∷ 201 ∷ 0 ∷ 0 ∷ 0 ∷ 0 ∷ 0 ∷ 0 ∷ 0 ∷ 0 ∷ 8 ∷ 0 ∷  -- report: 46 MndtId
+    43 ∷ 1 ∷ 9 ∷ 0 ∷ 88 ∷ 91 ∷ 0 ∷ 0 ∷ 0 ∷ 0 ∷ 48 ∷ 0 ∷ 0 ∷ 48 ∷ 7 ∷ 0 ∷  -- report: 47 Amt
+    43 ∷ 1 ∷ 6 ∷ 0 ∷ 91 ∷ 100 ∷ 252 ∷ 261 ∷ 47 ∷ 0 ∷ 49 ∷ 0 ∷ 0 ∷ 0 ∷ 7 ∷ 2 ∷  -- report: 48 CdtDbtInd
+    43 ∷ 1 ∷ 0 ∷ 0 ∷ 201 ∷ 210 ∷ 0 ∷ 0 ∷ 0 ∷ 50 ∷ 56 ∷ 0 ∷ 0 ∷ 0 ∷ 7 ∷ 0 ∷  -- report: 49 RltdPties
+    49 ∷ 1 ∷ 0 ∷ 0 ∷ 210 ∷ 214 ∷ 0 ∷ 0 ∷ 0 ∷ 51 ∷ 53 ∷ 51 ∷ 0 ∷ 0 ∷ 8 ∷ 0 ∷  -- report: 50 Dbtr
+    50 ∷ 0 ∷ 0 ∷ 0 ∷ 214 ∷ 217 ∷ 0 ∷ 0 ∷ 0 ∷ 52 ∷ 0 ∷ 0 ∷ 0 ∷ 0 ∷ 9 ∷ 0 ∷  -- report: 51 Pty
+    51 ∷ 1 ∷ 3 ∷ 140 ∷ 217 ∷ 219 ∷ 0 ∷ 0 ∷ 0 ∷ 0 ∷ 0 ∷ 0 ∷ 0 ∷ 0 ∷ 10 ∷ 0 ∷  -- report: 52 Nm
+    49 ∷ 1 ∷ 0 ∷ 0 ∷ 219 ∷ 227 ∷ 0 ∷ 0 ∷ 0 ∷ 54 ∷ 0 ∷ 54 ∷ 0 ∷ 0 ∷ 8 ∷ 0 ∷  -- report: 53 DbtrAcct
+    53 ∷ 0 ∷ 0 ∷ 0 ∷ 43 ∷ 45 ∷ 0 ∷ 0 ∷ 0 ∷ 55 ∷ 0 ∷ 55 ∷ 0 ∷ 0 ∷ 9 ∷ 0 ∷  -- report: 54 Id
+    54 ∷ 0 ∷ 4 ∷ 0 ∷ 61 ∷ 65 ∷ 0 ∷ 0 ∷ 0 ∷ 0 ∷ 0 ∷ 0 ∷ 0 ∷ 0 ∷ 10 ∷ 0 ∷  -- report: 55 IBAN
+    43 ∷ 1 ∷ 0 ∷ 0 ∷ 227 ∷ 233 ∷ 0 ∷ 0 ∷ 0 ∷ 57 ∷ 0 ∷ 0 ∷ 0 ∷ 0 ∷ 7 ∷ 0 ∷  -- report: 56 RmtInf
+    56 ∷ 3 ∷ 3 ∷ 140 ∷ 233 ∷ 238 ∷ 0 ∷ 0 ∷ 0 ∷ 0 ∷ 0 ∷ 0 ∷ 0 ∷ 0 ∷ 8 ∷ 0 ∷  -- report: 57 Ustrd
+    []
+
 unfoldable pub housePool : List ℕ
 housePool =
-    ascii "DocumentBkToCstmrStmtGrpHdrMsgIdCreDtTmStmtIdElctrncSeqNbAcctIBANOthrCcyBalTpCdOrPrtryCdAmtCdtDbtIndDtNtryRvslIndStsBookgDtValDtAcctSvcrRefBkTxCdDomnFmlySubFmlyCdPrtryNtryDtlsTxDtlsRefsEndToEndIdMndtIdRltdPtiesDbtrPtyNmDbtrAcctRmtInfUstrdOPBD CLBD PRCDCRDT DBITBOOKurn:iso:std:iso:20022:tech:xsd:camt.053.001.08"
+    ascii "DocumentBkToCstmrStmtGrpHdrMsgIdCreDtTmStmtIdElctrncSeqNbAcctIBANOthrCcyBalTpCdOrPrtryCdAmtCdtDbtIndDtNtryRvslIndStsBookgDtValDtAcctSvcrRefBkTxCdDomnFmlySubFmlyCdPrtryNtryDtlsTxDtlsRefsEndToEndIdMndtIdRltdPtiesDbtrPtyNmDbtrAcctRmtInfUstrdOPBD CLBD PRCDCRDT DBITBOOKurn:iso:std:iso:20022:tech:xsd:camt.053.001.08BkToCstmrAcctRptRptOPBD CLBD PRCD ITBDBOOK PDNGurn:iso:std:iso:20022:tech:xsd:camt.052.001.08"

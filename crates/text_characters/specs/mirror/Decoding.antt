@@ -2,18 +2,18 @@
 use mathlib.Core.Path.{_≡_}
 use mathlib.Core.Bool.{Bool, cond, _&&_, _||_}
 use mathlib.Core.List.{List, [], _∷_}
-use Prim.Native.Nat.{ℕ, _+_, _*_, _%_}
+use Prim.Native.Nat.{ℕ, _+_, _*_, _%_, _≤_}
 use lib.Dec.{ltb, leb}
 use lib.ListN.{drop, getD}
 use Rattle.text.specs.Bytes.{inRange}
 use Rattle.text.specs.Lists.{span}
-use Rattle.text_characters.specs.Chars.{charOf}
+use Rattle.text_characters.specs.Chars.{charOf, Decoded}
 use Rattle.text_characters.specs.declared.utf8.Char.{Char}
 
 unfoldable pub isAscii : ℕ → Bool
 isAscii x = ltb x 0x80
 
--- the n bytes at a place are ASCII: the run from there is the run behind them
+-- the n bytes at a place are ASCII: the run from there is the run after them
 unfoldable pub AsciiOver : ℕ → List ℕ → ℕ → Type 0
 AsciiOver n s at = at + n + span isAscii (drop (at + n) s) ≡ at + span isAscii (drop at s)
 
@@ -52,3 +52,7 @@ byFirst x y z w =
 unfoldable pub decoded : List ℕ → Char
 decoded [] = charOf 0 0
 decoded (x ∷ t) = byFirst x (getD t 0 0) (getD t 1 0) (getD t 2 0)
+
+-- a number that, if it is not 0, is a character of two bytes that s begins with
+abbrev pub Paired : List ℕ → ℕ → Type 0
+Paired s r = (r ≡ 0 → ⊥) → Decoded s (charOf 2 r) × ((0x80 ≤ r) × (r ≤ 0x7FF))

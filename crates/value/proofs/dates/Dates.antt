@@ -42,7 +42,7 @@ day-solid y m d t r s =
 pub day-dense : (y m d : ℕ) → Real y m d → Dense (dayText y m d [])
 day-dense y m d r = record { solid = day-solid y m d [] r tt; some = omega arith }
 
--- ---- the parts behind the day
+-- ---- the parts after the day
 figures-solid : (k n : ℕ) (t : List ℕ) → Each Solid t → Each Solid (figures k n t)
 unfolding figures
 figures-solid zero n t s = s

@@ -194,7 +194,7 @@ fraction-bare l w = record { fraction = noFraction; good = tt; is = refl; count 
 same-three : (a b c x y z : ℕ) (t : List ℕ) → a ≡ x → b ≡ y → c ≡ z → 46 ∷ (48 + a) ∷ (48 + b) ∷ (48 + c) ∷ t ≡ 46 ∷ (48 + x) ∷ (48 + y) ∷ (48 + z) ∷ t
 same-three a b c x y z t e f g = rw (e, f, g)
 
--- a point, and what is read behind it: a, b and c are digits, or above 9
+-- a point, and what is read after it: a, b and c are digits, or above 9
 module _ (l : List ℕ) (a b c : ℕ) (p : Mark l 46 true) (u : One (drop 1 l) a) (v : One (drop 2 l) b) (w : One (drop 3 l) c) where
   -- what a fraction before a zone says of them
   data Said (rest : List ℕ) : Type 0 where
@@ -293,7 +293,7 @@ made : (t : List ℕ) (u u′ e e′ : ℕ) → u ≡ u′ → e ≡ e′ → e�
 made t u u′ e e′ p q h w =
     (subst (λ (n : ℕ). FractionAt (drop 19 t) n (drop e t)) (sym p) (subst (λ (n : ℕ). FractionAt (drop 19 t) u′ (drop n t)) (sym q) w), omega arith)
 
--- the same at 19, as it is answered: u microseconds, and the place e behind the fraction
+-- the same at 19, as it is answered: u microseconds, and the place e after the fraction
 pub bare-made : (t : List ℕ) (u e : ℕ) (r : Bool) → Mark (drop 19 t) 46 r → r ≡ false → u ≡ 0 → e ≡ 19 → FractionAt (drop 19 t) u (drop e t) × (e ≤ 23)
 bare-made t u e r w f p q = made t u 0 e 19 p q (omega arith) (fraction-bare (drop 19 t) (subst (λ (x : Bool). Mark (drop 19 t) 46 x) f w))
 
@@ -425,7 +425,7 @@ module _ (t : List ℕ) (y mo d h mi s : ℕ) (a : Two (drop 11 t) h) (b : Two (
     clock-no-zone u z rest f (ZoneAt.off is never) k =
         ClockAt.off refl (λ h′ mi′ s′ u′ z′ w. never (w .zone) (w .good .1) (f .only (w .fraction) (w .zone) (w .good .0) (sym (drop-drop 9 10 t) ∙ ap (drop 9) (w .is))))
 
--- ---- the day behind a day
+-- ---- the day after a day
 no-day : (y m d : ℕ) → _≡_ {A = Judged} J.Refused (J.Day y m d) → ⊥
 no-day y m d e = let x : _≡_ {A = ℕ} 0 1 = cc in omega arith
 

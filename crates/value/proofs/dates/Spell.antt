@@ -22,7 +22,7 @@ use Rattle.value.specs.Value.{Value, day, moment, Form}
 use Rattle.value.specs.Spell.{when, twoAt, dayWhen, dayOf, isClock, fractionOf, fractionLength, isFraction, zoneOf, isOffset, isZone, momentWhen, momentBehind, midnightWhen, midnightOn, midnightBehind, momentOf}
 use Rattle.value.proofs.dates.Months.{real-is, real-of}
 
--- ---- a value behind a test
+-- ---- a value after a test
 pub when-is : (b : Bool) (v v′ : Value) → when b v ≡ some v′ → (b ≡ true) × (v ≡ v′)
 when-is true v v′ e = (refl, cc)
 when-is false v v′ e = absurd (let z : _≡_ {A = ℕ} 0 1 = cc in omega arith)
@@ -67,7 +67,7 @@ day-complete t y m d r e =
     ap (λ (n : ℕ). dayWhen t n (twoAt 5 t) (twoAt 8 t)) (p .years) ∙ ap (λ (n : ℕ). dayWhen t y n (twoAt 8 t)) (p .months) ∙ ap (dayWhen t y m) (p .days)
     ∙ when-of (isReal y m d && same t (dayText y m d [])) (day y m d) (and-of (isReal y m d) (same t (dayText y m d [])) (real-of y m d r) (same-of t (dayText y m d []) e))
 
--- ---- the parts behind the day
+-- ---- the parts after the day
 clock-is : (h m s : ℕ) → isClock h m s ≡ true → Clock h m s
 clock-is h m s e =
     let a = and-is (leb h 23) (leb m 59 && leb s 59) e in
@@ -109,7 +109,7 @@ zone-ok zulu h = refl
 zone-ok (ahead h m) o = offset-of h m o
 zone-ok (behind h m) o = offset-of h m o
 
--- ---- a fraction before a zone, and the zone behind it
+-- ---- a fraction before a zone, and the zone after it
 one : (n : ℕ) → n < 10 → 48 + n % 10 - 48 ≡ n
 one n h = omega arith
 

@@ -79,7 +79,7 @@ module _ (s : List ℕ) (i : ℕ) (n : Bool) where
   unfolding fracOf
   frac-stop a f c k h e = rw (drop-cons s i 0, e)
 
-  -- z zeros were read behind c over 10^k
+  -- z zeros were read after c over 10^k
   frac-zero : (c k z : ℕ) → i < length s → isDigit (getD s i 0) ≡ true → getD s i 0 ≡ 48
       → fracOf n (c * 10 ^ z) (k + z) c k (drop i s) ≡ fracOf n (c * 10 ^ (z + 1)) (k + (z + 1)) c k (drop (i + 1) s)
   unfolding fracOf
@@ -230,7 +230,7 @@ enough (suc (suc (suc zero))) c p h e k = rw e (omega (arith, rw e at k))
 enough (suc (suc (suc (suc zero)))) c p h e k = rw e (omega (arith, rw e at k))
 enough (suc (suc (suc (suc (suc z))))) c p h e k = absurd (omega arith)
 
--- ---- the loop over the places behind the point
+-- ---- the loop over the places after the point
 pub record Places (s : List ℕ) (at : ℕ) (n : Bool) (whole i c k z : ℕ) : Type 0 where
   pub within : i ≤ length s
   pub zeros : z ≤ i

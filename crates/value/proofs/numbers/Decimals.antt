@@ -275,7 +275,7 @@ pub record Reads (s : List ℕ) (n : Bool) (c k : ℕ) : Type 0 where
   pub decimal : Decimal s c k
   pub neg : isMinus (decimal .text .sign) ≡ n
 
--- from the parts behind a sign
+-- from the parts after a sign
 made : (sg : Sign) (s : List ℕ) (n : Bool) (c k : ℕ) → Signed (isMinus sg) s n c k → Reads (signText sg ++ s) n c k
 made sg s n c k v =
     record {

@@ -111,7 +111,7 @@ run-is strict true s i m e h =
       inked = λ z. refl;
     }
 
--- no byte of a run is refused behind a slash
+-- no byte of a run is refused after a slash
 abbrev Calm : Bool → Bool → Type 0
 Calm strict slash = (x : ℕ) → (strict && eqb x 47) ≡ false → (slash && eqb x 47) ≡ false
 
@@ -188,7 +188,7 @@ module _ (strict : Bool) (k : ℕ) (s : List ℕ) where
   pub sized-run : (ink : Bool) (i size m : ℕ) → Sized s i size → Run strict ink s i m → (i′ size′ : ℕ) → i′ ≡ i + m → size′ ≡ size + m → Sized s i′ size′
   sized-run ink i size m w r i′ size′ p q = rw (p, q) (sized-many m i size w (r .room) (r .quiet))
 
--- ---- a turn of the loop: the character r at i, and the run of m bytes behind it
+-- ---- a turn of the loop: the character r at i, and the run of m bytes after it
 
 pub turn-some : (strict : Bool) (k : ℕ) (s : List ℕ) (i n : ℕ) (ink slash : Bool) → Here strict k s i n ink slash → (r : Char) → NextChar (drop i s) r → classOf strict (r .code) ≡ true → 0 < r .len
 turn-some strict k s i n ink slash w r f e = omega (arith, some-bytes strict (drop i s) r f e)

@@ -39,7 +39,7 @@ blank-end [] r h f = refl
 blank-end (x ∷ []) r h f = absurd (clash x (h .0) (f [] x refl))
 blank-end (x ∷ y ∷ t) r h f = let e = blank-end (y ∷ t) r (h .1) (last-tail x (y ∷ t) f) in absurd (let z : _≡_ {A = ℕ} 0 1 = cc in omega arith)
 
--- and so are those behind it
+-- and so are those after it
 pub back : (u t l m : List ℕ) → Last u → Last t → All isBlank l → All isBlank m → u ++ l ≡ t ++ m → u ≡ t
 back [] t l m g f a b e = sym (blank-end t m (subst (All isBlank) e a) f)
 back (x ∷ u) [] l m g f a b e = blank-end (x ∷ u) l (subst (All isBlank) (sym e) b) g

@@ -29,7 +29,7 @@ pub data DayAt (t : List ℕ) (r : Judged) : Type 0 where
   on : (y m d : ℕ) → Real y m d → t ≡ dayText y m d (drop 10 t) → r ≡ Day y m d → DayAt t r
   off : r ≡ Refused → ((y m d : ℕ) (u : List ℕ) → Real y m d → t ≡ dayText y m d u → ⊥) → DayAt t r
 
--- the fraction that l begins with, u microseconds, and what stands behind it; before a zone there is no other
+-- the fraction that l begins with, u microseconds, and what stands after it; before a zone there is no other
 pub record FractionAt (l : List ℕ) (u : ℕ) (rest : List ℕ) : Type 0 where
   pub fraction : Fraction
   pub good : FractionOk present fraction
@@ -47,7 +47,7 @@ pub data ZoneAt (l : List ℕ) (r : ℕ) : Type 0 where
   on : (z : Zone) → ZoneOk z → l ≡ zoneText z [] → r ≡ offset z → ZoneAt l r
   off : r ≡ 9999 → ((z : Zone) → ZoneOk z → l ≡ zoneText z [] → ⊥) → ZoneAt l r
 
--- the parts of a moment behind the ten characters of its day, u microseconds, offset minutes plus 840
+-- the parts of a moment after the ten characters of its day, u microseconds, offset minutes plus 840
 pub record ClockText (l : List ℕ) (h mi s u z : ℕ) : Type 0 where
   pub clock : Clock h mi s
   pub fraction : Fraction

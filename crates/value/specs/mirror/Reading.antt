@@ -12,7 +12,7 @@ pub data Found : Type 0 where
   bad : Found
   found : Bool → ℕ → ℕ → Found
 
--- behind the point: a over 10^f was read; c over 10^k is the same without the zeros at its end
+-- after the point: a over 10^f was read; c over 10^k is the same without the zeros at its end
 unfoldable pub fracOf : Bool → ℕ → ℕ → ℕ → ℕ → List ℕ → Found
 fracOf n a f c k [] = found n c k
 fracOf n a f c k (x ∷ t) =
@@ -20,17 +20,17 @@ fracOf n a f c k (x ∷ t) =
     (cond (eqb x 48) (fracOf n (a * 10) (suc f) c k t) (fracOf n (a * 10 + (x - 48)) (suc f) (a * 10 + (x - 48)) (suc f) t))
     bad
 
--- before the point, behind a digit
+-- before the point, after a digit
 unfoldable pub wholeOf : Bool → ℕ → List ℕ → Found
 wholeOf n a [] = found n a 0
 wholeOf n a (x ∷ t) = cond (isDigit x) (wholeOf n (a * 10 + (x - 48)) t) (cond (eqb x 46) (fracOf n a 0 a 0 t) bad)
 
--- behind a point that no digit stands before
+-- after a point that no digit stands before
 unfoldable pub pointOf : Bool → List ℕ → Found
 pointOf n [] = bad
 pointOf n (x ∷ t) = fracOf n 0 0 0 0 (x ∷ t)
 
--- behind the sign
+-- after the sign
 unfoldable pub signedOf : Bool → List ℕ → Found
 signedOf n [] = bad
 signedOf n (x ∷ t) = cond (isDigit x) (wholeOf n 0 (x ∷ t)) (cond (eqb x 46) (pointOf n t) bad)

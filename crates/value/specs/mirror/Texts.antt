@@ -17,7 +17,7 @@ abbrev pub classOf : Bool → ℕ → Bool
 classOf true x = isRef x
 classOf false x = isTxt x
 
--- at most k characters, n were read; ink: one was no space; slash: none may come next, as at the start of a reference and behind a slash in it
+-- at most k characters, n were read; ink: one was no space; slash: none may come next, as at the start of a reference and after a slash in it
 unfoldable pub textFrom : Bool → ℕ → ℕ → Bool → Bool → List ℕ → Bool
 textFrom strict k n ink slash [] = ink && not slash
 textFrom strict k n ink slash (c ∷ cs) =

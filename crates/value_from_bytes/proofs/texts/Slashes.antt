@@ -18,7 +18,7 @@ slash-ref : isRef 47 ≡ true
 unfolding isRef
 slash-ref = refl
 
--- ---- a loop over the characters of a reference, from i on, behind a slash or not
+-- ---- a loop over the characters of a reference, from i on, after a slash or not
 
 module _ (s : List ℕ) (i : ℕ) (slash : Bool) (r : Bool) (w : (every isRef (drop i s) && apart slash (drop i s)) ≡ r) where
   pub spaced-end : length s ≤ i → not slash ≡ r
@@ -56,7 +56,7 @@ unfolding apart
 no-twice p [] u = and-false (not (p && true))
 no-twice p (x ∷ t) u = rw (no-twice (eqb x 47) t u) (and-false (not (p && eqb x 47)))
 
--- characters behind a slash, or at the start, if p says so
+-- characters after a slash, or at the start, if p says so
 pub record Apart (p : Bool) (cs : List ℕ) : Type 0 where
   pub first : p ≡ true → (t : List ℕ) → cs ≡ 47 ∷ t → ⊥
   pub last : (t : List ℕ) → cs ≡ t ++ (47 ∷ []) → ⊥

@@ -39,6 +39,6 @@ unfoldable pub begins : ℕ → ℕ → ℕ → List ℕ → Bool
 begins c k n t =
     leb (width c t) (length t) && (every isByte (take (width c t) t) && isValue c k n (drop (head c) (take (width c t) t)))
 
--- behind the value of kind c that stands at a place of s; 0 where none does
+-- after the value of kind c that stands at a place of s; 0 where none does
 unfoldable pub valueEnd : ℕ → ℕ → ℕ → List ℕ → ℕ → ℕ
 valueEnd c k n s at = cond (begins c k n (drop at s)) (at + width c (drop at s)) 0

@@ -1,4 +1,4 @@
--- A mirror: which bytes are those of a value, kind by kind; of a text, the bytes behind its length. Assumes nothing.
+-- A mirror: which bytes are those of a value, kind by kind; of a text, the bytes after its length. Assumes nothing.
 use mathlib.Core.Bool.{Bool, true, false, cond, _&&_, _||_, not}
 use mathlib.Core.List.{List}
 use Prim.Native.Nat.{ℕ, _+_, _%_, _^_}

@@ -7,8 +7,8 @@ use Rattle.text.specs.Lists.{same}
 use Rattle.text.specs.Bytes.{ascii, inRange, isBlank, isNameStart, isNamePart}
 use Rattle.xml.specs.House.{Quote, singleQuote, double, mark}
 
--- within a piece: so many continuation bytes are left, or those behind E0, ED, EF, EF BF, F0, F4 (Unicode, table 3-7, without
--- U+FFFE and U+FFFF); behind `&`, behind `&a`, or the next byte of an entity and the rest of it
+-- within a piece: so many continuation bytes are left, or those after E0, ED, EF, EF BF, F0, F4 (Unicode, table 3-7, without
+-- U+FFFE and U+FFFF); after `&`, after `&a`, or the next byte of an entity and the rest of it
 pub data Part : Type 0 where
   one two three e0 ed ef efbf f0 f4 ampersand ampersandA : Part
   rest : ℕ → List ℕ → Part

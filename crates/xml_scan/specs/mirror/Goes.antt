@@ -45,7 +45,7 @@ comes t i a = (ends (run (at a) t), i + liveLen (at a) t)
 abbrev pub fate : List ℕ → ℕ → At → Bool × ℕ
 fate s i a = comes (drop i s) i a
 
--- from a at i: on to b behind at least one byte; or the text stops
+-- from a at i: on to b after at least one byte; or the text stops
 abbrev pub Goes : List ℕ → ℕ → At → At → Went → Type 0
 Goes s i a b (On e) = (i < e) × (e ≤ length s) × (fate s i a ≡ fate s e b)
 Goes s i a b (Stopped n) = fate s i a ≡ (false, n)

@@ -29,7 +29,7 @@ pub record Held (size : ℕ) (s from to : List ℕ) (n : ℕ) : Type 0 where
   pub begin : (k : ℕ) → k < n → getD from k 0 ≤ getD to k 0
   pub end : (k : ℕ) → k < n → getD to k 0 ≤ length s
 
--- from a at i: behind `>` on to b, behind `/>` on to c; or the text stops
+-- from a at i: after `>` on to b, after `/>` on to c; or the text stops
 abbrev pub Turns : List ℕ → ℕ → At → At → At → Tag → Type 0
 Turns s i a b c (Open e) = (i < e) × (e ≤ length s) × (fate s i a ≡ fate s e b)
 Turns s i a b c (Empty e) = (i < e) × (e ≤ length s) × (fate s i a ≡ fate s e c)
@@ -50,7 +50,7 @@ GoesName s i (Over e) = Named s i e
 GoesName s i (Cut p) =
     (k : ℕ) (ss : List (List ℕ)) (d : ℕ) (n : List ℕ) (ns : List (List ℕ)) → fate s i (gap (suc k) ss d n ns) ≡ (false, p)
 
--- an attribute behind blanks and n others: its name becomes the last of those in the tables
+-- an attribute after blanks and n others: its name becomes the last of those in the tables
 abbrev pub GoesAttribute : List ℕ → ℕ → ℕ → List ℕ → List ℕ → List ℕ → List ℕ → Went → Type 0
 GoesAttribute s i n from to from′ to′ (Over e) =
     (i < e) × (e ≤ length s) × Held 4 s from′ to′ (n + 1)
@@ -80,7 +80,7 @@ pub record Opens (s : List ℕ) (i : ℕ) (a : At) (k : ℕ) (ns : List (List �
 abbrev pub inside : List ℕ → List ℕ → List ℕ → ℕ → At
 inside s from to n = after (16 - n) (names s from to n)
 
--- the state behind a `<` in the last of them
+-- the state after a `<` in the last of them
 abbrev pub marked : List ℕ → List ℕ → List ℕ → ℕ → At
 marked s from to n = less (16 - n) (slice (getD from (n - 1) 0) (getD to (n - 1) 0) s) (names s from to (n - 1))
 

@@ -1,4 +1,4 @@
--- A mirror: how the cursor passes attributes, from the place behind a tag's name or behind the attribute before. Assumes nothing.
+-- A mirror: how the cursor passes attributes, from the place after a tag's name or after the attribute before. Assumes nothing.
 use mathlib.Core.Bool.{Bool, cond}
 use mathlib.Core.List.{List, [], _∷_}
 use Prim.Native.Nat.{ℕ, zero, suc, _+_, _-_}
@@ -45,7 +45,7 @@ isNone a = eqb (a .stop) (a .name)
 abbrev pub counted : Passed → Passed
 counted p = record { count = p .count + 1; end = p .end }
 
--- attributes one after the other, fewer than f, and the blanks behind them
+-- attributes one after the other, fewer than f, and the blanks after them
 unfoldable pub passedFrom : ℕ → ℕ → List ℕ → Passed
 passedFrom zero o l = record { count = 0; end = o }
 passedFrom (suc f) o l =

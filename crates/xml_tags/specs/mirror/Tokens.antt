@@ -1,4 +1,4 @@
--- A mirror: how the cursor passes a text and the tag behind it. Assumes nothing.
+-- A mirror: how the cursor passes a text and the tag after it. Assumes nothing.
 use mathlib.Core.Bool.{Bool, cond, _&&_}
 use mathlib.Core.List.{List, [], _∷_}
 use Prim.Native.Nat.{ℕ, _+_, _-_, min}
@@ -25,7 +25,7 @@ shutAt o e n a z l =
     (record { kind = Empty; less = o; stop = e; attributes = n; first = a; end = z + 1 + one (drop 1 l) })
     (record { kind = Open; less = o; stop = e; attributes = n; first = a; end = z + one l })
 
--- behind the name
+-- after the name
 unfoldable pub tailAt : ℕ → ℕ → List ℕ → Token
 tailAt o e l = shutAt o e (passedAt e l .count) (attributeAt e l) (passedAt e l .end) (drop (passedAt e l .end - e) l)
 
@@ -43,7 +43,7 @@ openAt o (x ∷ l) = pass inName (tailAt o) (o + 1) l
 unfoldable pub tokenAt : ℕ → List ℕ → Token
 tokenAt o l = pass (but less) tagAt o l
 
--- where the root begins: behind the declaration, if there is one, and blanks
+-- where the root begins: after the declaration, if there is one, and blanks
 unfoldable pub rootFrom : ℕ → List ℕ → ℕ
 rootFrom o l = o + span isBlank l
 

@@ -1,5 +1,4 @@
 -- `fill::fill` meets its contract. Assumes nothing.
-use Rattle.list_house.specs.House.{house}
 use Rattle.file_check.proofs.fill.fill.Statement.{statement}
 use Rattle.file_check.proofs.fill.fill.Tie as tie
 use borrow.Author.Needs.{needs}
@@ -11,10 +10,10 @@ use Rattle.value_to_bytes.proofs.Putting.{kept}
 use Rattle.file_check.proofs.House.{WritingOn, AtTag, AtOpening, fill-first, name-in, fill-low, fill-room, fill-ends, fill-out-less, fill-out, fill-comes, fill-row, fill-in-less, fill-in, fill-ready, fill-close, fill-past-less, fill-past}
 
 abbrev Inv-loop : tie.InvT-loop
-Inv-loop rows pool s out₀ here₀ at₀ out here at = WritingOn rows pool s out₀ at₀ out here at
+Inv-loop rows pool s kind out₀ here₀ at₀ out here at = WritingOn rows pool s out₀ at₀ out here at
 
 abbrev μ-loop : tie.MeasureT-loop
-μ-loop rows pool s out₀ here₀ at₀ out here at = length s - here .at
+μ-loop rows pool s kind out₀ here₀ at₀ out here at = length s - here .at
 
 -- what a turn has been told before its tag, and of an opening one when it knows its row and kind
 abbrev turning : tie.After-blanks-end Inv-loop μ-loop → AtTag
@@ -22,6 +21,7 @@ turning c = record {
   t = _;
   pool = _;
   s = _;
+  byte = _;
   pre = c .before .before .before .before .before .before .before .before .before .before .before .before .pre;
   d₁ = _;
   a₁ = _;
@@ -63,7 +63,7 @@ put-head-requires c κs =
 
 loop-holds : tie.Need-loop-holds Inv-loop μ-loop
 loop-holds c =
-    fill-first _ _ _ (c .before .before .before .before .before .before .before .before .before .before .pre) _ (c .before .before .before .before .before .begin .ensures) _ (c .before .before .before .before .stand .ensures) _ _ _ (c .before .before .put-head .ensures _)
+    fill-first _ _ _ _ (c .before .before .before .before .before .before .before .before .before .before .pre) _ (c .before .before .before .before .before .begin .ensures) _ (c .before .before .before .before .stand .ensures) _ _ _ (c .before .before .put-head .ensures)
 
 blanks-end-requires : tie.Need-blanks-end-requires Inv-loop μ-loop
 blanks-end-requires c κs =
@@ -71,7 +71,7 @@ blanks-end-requires c κs =
 
 add-name : tie.Need-add-name Inv-loop μ-loop
 add-name c =
-    omega (arith, name-in (turning c), turning c .pre .0 .small)
+    omega (arith, name-in (turning c), turning c .pre .ready .small)
 
 is-close-requires : tie.Need-is-close-requires Inv-loop μ-loop
 is-close-requires c κs =
@@ -86,7 +86,7 @@ same-length c =
     let at-place = c .before .before in
     let at-blanks-end = at-place .before .before .before .before .before in
     let at-put-head = at-blanks-end .before .before .before .before in
-    kept _ _ _ _ (at-place .place .ensures) ∙ fill-room (turning at-blanks-end) ∙ at-put-head .put-head .ensures house .long
+    kept _ _ _ _ (at-place .place .ensures) ∙ fill-room (turning at-blanks-end) _ (at-put-head .put-head .ensures)
 
 returns : tie.Need-returns Inv-loop μ-loop
 returns c =
@@ -96,7 +96,7 @@ returns c =
     let at-is-close = at-if1 .before in
     let at-blanks-end = at-is-close .before in
     let at-put-head = at-blanks-end .before .before .before .before in
-    fill-ends (turning at-blanks-end) _ (at-is-close .is-close .ensures) (at-if1 .if1 .taken) (at-if2 .if2 .taken) _ (at-put-head .put-head .ensures _) _
+    fill-ends (turning at-blanks-end) _ (at-is-close .is-close .ensures) (at-if1 .if1 .taken) (at-if2 .if2 .taken) _ (at-put-head .put-head .ensures) _
     (at-place .place .ensures)
 
 cell-requires : tie.Need-cell-requires Inv-loop μ-loop
@@ -177,7 +177,7 @@ add-close-end : tie.Need-add-close-end Inv-loop μ-loop
 add-close-end c =
     let at-text-end = c .before .before .before .before in
     let told = opening (at-text-end .before .before) in
-    omega (arith, fill-close told (at-text-end .before .if3 .left) _ (at-text-end .text-end .ensures), told .turn .pre .0 .small)
+    omega (arith, fill-close told (at-text-end .before .if3 .left) _ (at-text-end .text-end .ensures), told .turn .pre .ready .small)
 
 close-end-requires-2 : tie.Need-close-end-requires-2 Inv-loop μ-loop
 close-end-requires-2 c κs =

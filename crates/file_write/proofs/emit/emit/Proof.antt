@@ -125,28 +125,21 @@ put-leaf-requires c κs =
     let start = at-loop .before .before .before .before .before .before .before .before .before in
     (start .pre .small, start .pre .within, omega (arith, held-in _ _ _ _ (start .pre) _ _ _ _ _ _ (at-loop .loop .inv), start .pre .within), omega (arith, held-low _ _ _ _ (start .pre) _ _ _ _ _ _ (at-loop .loop .inv) _ (at-wide .wide .ensures) (at-if1 .if1 .left) _ (at-cell .cell .ensures) _ _ (at-close-to2 .close-to2 .ensures)))
 
-cell-requires-3 : tie.Need-cell-requires-3 Inv-loop μ-loop
-cell-requires-3 c κs =
-    search needs
-
-cell-requires-4 : tie.Need-cell-requires-4 Inv-loop μ-loop
-cell-requires-4 c κs =
-    search needs
-
-add-value-end : tie.Need-add-value-end Inv-loop μ-loop
-add-value-end c =
-    let at-loop = c .before .before .before .before .before .before .before .before .before .before .before .before .before .before .before .before .before .before .before .before .before .before .before in
+add-after : tie.Need-add-after Inv-loop μ-loop
+add-after c =
+    let at-loop = c .before .before .before .before .before .before .before .before .before .before .before .before .before .before .before .before .before .before .before in
     let start = at-loop .before .before .before .before .before .before .before .before .before in
     omega (arith, held-in _ _ _ _ (start .pre) _ _ _ _ _ _ (at-loop .loop .inv), start .pre .within)
 
-value-end-requires : tie.Need-value-end-requires Inv-loop μ-loop
-value-end-requires c κs =
-    search needs
+after-requires : tie.Need-after-requires Inv-loop μ-loop
+after-requires c κs =
+    let at-loop = c .before .before .before .before .before .before .before .before .before .before .before .before .before .before .before .before .before .before .before in
+    let start = at-loop .before .before .before .before .before .before .before .before .before in
+    omega (arith, held-in _ _ _ _ (start .pre) _ _ _ _ _ _ (at-loop .loop .inv), start .pre .within)
 
 loop-less-2 : tie.Need-loop-less-2 Inv-loop μ-loop
 loop-less-2 c =
-    let at-cell3 = c .before .before .before in
-    let at-if2 = at-cell3 .before .before .before .before .before .before .before in
+    let at-if2 = c .before .before .before .before .before .before in
     let at-is-group = at-if2 .before in
     let at-cell2 = at-is-group .before in
     let at-close-to2 = at-cell2 .before .before .before .before in
@@ -157,14 +150,13 @@ loop-less-2 c =
     let start = at-loop .before .before .before .before .before .before .before .before .before in
     let less =
     held-less _ _ _ _ (start .pre) _ _ _ _ _ _ (at-loop .loop .inv) _ (at-wide .wide .ensures) (at-if1 .if1 .left) _ (at-cell .cell .ensures) _ _
-    (at-close-to2 .close-to2 .ensures) _ (at-cell2 .cell2 .ensures) _ (at-is-group .is-group .ensures) (at-if2 .if2 .left) _ (at-cell3 .cell3 .ensures) _
-    (c .before .cell4 .ensures) _ (c .value-end .ensures .0) in
+    (at-close-to2 .close-to2 .ensures) _ (at-cell2 .cell2 .ensures) _ (at-is-group .is-group .ensures) (at-if2 .if2 .left) _
+    (c .after .ensures) in
     omega (arith, held-in _ _ _ _ (start .pre) _ _ _ _ _ _ (at-loop .loop .inv), less)
 
 loop-again-2 : tie.Need-loop-again-2 Inv-loop μ-loop
 loop-again-2 c =
-    let at-cell3 = c .before .before .before in
-    let at-put-leaf = at-cell3 .before .before .before .before in
+    let at-put-leaf = c .before .before .before in
     let at-if2 = at-put-leaf .before .before .before in
     let at-is-group = at-if2 .before in
     let at-cell2 = at-is-group .before in
@@ -176,7 +168,7 @@ loop-again-2 c =
     let start = at-loop .before .before .before .before .before .before .before .before .before in
     held-leaf _ _ _ _ (start .pre) _ _ _ _ _ _ (at-loop .loop .inv) _ (at-wide .wide .ensures) (at-if1 .if1 .left) _ (at-cell .cell .ensures) _ _
     (at-close-to2 .close-to2 .ensures) _ (at-cell2 .cell2 .ensures) _ (at-is-group .is-group .ensures) (at-if2 .if2 .left) _
-    (at-cell3 .cell3 .ensures) _ (c .before .cell4 .ensures) _ (c .value-end .ensures .0) _ _ (at-put-leaf .put-leaf .ensures)
+    (c .after .ensures) _ _ (at-put-leaf .put-leaf .ensures)
 
 pub emit-spec : {M : Type 1} → statement M
 emit-spec =
@@ -202,9 +194,7 @@ emit-spec =
     loop-again
     add-put-leaf
     put-leaf-requires
-    cell-requires-3
-    cell-requires-4
-    add-value-end
-    value-end-requires
+    add-after
+    after-requires
     loop-less-2
     loop-again-2)

@@ -99,30 +99,22 @@ returns-2 c =
     stale-found _ _ _ _ (start .pre) _ (at-loop .loop .inv) _ (at-wide .wide .ensures) (at-if1 .if1 .left) _ (at-cell .cell .ensures) _ (at-is-group .is-group .ensures)
     (at-if2 .if2 .left) _ (at-is-finer .is-finer .ensures) (at-if3 .if3 .taken)
 
-cell-requires-2 : tie.Need-cell-requires-2 Inv-loop μ-loop
-cell-requires-2 c κs =
-    search needs
-
-cell-requires-3 : tie.Need-cell-requires-3 Inv-loop μ-loop
-cell-requires-3 c κs =
-    search needs
-
-add-value-end : tie.Need-add-value-end Inv-loop μ-loop
-add-value-end c =
-    let at-loop = c .before .before .before .before .before .before .before .before .before .before .before .before .before in
+add-after : tie.Need-add-after Inv-loop μ-loop
+add-after c =
+    let at-loop = c .before .before .before .before .before .before .before .before .before in
     let start = at-loop .before .before .before in
     omega (arith, stale-in _ _ _ _ (start .pre) _ (at-loop .loop .inv), start .pre .within)
 
-value-end-requires : tie.Need-value-end-requires Inv-loop μ-loop
-value-end-requires c κs =
-    search needs
+after-requires : tie.Need-after-requires Inv-loop μ-loop
+after-requires c κs =
+    let at-loop = c .before .before .before .before .before .before .before .before .before in
+    let start = at-loop .before .before .before in
+    omega (arith, stale-in _ _ _ _ (start .pre) _ (at-loop .loop .inv), start .pre .within)
 
 loop-less-2 : tie.Need-loop-less-2 Inv-loop μ-loop
 loop-less-2 c =
-    let at-value-end = c in
-    let at-cell3 = at-value-end .before in
-    let at-cell2 = at-cell3 .before .before in
-    let at-if3 = at-cell2 .before .before in
+    let at-after = c in
+    let at-if3 = at-after .before in
     let at-is-finer = at-if3 .before in
     let at-if2 = at-is-finer .before in
     let at-is-group = at-if2 .before in
@@ -136,15 +128,13 @@ loop-less-2 c =
       stale-in _ _ _ _ (start .pre) _ (at-loop .loop .inv),
       stale-less _ _ _ _ (start .pre) _ (at-loop .loop .inv) _ (at-wide .wide .ensures) (at-if1 .if1 .left) _ (at-cell .cell .ensures) _ (at-is-group .is-group .ensures)
           (at-if2 .if2 .left) _ (at-is-finer .is-finer .ensures)
-          (at-if3 .if3 .left) _ (at-cell2 .cell2 .ensures) _ (at-cell3 .cell3 .ensures) _ (at-value-end .value-end .ensures .0),
+          (at-if3 .if3 .left) _ (at-after .after .ensures),
     )
 
 loop-again-2 : tie.Need-loop-again-2 Inv-loop μ-loop
 loop-again-2 c =
-    let at-value-end = c in
-    let at-cell3 = at-value-end .before in
-    let at-cell2 = at-cell3 .before .before in
-    let at-if3 = at-cell2 .before .before in
+    let at-after = c in
+    let at-if3 = at-after .before in
     let at-is-finer = at-if3 .before in
     let at-if2 = at-is-finer .before in
     let at-is-group = at-if2 .before in
@@ -155,7 +145,7 @@ loop-again-2 c =
     let start = at-loop .before .before .before in
     stale-leaf _ _ _ _ (start .pre) _ (at-loop .loop .inv) _ (at-wide .wide .ensures) (at-if1 .if1 .left) _ (at-cell .cell .ensures) _ (at-is-group .is-group .ensures)
     (at-if2 .if2 .left) _ (at-is-finer .is-finer .ensures)
-    (at-if3 .if3 .left) _ (at-cell2 .cell2 .ensures) _ (at-cell3 .cell3 .ensures) _ (at-value-end .value-end .ensures .0)
+    (at-if3 .if3 .left) _ (at-after .after .ensures)
 
 pub first-stale-spec : {M : Type 1} → statement M
 first-stale-spec =
@@ -176,9 +166,7 @@ first-stale-spec =
     add-is-finer
     is-finer-requires
     returns-2
-    cell-requires-2
-    cell-requires-3
-    add-value-end
-    value-end-requires
+    add-after
+    after-requires
     loop-less-2
     loop-again-2)

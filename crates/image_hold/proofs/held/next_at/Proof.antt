@@ -1,5 +1,5 @@
 -- `held::next_at` meets its contract: a walk of its MIR, by hand. A `Held` is made in a local, which is lent to `next` for a lifetime ν that the walk makes within the run's lifetime κ, as `next` asks. Of κ's
--- token one half is met with a share of ν's, for the loan, and one half goes to `next` for κ itself. Behind the call ν is ended, both halves come back, and the local has what `next` left there.
+-- token one half is met with a share of ν's, for the loan, and one half goes to `next` for κ itself. After the call ν is ended, both halves come back, and the local has what `next` left there.
 -- All that the proof knows of `next` is that it meets its contract.
 --     puts, takes      the local's cell and what the struct owns, as what lies in memory, and back
 -- Assumes nothing.

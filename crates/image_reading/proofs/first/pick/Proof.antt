@@ -28,7 +28,7 @@ pick-from-requires c κs = search needs
 
 returns-3 : tie.Need-returns-3
 returns-3 c =
-    begun-answers _ _ (laid-says _ (c .before .before .before .before .before .before .begun .ensures .1 (omega (arith, c .before .before .before .before .if1 .left)))) _ (c .before .before .before .before .before .before .begun .ensures .0) _ _ (omega (arith, c .before .before .before .before .if1 .left)) _ (c .pick-from .ensures .0)
+    begun-answers _ _ _ (laid-says _ _ (c .before .before .before .before .before .before .begun .ensures .1 (omega (arith, c .before .before .before .before .if1 .left)))) (c .before .before .before .before .before .before .begun .ensures .0) _ _ (omega (arith, c .before .before .before .before .if1 .left)) _ (c .pick-from .ensures .0)
 
 pub pick-spec : {M : Type 1} → statement M
 pick-spec =

@@ -50,12 +50,13 @@ picked-from-requires c κs = search needs
 
 returns-3 : tie.Need-returns-3
 returns-3 c =
-    let l = laid-says _ (c .before .before .before .before .before .before .begun .ensures .1 (omega (arith, c .before .before .before .before .if1 .left))) in
-    let b = c .before .before .before .before .before .before .begun .ensures .0 in
-    let z : c .before .before .before .before .before .before .begun .result .answer .code ≡ 0 = omega (arith, c .before .before .before .before .if1 .left) in
+    let at-begun = c .before .before .before .before .before .before in
+    let z : at-begun .begun .result .answer .code ≡ 0 = omega (arith, c .before .before .before .before .if1 .left) in
+    let l = laid-says _ _ (at-begun .begun .ensures .1 z) in
+    let b = at-begun .begun .ensures .0 in
     record {
-      hands = begun-hands _ _ l _ b _ _ z _ (c .picked-from .ensures .0);
-      lies = λ a h e. c .picked-from .ensures .1 .1 a (begun-answered _ _ l _ b _ _ z _ (c .picked-from .ensures .0) a h) e;
+      hands = begun-hands _ _ _ l b _ _ z _ (c .picked-from .ensures .0);
+      lies = λ a h e. c .picked-from .ensures .1 .1 a (begun-answered _ _ _ l b _ _ z _ (c .picked-from .ensures .0) a h) e;
     }
 
 pub picked-spec : {M : Type 1} → statement M

@@ -4,7 +4,7 @@ use native.Mathlib.Omega.{arith}
 use lib.Seq.{slice}
 use borrow.Author.Needs.{needs}
 use Rattle.list.specs.Table.{placeIn, wordsIn}
-use Rattle.list.proofs.words.Split.{Seeks, seek-start, seek-found, seek-none, seek-again}
+use Rattle.list.proofs.words.Split.{Seeks, seek-nothing, seek-start, seek-found, seek-none, seek-again}
 use Rattle.list.proofs.word.word_place.Statement.{statement}
 use Rattle.list.proofs.word.word_place.Tie as tie
 
@@ -23,9 +23,13 @@ least-requires c κs = search needs
 cell-requires-2 : tie.Need-cell-requires-2 Inv-loop μ-loop
 cell-requires-2 c κs = search needs
 
+returns : tie.Need-returns Inv-loop μ-loop
+returns c =
+    seek-nothing (c .before .before .before .before .before .before .before .args .pool .now) _ _ _ _ _ _ (c .before .before .least .ensures) (c .before .cell2 .ensures) (c .before .before .before .cell .ensures) (c .if1 .taken)
+
 loop-holds : tie.Need-loop-holds Inv-loop μ-loop
 loop-holds c =
-    seek-start (c .before .before .before .before .before .before .args .pool .now) _ _ _ _ _ _ (c .before .least .ensures) (c .cell2 .ensures) (c .before .before .cell .ensures)
+    seek-start (c .before .before .before .before .before .before .before .args .pool .now) _ _ _ _ _ _ (c .before .before .least .ensures) (c .before .cell2 .ensures) (c .before .before .before .cell .ensures) (omega (arith, c .if1 .left))
 
 word-end-requires : tie.Need-word-end-requires Inv-loop μ-loop
 word-end-requires c κs = c .loop .inv .to
@@ -33,13 +37,13 @@ word-end-requires c κs = c .loop .inv .to
 same-part-requires : tie.Need-same-part-requires Inv-loop μ-loop
 same-part-requires c κs = search needs
 
-returns : tie.Need-returns Inv-loop μ-loop
-returns c =
-    seek-found (c .before .before .before .loop .inv) (c .before .before .word-end .ensures) (c .before .same-part .ensures) (c .if1 .taken)
-
 returns-2 : tie.Need-returns-2 Inv-loop μ-loop
 returns-2 c =
-    seek-none (c .before .before .before .before .loop .inv) (c .before .before .before .word-end .ensures) (c .before .before .same-part .ensures) (c .before .if1 .left) (c .if2 .taken)
+    seek-found (c .before .before .before .loop .inv) (c .before .before .word-end .ensures) (c .before .same-part .ensures) (c .if2 .taken)
+
+returns-3 : tie.Need-returns-3 Inv-loop μ-loop
+returns-3 c =
+    seek-none (c .before .before .before .before .loop .inv) (c .before .before .before .word-end .ensures) (c .before .before .same-part .ensures) (c .before .if2 .left) (c .if3 .taken)
 
 add-i : tie.Need-add-i Inv-loop μ-loop
 add-i c = omega (arith, c .before .before .before .before .loop .inv .to)
@@ -53,7 +57,7 @@ loop-less c = omega (arith, c .before .before .before .word-end .ensures)
 
 loop-again : tie.Need-loop-again Inv-loop μ-loop
 loop-again c =
-    seek-again (c .before .before .before .before .loop .inv) (c .before .before .before .word-end .ensures) (c .before .before .same-part .ensures) (c .before .if1 .left) (c .if2 .left)
+    seek-again (c .before .before .before .before .loop .inv) (c .before .before .before .word-end .ensures) (c .before .before .same-part .ensures) (c .before .if2 .left) (c .if3 .left)
 
 pub word-place-spec : {M : Type 1} → statement M
 word-place-spec =
@@ -64,11 +68,12 @@ word-place-spec =
     cell-requires
     least-requires
     cell-requires-2
+    returns
     loop-holds
     word-end-requires
     same-part-requires
-    returns
     returns-2
+    returns-3
     add-i
     add-place
     loop-less

@@ -1,4 +1,4 @@
--- `decimal::spread` meets its contract: the digits of a tenth, and the last digit behind them. The number falls. Assumes nothing.
+-- `decimal::spread` meets its contract: the digits of a tenth, and the last digit after them. The number falls. Assumes nothing.
 use mathlib.Core.Path.{ap}
 use Prim.Native.Nat.{ℕ, _<_, _+_, _-_, _/_}
 use native.Mathlib.Omega.{arith}

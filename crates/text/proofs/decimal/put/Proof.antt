@@ -1,4 +1,4 @@
--- `decimal::put` meets its contract: no digit stands behind a point. Assumes nothing.
+-- `decimal::put` meets its contract: no digit stands after a point. Assumes nothing.
 use native.Mathlib.Omega.{arith}
 use borrow.Author.Needs.{needs}
 use Rattle.text.proofs.Digits.{length-word}

@@ -1,7 +1,7 @@
 -- `piece::next_char` meets its contract. Assumes nothing.
 use mathlib.Core.Path.{refl, sym, _∙_}
 use borrow.Author.Needs.{needs}
-use Rattle.text_characters.proofs.Resolving.{next-end, next-entity, next-less, next-low, next-char, next-none}
+use Rattle.text_characters.proofs.Resolving.{next-end, next-entity, next-less, next-low, next-char, next-none, two-xml}
 use Rattle.text_characters.proofs.piece.next_char.Statement.{statement}
 use Rattle.text_characters.proofs.piece.next_char.Tie as tie
 
@@ -34,22 +34,44 @@ returns-4 : tie.Need-returns-4
 returns-4 c =
     next-low _ _ (c .before .before .before .before .before .if1 .left) _ (c .before .before .before .if2 .left) (c .before .before .if3 .left) (c .before .if4 .taken) (c .ascii-char .ensures)
 
+pair-requires : tie.Need-pair-requires
+pair-requires c κs = c .before .before .before .before .if1 .left
+
+char-of-requires-3 : tie.Need-char-of-requires-3
+char-of-requires-3 c κs = search needs
+
+returns-5 : tie.Need-returns-5
+returns-5 c =
+    let at-if5 = c .before in
+    let at-pair = at-if5 .before in
+    let at-if3 = at-pair .before .before in
+    let at-if2 = at-if3 .before in
+    let there = at-pair .pair .ensures (at-if5 .if5 .taken) in
+    next-char _ _ (at-if2 .before .before .if1 .left) _ (at-if2 .if2 .left) (at-if3 .if3 .left) _ (there .0) (two-xml _ there) (c .char-of3 .ensures)
+
 decode-requires : tie.Need-decode-requires
 decode-requires c κs = search needs
 
 is-xml-char-requires : tie.Need-is-xml-char-requires
 is-xml-char-requires c κs = search needs
 
-returns-5 : tie.Need-returns-5
-returns-5 c =
-    next-char _ _ (c .before .before .before .before .before .before .before .if1 .left) _ (c .before .before .before .before .before .if2 .left) (c .before .before .before .before .if3 .left) _ (c .before .before .decode .ensures) (sym (c .before .is-xml-char .ensures) ∙ c .if5 .taken) refl
-
-char-of-requires-3 : tie.Need-char-of-requires-3
-char-of-requires-3 c κs = search needs
-
 returns-6 : tie.Need-returns-6
 returns-6 c =
-    next-none _ _ (c .before .before .before .before .before .before .before .before .if1 .left) _ (c .before .before .before .before .before .before .if2 .left) (c .before .before .before .before .before .if3 .left) _ (c .before .before .before .decode .ensures) (sym (c .before .before .is-xml-char .ensures) ∙ c .before .if5 .left) (c .char-of3 .ensures)
+    let at-decode = c .before .before in
+    let at-if3 = at-decode .before .before .before .before in
+    let at-if2 = at-if3 .before in
+    next-char _ _ (at-if2 .before .before .if1 .left) _ (at-if2 .if2 .left) (at-if3 .if3 .left) _ (at-decode .decode .ensures) (sym (c .before .is-xml-char .ensures) ∙ c .if6 .taken) refl
+
+char-of-requires-4 : tie.Need-char-of-requires-4
+char-of-requires-4 c κs = search needs
+
+returns-7 : tie.Need-returns-7
+returns-7 c =
+    let at-if6 = c .before in
+    let at-decode = at-if6 .before .before in
+    let at-if3 = at-decode .before .before .before .before in
+    let at-if2 = at-if3 .before in
+    next-none _ _ (at-if2 .before .before .if1 .left) _ (at-if2 .if2 .left) (at-if3 .if3 .left) _ (at-decode .decode .ensures) (sym (at-if6 .before .is-xml-char .ensures) ∙ at-if6 .if6 .left) (c .char-of4 .ensures)
 
 pub next-char-spec : {M : Type 1} → statement M
 next-char-spec =
@@ -64,8 +86,11 @@ next-char-spec =
     returns-3
     ascii-char-requires
     returns-4
+    pair-requires
+    char-of-requires-3
+    returns-5
     decode-requires
     is-xml-char-requires
-    returns-5
-    char-of-requires-3
-    returns-6)
+    returns-6
+    char-of-requires-4
+    returns-7)

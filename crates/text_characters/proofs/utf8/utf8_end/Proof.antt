@@ -19,15 +19,15 @@ ascii-end-requires c κs = search needs
 loop-holds : tie.Need-loop-holds Inv-loop μ-loop
 loop-holds c = left-ascii _ 0 (left-start _) _ (c .ascii-end .ensures)
 
-decode-requires : tie.Need-decode-requires Inv-loop μ-loop
-decode-requires c κs = search needs
+char-len-requires : tie.Need-char-len-requires Inv-loop μ-loop
+char-len-requires c κs = search needs
 
 returns : tie.Need-returns Inv-loop μ-loop
-returns c = left-stop _ _ (c .before .before .before .loop .inv) _ (c .before .decode .ensures) (c .if1 .taken)
+returns c = left-stop _ _ (c .before .before .before .loop .inv) _ (c .before .char-len .ensures) (c .if1 .taken)
 
 add-ascii-end : tie.Need-add-ascii-end Inv-loop μ-loop
 add-ascii-end c =
-    omega (arith, left-room _ _ (c .before .before .before .loop .inv) _ (c .before .decode .ensures) (c .if1 .left))
+    omega (arith, left-room _ _ (c .before .before .before .loop .inv) _ (c .before .char-len .ensures) (c .if1 .left))
 
 ascii-end-requires-2 : tie.Need-ascii-end-requires-2 Inv-loop μ-loop
 ascii-end-requires-2 c κs = search needs
@@ -37,7 +37,7 @@ loop-less c = omega (arith, c .ascii-end2 .ensures)
 
 loop-again : tie.Need-loop-again Inv-loop μ-loop
 loop-again c =
-    left-ascii _ _ (left-char _ _ (c .before .before .before .before .loop .inv) _ (c .before .before .decode .ensures) (c .before .if1 .left)) _ (c .ascii-end2 .ensures)
+    left-ascii _ _ (left-char _ _ (c .before .before .before .before .loop .inv) _ (c .before .before .char-len .ensures) (c .before .if1 .left)) _ (c .ascii-end2 .ensures)
 
 returns-2 : tie.Need-returns-2 Inv-loop μ-loop
 returns-2 c = left-end _ _ (c .before .loop .inv) (c .loop-test .left)
@@ -50,7 +50,7 @@ utf8-end-spec =
     μ-loop
     ascii-end-requires
     loop-holds
-    decode-requires
+    char-len-requires
     returns
     add-ascii-end
     ascii-end-requires-2

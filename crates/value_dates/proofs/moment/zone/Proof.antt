@@ -14,7 +14,7 @@ use borrow.Author.Needs.{needs}
 use Rattle.value_dates.proofs.moment.zone.Statement.{statement}
 use Rattle.value_dates.proofs.moment.zone.Tie as tie
 
--- what stands behind a place, from the place
+-- what stands after a place, from the place
 two-at : (t : List ℕ) (at i r : ℕ) → Two (drop (at + i) t) r → Two (drop i (drop at t)) r
 two-at t at i r w = subst (λ (l : List ℕ). Two l r) (sym (drop-drop i at t)) w
 

@@ -1,5 +1,5 @@
 -- `chars::plain_end` meets its contract: what is still to come from `i` makes up the answer from `at`. Assumes nothing.
-use mathlib.Core.Path.{_≡_, refl}
+use mathlib.Core.Path.{_≡_}
 use Prim.Native.Nat.{_+_, _-_}
 use lib.ListN.{length, drop}
 use borrow.Author.Needs.{needs}
@@ -15,8 +15,11 @@ Inv-loop t at i₀ i = i + span isPlain (drop i t) ≡ at + span isPlain (drop a
 abbrev μ-loop : tie.MeasureT-loop
 μ-loop t at i₀ i = length t - i
 
+plain-fours-requires : tie.Need-plain-fours-requires Inv-loop μ-loop
+plain-fours-requires c κs = search needs
+
 loop-holds : tie.Need-loop-holds Inv-loop μ-loop
-loop-holds c = refl
+loop-holds c = c .plain-fours .ensures
 
 shared-slice-read-is-plain : tie.Need-shared-slice-read-is-plain Inv-loop μ-loop
 shared-slice-read-is-plain c = search needs
@@ -47,6 +50,7 @@ plain-end-spec =
     (tie.spec
     Inv-loop
     μ-loop
+    plain-fours-requires
     loop-holds
     shared-slice-read-is-plain
     is-plain-requires

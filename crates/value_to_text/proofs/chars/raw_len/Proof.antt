@@ -16,14 +16,14 @@ abbrev μ-loop : tie.MeasureT-loop
 loop-holds : tie.Need-loop-holds Inv-loop μ-loop
 loop-holds c = record { upto = omega arith; most = omega arith; here = omega arith }
 
-shared-slice-read-width : tie.Need-shared-slice-read-width Inv-loop μ-loop
-shared-slice-read-width c = search needs
+shared-slice-read-extra : tie.Need-shared-slice-read-extra Inv-loop μ-loop
+shared-slice-read-extra c = search needs
 
-width-requires : tie.Need-width-requires Inv-loop μ-loop
-width-requires c κs = search needs
+extra-requires : tie.Need-extra-requires Inv-loop μ-loop
+extra-requires c κs = search needs
 
 add-n : tie.Need-add-n Inv-loop μ-loop
-add-n c = omega (arith, c .before .before .before .loop .inv .most, c .width .ensures .1, c .before .before .before .before .before .pre)
+add-n c = omega (arith, c .before .before .before .loop .inv .most, c .extra .ensures .1, c .before .before .before .before .before .pre)
 
 add-i : tie.Need-add-i Inv-loop μ-loop
 add-i c = search needs
@@ -32,7 +32,13 @@ loop-less : tie.Need-loop-less Inv-loop μ-loop
 loop-less c = search needs
 
 loop-again : tie.Need-loop-again Inv-loop μ-loop
-loop-again c = counting-again _ _ _ _ (c .before .before .before .loop .inv) (c .before .before .loop-test .taken) (c .width .ensures)
+loop-again c = counting-again _ _ _ _ (c .before .before .before .loop .inv) (c .before .before .loop-test .taken) (c .extra .ensures)
+
+cast-result : tie.Need-cast-result Inv-loop μ-loop
+cast-result c = search needs
+
+add-result : tie.Need-add-result Inv-loop μ-loop
+add-result c = omega (arith, c .before .loop .inv .most, c .before .loop .inv .upto, c .before .before .before .pre)
 
 returns : tie.Need-returns Inv-loop μ-loop
 returns c = counting-end _ _ _ (c .before .loop .inv) (c .loop-test .left) (c .before .before .before .pre)
@@ -44,10 +50,12 @@ raw-len-spec =
     Inv-loop
     μ-loop
     loop-holds
-    shared-slice-read-width
-    width-requires
+    shared-slice-read-extra
+    extra-requires
     add-n
     add-i
     loop-less
     loop-again
+    cast-result
+    add-result
     returns)

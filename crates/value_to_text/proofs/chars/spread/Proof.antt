@@ -4,7 +4,7 @@ use Prim.Native.Nat.{_-_}
 use native.Mathlib.Omega.{arith}
 use lib.ListN.{length}
 use borrow.Author.Needs.{needs}
-use Rattle.value_to_text.proofs.Escaping.{Spreading, spread-start, spread-room, spread-end, spread-again, run-mark}
+use Rattle.value_to_text.proofs.Escaping.{Spreading, spread-start, spread-within, spread-room, spread-sum, spread-end, spread-again, run-mark}
 use Rattle.value_to_text.proofs.chars.spread.Statement.{statement}
 use Rattle.value_to_text.proofs.chars.spread.Tie as tie
 
@@ -25,23 +25,25 @@ plain-end-requires c κs = search needs
 copy-requires : tie.Need-copy-requires Inv-loop μ-loop
 copy-requires c κs = search needs
 
+sub-mark : tie.Need-sub-mark Inv-loop μ-loop
+sub-mark c = omega (arith, c .before .before .before .before .plain-end .ensures)
+
+add-mark : tie.Need-add-mark Inv-loop μ-loop
+add-mark c =
+    omega (arith, spread-within _ _ _ _ _ _ _ (c .before .before .before .before .before .loop .inv) (c .before .before .before .before .plain-end .ensures))
+
 same-length : tie.Need-same-length Inv-loop μ-loop
 same-length c =
     omega (arith, c .before .before .before .before .before .before .loop .inv .long, c .before .before .before .copy .kept .1 .1 .1 .0)
 
 returns : tie.Need-returns Inv-loop μ-loop
 returns c =
-    c .before .before .before .copy .ensures ∙ spread-end _ _ _ _ _ _ _ (c .before .before .before .before .before .before .loop .inv) (c .before .before .before .before .before .plain-end .ensures) (c .if1 .taken)
+    let inv = c .before .before .before .before .before .before .loop .inv in
+    let run = c .before .before .before .before .before .plain-end .ensures in
+    (spread-sum _ _ _ _ _ _ _ inv run (c .if1 .taken), c .before .before .before .copy .ensures ∙ spread-end _ _ _ _ _ _ _ inv run (c .if1 .taken))
 
 shared-slice-read-put-mark : tie.Need-shared-slice-read-put-mark Inv-loop μ-loop
 shared-slice-read-put-mark c = c .before .if1 .left
-
-sub-put-mark : tie.Need-sub-put-mark Inv-loop μ-loop
-sub-put-mark c = omega (arith, c .before .before .before .before .before .before .before .plain-end .ensures)
-
-add-put-mark : tie.Need-add-put-mark Inv-loop μ-loop
-add-put-mark c =
-    omega (arith, spread-room _ _ _ _ _ _ _ (c .before .before .before .before .before .before .before .before .loop .inv) (c .before .before .before .before .before .before .before .plain-end .ensures) (c .before .before .if1 .left))
 
 put-mark-requires : tie.Need-put-mark-requires Inv-loop μ-loop
 put-mark-requires c κs =
@@ -68,11 +70,11 @@ spread-spec =
     loop-holds
     plain-end-requires
     copy-requires
+    sub-mark
+    add-mark
     same-length
     returns
     shared-slice-read-put-mark
-    sub-put-mark
-    add-put-mark
     put-mark-requires
     add-i
     loop-less

@@ -1,4 +1,4 @@
--- `moment::put_offset` meets its contract: four pieces, one behind the other. Assumes nothing.
+-- `moment::put_offset` meets its contract: four pieces, one after the other. Assumes nothing.
 use borrow.Author.Needs.{needs}
 use Rattle.value_to_text.proofs.Moments.{offset-put}
 use Rattle.value_to_text.proofs.moment.put_offset.Statement.{statement}

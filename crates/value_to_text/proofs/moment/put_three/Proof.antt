@@ -1,4 +1,4 @@
--- `moment::put_three` meets its contract: five pieces, one behind the other. Assumes nothing.
+-- `moment::put_three` meets its contract: five pieces, one after the other. Assumes nothing.
 use borrow.Author.Needs.{needs}
 use Rattle.value_to_text.proofs.Moments.{three-put}
 use Rattle.value_to_text.proofs.moment.put_three.Statement.{statement}

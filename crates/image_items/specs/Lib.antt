@@ -1,0 +1,3 @@
+-- The definitions of `image_items`.
+-- one item of an image
+pub mod Items

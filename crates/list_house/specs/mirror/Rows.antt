@@ -1,0 +1,14 @@
+-- A mirror: the table of a list, by its kind byte; of a byte that no list has, a statement's. Assumes nothing.
+use mathlib.Core.Bool.{cond}
+use mathlib.Core.List.{List}
+use Prim.Native.Nat.{ℕ}
+use lib.Dec.{eqb}
+use Rattle.list_house.specs.mirror.HouseTable.{houseRows, reportRows}
+
+-- of files
+abbrev pub askedRows : ℕ → List ℕ
+askedRows b = cond (eqb b 2) reportRows houseRows
+
+-- of images: the same tables
+abbrev pub keptRows : ℕ → List ℕ
+keptRows b = askedRows b
