@@ -4,7 +4,7 @@
 From the names in the contracts of these crates the definitions of specs/ are followed by name: a definition counts where a promise,
 or a definition that counts, names it. The page has the files in reading order, each after those that it uses, with the lines of what
 counts in it. `believe.py` writes the page; `believe.py --check` fails where the page is stale, where a mirror is among what counts,
-where one name has two meanings there, and where an exception of the tables below is no longer needed.
+where one name has two meanings there or one meaning two names, and where an exception of the tables below is no longer needed.
 """
 import pathlib
 import re
@@ -337,6 +337,11 @@ def faults(definitions, besides):
         if int(spared.get(name, 1)) != len(where):
             yield f'{name} has {len(where)} meanings: ' + '; '.join(file.strip('`') + line + what for file, line, what in where)
     yield from (f'{name}: no exception is needed for it' for name in sorted(set(spared) - set(double)))
+    for name in sorted({d.file.name for d in definitions}):
+        for line in (CRATES / name).read_text().split('\n'):
+            found = IMPORT.match(line)
+            for renamed in re.findall(r'(\S+) as \S+', found['names'] or '') if found else []:
+                yield f'{name}: an import gives {renamed} a second name'
     for path in sorted(CRATES.glob('*/specs/**/*.antt')):
         if path.name != 'mirror.antt' and (path.parent.name == 'mirror') != path.read_text().startswith('-- A mirror'):
             yield f'{path.relative_to(CRATES)}: mirrors stand in specs/mirror/, headed "A mirror", and nothing else does'

@@ -77,11 +77,12 @@ noRoom n = answer 14 0 n
 abbrev pub noHeader : Answer
 noHeader = answer 15 0 0
 
--- "16 version not 1, place 3"
+-- "16 .., place 3"; document 02, section 5: "16 now means version neither 1 nor 2"
 abbrev pub wrongVersion : Answer
 wrongVersion = answer 16 0 3
 
--- "17 no image of a rule-meeting content begins here, place 5 plus the bytes of the most whole items that begin some image"
+-- "17 no image of a rule-meeting content begins here, place 5 plus the bytes of the most whole items that begin some image"; section 5: "a missing or
+-- bad kind byte is 17, place 5; item places in version 2 count from 6"
 abbrev pub brokenImage : ℕ → Answer
 brokenImage p = answer 17 0 p
 

@@ -7,13 +7,13 @@ use Rattle.text_characters.specs.Pieces.{Piece, char}
 use Rattle.list.specs.Listing.{Kind, group, choice, leaf, Listing, rowAt}
 use Rattle.list.specs.Content.{Content, end, value, node}
 use Rattle.value.specs.Value.{Value, text, place, truth, natural, amount, day, moment}
-use Rattle.xml.specs.House.{double, Attr, Tag, Markup as Tags, noMore as over, piece, full, Tree, whole}
+use Rattle.xml.specs.House.{double, Attr, Tag, Markup, noMore, piece, full, Tree, whole}
 use Rattle.value_to_text.specs.Script.{scriptOf}
 use Rattle.value_to_text.specs.Raw.{pieceOf}
 
 -- the characters of a text, "`&` and `<` and `>` as entities"
-abbrev pub textIn : List ℕ → Tags
-textIn [] = over
+abbrev pub textIn : List ℕ → Markup
+textIn [] = noMore
 textIn (c ∷ cs) = piece (pieceOf c) (textIn cs)
 
 abbrev pub plainly : List ℕ → List Piece
@@ -43,16 +43,16 @@ wordsIn (leaf f) v = scriptOf f v
 
 module _ (l : Listing) where
   -- what stands in an element
-  abbrev pub treeIn : Content Value → Tags
-  treeIn end = over
+  abbrev pub treeIn : Content Value → Markup
+  treeIn end = noMore
   treeIn (value r v k) = full (tagOf (rowAt l r .name) (coinOf v)) (textIn (wordsIn (rowAt l r .kind) v)) [] (treeIn k)
   treeIn (node r c k) = full (tagOf (rowAt l r .name) []) (treeIn c) [] (treeIn k)
 
   -- the root, with the list's namespace
-  abbrev pub rootIn : Content Value → Tags
-  rootIn end = over
-  rootIn (value r v k) = over
-  rootIn (node r c k) = full (tagOf (rowAt l r .name) (attrOf (ascii "xmlns") (l .space) ∷ [])) (treeIn c) [] over
+  abbrev pub rootIn : Content Value → Markup
+  rootIn end = noMore
+  rootIn (value r v k) = noMore
+  rootIn (node r c k) = full (tagOf (rowAt l r .name) (attrOf (ascii "xmlns") (l .space) ∷ [])) (treeIn c) [] noMore
 
   abbrev pub treeOf : Content Value → Tree
   treeOf c = record { declared = false; before = []; root = rootIn c; after = [] }

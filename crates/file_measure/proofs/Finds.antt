@@ -1,10 +1,11 @@
 -- What the calls of `measured` told, one after the other, is what is promised of it. Assumes nothing.
 use mathlib.Core.Path.{_≡_, refl, sym, _∙_, ap, ap₂, subst}
-use mathlib.Core.Logic.{_≢_}
+use mathlib.Core.Logic.{_≢_, _⊎_, inl, inr}
 use mathlib.Core.Bool.{Bool, true, false, cond, not, false≢true}
 use mathlib.Core.List.{List, _++_}
 use Prim.Native.Nat.{ℕ, _≤_, _<_}
 use native.Mathlib.Omega.{arith}
+use lib.Dec.{eqb}
 use lib.ListN.{length, drop}
 use borrow.Author.Tests.{eq-eqb, ne-eqb}
 use Rattle.answer.specs.declared.Answer.{Answer}
@@ -187,6 +188,20 @@ module _ (kind : ℕ) (t pool : List ℕ) (et : t ≡ askedRows kind) (ep : pool
 
   pub ready : (s : List ℕ) → Whole s → Ready t pool s
   ready s w = record { sound = tables-sound; xml = w .xml; small = w .size }
+
+-- a report's rows are bound over a statement's
+abbrev pub Bound : List ℕ → ℕ → Type 0
+Bound t kind = ((kind ≡ 2) × (t ≡ reportRows)) ⊎ ((kind ≢ 2) × (t ≡ houseRows))
+
+pub bound-rows : (t : List ℕ) (kind : ℕ) → Bound t kind → t ≡ askedRows kind
+bound-rows t kind (inl (y, e)) = e ∙ sym (ap (λ (b : Bool). cond b reportRows houseRows) (eq-eqb _ _ y))
+bound-rows t kind (inr (n, e)) = e ∙ sym (ap (λ (b : Bool). cond b reportRows houseRows) (ne-eqb _ _ n))
+
+-- in the order of a part's length, as a slice of an array asks it
+pub bound-long : (t : List ℕ) (kind : ℕ) → Bound t kind → 928 ≡ length t
+unfolding houseRows reportRows
+bound-long t kind (inl (y, e)) = sym (ap (λ (x : List ℕ). length x) e)
+bound-long t kind (inr (n, e)) = sym (ap (λ (x : List ℕ). length x) e)
 
 pub chooses : (t t₀ pool s : List ℕ) (kind : ℕ) (tried : Turn) → Whole s → t ≡ askedRows kind → pool ≡ housePool → t₀ ≡ houseRows → tried ≡ beginIn t₀ pool s → kind ≡ kindBy (tried .met)
     → Chooses t pool s kind tried

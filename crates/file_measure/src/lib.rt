@@ -4,8 +4,9 @@ use choice::begun;
 use choice::kind_by;
 use file_walk::begin::begin;
 use file_walk::step::Turn;
-use list_house::by_byte::rows_of;
+use list_house::by_byte::REPORT;
 use list_house::tables::pool;
+use list_house::tables::report_rows;
 use list_house::tables::rows;
 use pass::found;
 use text_characters::utf8::utf8_end;
@@ -46,17 +47,19 @@ fn walked(rows: &[u16], pool: &[u8], input: &[u8], kind: usize, tried: Turn) -> 
 }
 
 // A file that is house XML: the walk says its first violation or its image's length. The tables are bound here, once, and lent. Its root's
-// tag is looked at as a statement's first, so that only another file's is looked at twice.
+// tag is looked at as a statement's first, so that only another file's is looked at twice, and only a report's rows are bound over those.
 fn message(input: &[u8]) -> Finding
     requires { ⌜ Whole (now input) ⌝ }
     ensures { λ r. ⌜ Measures (now (input .entry)) r ⌝ }
 {
     let pool = pool();
-    let statement = rows();
-    let tried = begin(&statement, &pool, input);
+    let mut rows = rows();
+    let tried = begin(&rows, &pool, input);
     let met = tried.met;
     let kind = kind_by(met);
-    let rows = rows_of(kind);
+    if kind == REPORT {
+        rows = report_rows();
+    }
     walked(&rows, &pool, input, kind, tried)
 }
 

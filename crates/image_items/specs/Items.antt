@@ -20,12 +20,12 @@ pub record SaysList (run : List ℕ) (l : Listing) : Type 0 where
   pub behind : List ℕ
   pub at : run ≡ head ++ behind
 
--- "the row of the item that stands at `from`, where its value's bytes lie and how many they are": n bytes from `place` on, after which the
--- next item stands
+-- the row of the item that stands at `from`, where its value's bytes lie and how many they are: n bytes from `place` on, after which the
+-- next item stands (D71)
 pub data Stands (l : Listing) (run : List ℕ) (from row place n : ℕ) : Type 0 where
-  -- "row 0 at the closing byte"
+  -- row 0 at the closing byte
   closes : row ≡ 0 → (rest : List ℕ) → drop from run ≡ 0 ∷ rest → place ≡ from + 1 → n ≡ 0 → Stands l run from row place n
-  -- "a group: none"; an item of it is its row byte
+  -- a group has none; an item of it is its row byte
   opens : 0 < row → row ≤ size l → GroupOf IsValue l (rowAt l row .kind) → (rest : List ℕ) → drop from run ≡ row ∷ rest
       → place ≡ from + 1 → n ≡ 0 → Stands l run from row place n
   -- a leaf: "the row byte and .. its value", a value of its type; its own bytes are all but the length that a text begins with
@@ -35,7 +35,7 @@ pub data Stands (l : Listing) (run : List ℕ) (from row place n : ℕ) : Type 0
 
 -- what is answered, and how many bytes
 pub data HouseItem (run : List ℕ) (from : ℕ) (a : Answer) (n : ℕ) : Type 0 where
-  -- "goes over the image that a run begins with": an item of its list
+  -- the call goes over the image that a run begins with: an item of its list
   standing : (l : Listing) → SaysList run l → (row place : ℕ) → Stands l run from row place n → a ≡ picked row place → HouseItem run from a n
-  -- "code 17 with place `from` where no whole item of the list stands there": so wherever no image begins
+  -- code 17 with place `from` where no whole item of the list stands there: so wherever no image begins
   lacking : ((l : Listing) → SaysList run l → (row place m : ℕ) → Stands l run from row place m → ⊥) → a ≡ brokenImage from → n ≡ 0 → HouseItem run from a n

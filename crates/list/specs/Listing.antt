@@ -30,7 +30,7 @@ pub record Row : Type 0 where
   pub count : Count
   pub kind : Kind
 
--- of group g: "rows a and b are both present or both absent"
+-- of a group: two of its rows are "both present or both absent"
 pub data Rule : Type 0 where
   both : ℕ → ℕ → ℕ → Rule
 

@@ -5,10 +5,10 @@ use Rattle.text.specs.Bytes.{ascii}
 use Rattle.text.specs.Digits.{inDigits}
 use Rattle.answer.specs.declared.Answer.{Answer}
 
--- "CODE ROW PLACE"
+-- the numbers of an answer, a blank between them
 unfoldable pub numbers : Answer → List ℕ
 numbers a = inDigits (a .code) ++ (32 ∷ (inDigits (a .row) ++ (32 ∷ inDigits (a .place))))
 
--- "`refused CODE ROW PLACE` and LF"
+-- the line of a refusal, of which document 01 has two: "`refused 3 0 0` and LF", "`refused 1 0 65536` and LF"
 unfoldable pub refusal : Answer → List ℕ
 refusal a = ascii "refused " ++ (numbers a ++ (10 ∷ []))

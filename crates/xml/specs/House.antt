@@ -99,7 +99,7 @@ render (piece p k) = spell p ++ render k
 render (emptyTag t k) = less ∷ (tag t ++ (solidus ∷ greater ∷ render k))
 render (full t i g k) = less ∷ (tag t ++ (greater ∷ (render i ++ (less ∷ solidus ∷ (t .name ++ (g ++ (greater ∷ render k)))))))
 
--- the next piece is this character
+-- the piece is this character
 abbrev pub isChar : ℕ → Piece → Bool
 isChar x (char c) = eqb c x
 isChar x (entity e) = false

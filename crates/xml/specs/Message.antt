@@ -22,7 +22,7 @@ abbrev pub attrsOf : List Attr → Attrs
 attrsOf [] = []
 attrsOf (a ∷ more) = (a .name, resolvedAll (a .value)) ∷ attrsOf more
 
--- the parts of a content whose first byte is at place o
+-- what stands inside markup whose first byte is at place o
 abbrev pub partsOf : ℕ → Markup → Inside
 partsOf o noMore = nothingInside
 partsOf o (piece p k) = character o (resolved p) (partsOf (o + length (spell p)) k)
