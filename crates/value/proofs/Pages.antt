@@ -1,5 +1,5 @@
 -- The class of a text's characters and its lookup are one: a computed test over the pages whose words are not 0, a law for all other code
--- points; the same of its quiet bytes. Assumes nothing.
+-- points; the same of its quiet bytes, and of a reference's. Assumes nothing.
 use mathlib.Core.Path.{_≡_, refl, sym, _∙_}
 use mathlib.Core.Bool.{Bool, true, false, _&&_, Bool·beq, false≢true}
 use mathlib.Core.List.{List}
@@ -11,10 +11,11 @@ use native.Mathlib.Decide.{decLt, ℕ-discrete}
 use lib.ListN.{length, List·getD-eq-default}
 use borrow.Author.Tests.{le-ltb, lt-ltb, ne-eqb}
 use Rattle.text.proofs.Classes.{every, passes, and-is, no as none}
-use Rattle.value.specs.Text.{isTxt}
-use Rattle.value.specs.mirror.Texts.{quietTxt}
-use Rattle.value.specs.mirror.Pages.{bitOf, wordIn, words, wordOf, looked, quietWords, quietLooked}
-use Rattle.value.proofs.classes.Named.{writing, quiet-writing}
+use Rattle.value.specs.Text.{isTxt, isRef}
+use Rattle.value.specs.mirror.Texts.{isAsciiTxt, quietTxt, quietRef}
+use Rattle.value.specs.mirror.Pages.{bitOf, wordIn, words, wordOf, looked, quietWords, refWords, lookedIn}
+use Rattle.value.proofs.classes.Named.{writing, reference}
+use Rattle.value.proofs.classes.Computed.{quiet-far, quiet-none}
 
 -- ---- the words, as the code finds them
 
@@ -74,21 +75,26 @@ lookup-txt c = go (decLt c 256) (ℕ-discrete (c / 64) 130)
     go (no h) (yes e) = agree looked isTxt 8320 64 (pages .1) c (omega arith) (omega arith)
     go (no h) (no e) = other c (omega arith) e
 
--- ---- quiet bytes
+-- ---- a class of bytes: no number from 256 on is one
 
-quiet-computed : every (same quietLooked quietTxt) 0 256 ≡ true
-unfolding quietLooked bitOf wordIn quietTxt
-quiet-computed = refl
+module _ (ws : List ℕ) (e : length ws ≡ 4) (f : ℕ → Bool) (far : (x : ℕ) → 256 ≤ x → f x ≡ false) where
+  other-byte : (x : ℕ) → 256 ≤ x → lookedIn ws x ≡ f x
+  unfolding lookedIn
+  other-byte x h =
+      let k : 4 ≤ x / 64 = omega arith in
+      rw (← past ws e (x / 64) k) (bit-none (x % 64) ∙ sym (far x h))
 
-quiet-other : (x : ℕ) → 256 ≤ x → quietLooked x ≡ quietTxt x
-unfolding quietLooked
-quiet-other x h =
-    let k : 4 ≤ x / 64 = omega arith in
-    rw (← past quietWords refl (x / 64) k) (bit-none (x % 64) ∙ none quiet-writing {x = x} (omega arith))
+  lookup-byte : every (same (lookedIn ws) f) 0 256 ≡ true → (x : ℕ) → lookedIn ws x ≡ f x
+  lookup-byte c x = go (decLt x 256)
+    where
+      go : Dec (x < 256) → lookedIn ws x ≡ f x
+      go (yes h) = agree (lookedIn ws) f 0 256 c x (omega arith) (omega arith)
+      go (no h) = other-byte x (omega arith)
 
-pub lookup-quiet : (x : ℕ) → quietLooked x ≡ quietTxt x
-lookup-quiet x = go (decLt x 256)
-  where
-    go : Dec (x < 256) → quietLooked x ≡ quietTxt x
-    go (yes h) = agree quietLooked quietTxt 0 256 quiet-computed x (omega arith) (omega arith)
-    go (no h) = quiet-other x (omega arith)
+pub lookup-quiet : (x : ℕ) → lookedIn quietWords x ≡ quietTxt x
+unfolding lookedIn bitOf wordIn quietTxt isAsciiTxt isTxt
+lookup-quiet x = lookup-byte quietWords refl quietTxt (λ y h. quiet-far y (omega arith)) refl x
+
+pub lookup-ref : (x : ℕ) → lookedIn refWords x ≡ quietRef x
+unfolding lookedIn bitOf wordIn isRef
+lookup-ref x = lookup-byte refWords refl quietRef (λ y h. sym (quiet-none y (none reference {x = y} (omega arith)))) refl x

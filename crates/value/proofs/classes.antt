@@ -3,6 +3,8 @@
 pub mod Classes
 -- the classes of references and texts
 pub mod Named
+-- laws over a class of bytes, computed
+pub mod Computed
 -- a loop over a class, by place
 pub mod Loops
 -- account numbers and currencies, byte by byte

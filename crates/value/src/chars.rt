@@ -4,14 +4,14 @@
 use crate::judged::Judged;
 use text_characters::piece::next_char;
 ghost use mathlib.Core.Path.{_≡_};
-ghost use mathlib.Core.Bool.{cond, _&&_, _||_};
+ghost use mathlib.Core.Bool.{cond, _&&_, _||_, not};
 ghost use Prim.Native.Nat.{_+_, _%_};
 ghost use lib.Dec.{eqb};
 ghost use lib.ListN.{drop};
 ghost use Rattle.text.specs.Lists.{span};
 ghost use Rattle.value.specs.Text.{isTxt, isRef, notSpace};
-ghost use Rattle.value.specs.mirror.Pages.{bitOf, wordIn, words, wordOf, quietWords};
-ghost use Rattle.value.specs.mirror.Texts.{classOf, textOf, Spelled, widthOf, quietTxt, quietRef, quietOf};
+ghost use Rattle.value.specs.mirror.Pages.{bitOf, wordIn, words, wordOf, quietWords, refWords};
+ghost use Rattle.value.specs.mirror.Texts.{classOf, textOf, Spelled, widthOf, quietTxt, quietOf};
 
 // The word of the page from U+0040 on: all but the backtick and the last, U+007F.
 const LETTERS: u64 = 0x7FFFFFFEFFFFFFFF;
@@ -57,18 +57,37 @@ pub fn is_txt(c: u32) -> bool
     has_bit(word(c), c)
 }
 
+// The words of the bytes that a reference may have, but for the slash; those of a byte's last two pages are here to make it a table.
+fn ref_word(page: u32) -> u64
+    ensures { λ r. ⌜ r ≡ wordIn refWords page ⌝ }
+{
+    match page {
+        0 => 0x87FF7B8100000000,
+        1 => 0x07FFFFFE07FFFFFE,
+        2 => 0,
+        3 => 0,
+        _ => 0,
+    }
+}
+
+// A byte that a reference may have and that is no slash, which must be looked at.
+pub fn is_quiet_ref(b: u8) -> bool
+    ensures { λ r. ⌜ r ≡ (isRef b && not (eqb b 47)) ⌝ }
+{
+    let c = b as u32;
+    has_bit(ref_word(c / 64), c)
+}
+
 fn is_ref(c: u32) -> bool
     ensures { λ r. ⌜ r ≡ isRef c ⌝ }
 {
-    match c {
-        32 => true,
-        39..=41 => true,
-        43..=58 => true,
-        63 => true,
-        65..=90 => true,
-        97..=122 => true,
-        _ => false,
+    if c == 47 {
+        return true;
     }
+    if 127 < c {
+        return false;
+    }
+    is_quiet_ref(c as u8)
 }
 
 // Whether a character may stand in a reference (strict) or in a text.
@@ -136,19 +155,6 @@ fn is_quiet_txt(b: u8) -> bool
 {
     let c = b as u32;
     has_bit(quiet_word(c / 64), c)
-}
-
-// A byte that a reference may have and that stands for itself; a slash must be looked at.
-fn is_quiet_ref(b: u8) -> bool
-    ensures { λ r. ⌜ r ≡ quietRef b ⌝ }
-{
-    match b {
-        42 | 47 | 59 | 61 | 64 | 91 | 93 | 95 => false,
-        60 | 62 | 92 | 94 | 96 => false,
-        39..=122 => true,
-        32 => true,
-        _ => false,
-    }
 }
 
 fn is_quiet(strict: bool, b: u8) -> bool

@@ -3,32 +3,22 @@
 use text::class::is_digit;
 use text::class::is_letter;
 use text_characters::utf8::decode;
+use value::chars::is_quiet_ref;
 use value::chars::is_txt;
 ghost use mathlib.Core.Path.{_≡_};
-ghost use mathlib.Core.Bool.{true, _&&_};
+ghost use mathlib.Core.Bool.{true, _&&_, not};
 ghost use Prim.Native.Nat.{_+_};
+ghost use lib.Dec.{eqb};
 ghost use lib.ListN.{drop};
 ghost use Rattle.text.specs.Lists.{span};
 ghost use Rattle.value.specs.Text.{isRef, notSpace};
+ghost use Rattle.value.specs.mirror.Texts.{isAsciiTxt};
 ghost use Rattle.value_from_bytes.specs.mirror.Tests.{every, some, apart};
-ghost use Rattle.value_from_bytes.specs.mirror.Judges.{isWord, isReference, isAsciiTxt, txtLen, isWriting};
+ghost use Rattle.value_from_bytes.specs.mirror.Judges.{isReference, txtLen, isWriting};
 
-// Of a reference, but no slash. The bytes that a range lacks stand in rows without neighbours: each row is one test of a mask.
-fn is_sign(x: u8) -> bool
-    ensures { λ r. ⌜ r ≡ isWord x ⌝ }
-{
-    match x {
-        42 | 47 | 59 | 61 | 64 | 91 | 93 | 95 => false,
-        60 | 62 | 92 | 94 | 96 => false,
-        32 => true,
-        39..=122 => true,
-        _ => false,
-    }
-}
-
-// The same; most are digits and letters, which come in runs.
+// Of a reference, but no slash; most are digits and letters, which come in runs.
 fn is_word(x: u8) -> bool
-    ensures { λ r. ⌜ r ≡ isWord x ⌝ }
+    ensures { λ r. ⌜ r ≡ (isRef x && not (eqb x 47)) ⌝ }
 {
     if is_digit(x) {
         return true;
@@ -36,7 +26,7 @@ fn is_word(x: u8) -> bool
     if is_letter(x) {
         return true;
     }
-    is_sign(x)
+    is_quiet_ref(x)
 }
 
 // Whether one is no space; it mostly is the first.

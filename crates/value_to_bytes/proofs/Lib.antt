@@ -1,8 +1,6 @@
 -- The laws of `value_to_bytes`.
 -- a value's parts put one after the other
 pub mod Putting
--- three capitals, byte by byte
-pub mod Currency
 -- the bytes between entities
 pub mod Running
 -- a raw text gives one list of bytes

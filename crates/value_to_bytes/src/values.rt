@@ -3,13 +3,12 @@
 use crate::chars::put_chars;
 use crate::place::has_room;
 use crate::place::place;
-use text::class::is_capital;
 use text::number::copy;
 use text::number::put16;
 use text::number::put32;
 use text::number::put64;
-use text::part::part_len;
 use value::blanks::part_of;
+use value::code::is_ccy;
 use value::judged::Moment;
 ghost use mathlib.Core.Path.{_≡_};
 ghost use mathlib.Core.List.{[], _∷_};
@@ -17,8 +16,7 @@ ghost use Prim.Native.Nat.{_+_, _≤_};
 ghost use lib.ListN.{length};
 ghost use lib.Seq.{slice};
 ghost use Rattle.text.specs.Pasting.{pasted};
-ghost use Rattle.value.specs.Code.{Ccy};
-ghost use Rattle.value.specs.Judged.{Exactly, momentValue};
+ghost use Rattle.value.specs.Judged.{momentValue};
 ghost use Rattle.value.specs.Value.{bytes, truth, natural, day};
 ghost use Rattle.value_to_bytes.specs.mirror.Puts.{Wrote, Counts, textSize, TextPut, AmountPut};
 
@@ -80,22 +78,6 @@ pub(crate) fn write_moment(out: &mut [u8], at: usize, m: Moment) -> usize
     13
 }
 
-// Whether the part of s from c up to d is three capitals.
-fn is_currency(s: &[u8], c: usize, d: usize) -> bool
-    ensures { λ r. ⌜ Exactly r (Ccy (slice c d (now (s .entry)))) ⌝ }
-{
-    if part_len(s, c, d) != 3 {
-        return false;
-    }
-    if !is_capital(s[c]) {
-        return false;
-    }
-    if !is_capital(s[c + 1]) {
-        return false;
-    }
-    is_capital(s[c + 2])
-}
-
 // The currency is s from c up to d; nothing is written where it is none.
 pub(crate) fn write_amount(
     s: &[u8],
@@ -108,7 +90,7 @@ pub(crate) fn write_amount(
 ) -> usize
     ensures { λ r. ⌜ AmountPut (slice c d (now (s .entry))) scale coefficient (now (out .entry)) at r (now (out .exit)) ⌝ }
 {
-    if !is_currency(s, c, d) {
+    if !is_ccy(part_of(s, c, d)) {
         return 0;
     }
     if !has_room(out.len(), at, 12) {

@@ -2,7 +2,7 @@
 use mathlib.Core.Path.{_≡_, refl, sym, _∙_, ap, subst, subst₂}
 use mathlib.Core.Bool.{Bool, true, false, cond, _&&_, _||_, true≢false}
 use mathlib.Core.List.{List, [], _∷_}
-use mathlib.Core.Logic.{⊎-elim, _≢_}
+use mathlib.Core.Logic.{_≢_}
 use Prim.Native.Nat.{ℕ, zero, suc, _+_, _-_, _≤_, _<_, zero-le, suc-le-suc}
 use native.Mathlib.Omega.{arith}
 use lib.Dec.{eqb}
@@ -14,13 +14,12 @@ use Rattle.text_characters.specs.Pieces.{GoodPiece, spell, resolved}
 use Rattle.text_characters.specs.Chars.{charOf, First, NextChar}
 use Rattle.text_characters.specs.Passing.{Passes}
 use Rattle.text_characters.specs.declared.utf8.Char.{Char}
-use Rattle.text.proofs.Classes.{yes, is-in}
 use Rattle.text_characters.proofs.Chars as chars
 use Rattle.text_characters.proofs.Resolving.{next-ascii, piece-some}
 use Rattle.text.proofs.Spans.{span-le}
 use Rattle.value.specs.Text.{isTxt, isRef, notSpace}
 use Rattle.value.specs.mirror.Texts.{classOf, textOf, widthOf, quietOf}
-use Rattle.value.proofs.classes.Named.{writing, reference, quiet-writing, quiet-reference}
+use Rattle.value.proofs.classes.Computed.{Own, ref-low, ref-own, quiet-is, ascii-is, quiet-txt}
 use Rattle.value.proofs.raw.Sizes.{Sized, sized-more, width-one}
 use Rattle.value.proofs.classes.References.{Here, here-full, here-room, here-more}
 
@@ -38,44 +37,19 @@ some-bytes strict l r (First.none f never) e z = true≢false (sym e ∙ ap (λ 
 -- ---- a quiet byte
 
 record Quiet (strict : Bool) (x : ℕ) : Type 0 where
-  low : 0x20 ≤ x
+  own : Own x
   high : x < 0x80
-  ampersand : x ≢ 38
-  less : x ≢ 60
   class : classOf strict x ≡ true
   slash : (strict && eqb x 47) ≡ false
 
-txt-quiet : (x : ℕ) → true ≡ isTxt x → 0x20 ≤ x → x < 0x80 → x ≢ 38 → x ≢ 60 → Quiet false x
-txt-quiet x e a b p q = record { low = a; high = b; ampersand = p; less = q; class = sym e; slash = refl }
-
-ref-quiet : (x : ℕ) → true ≡ isRef x → 0x20 ≤ x → x < 0x80 → x ≢ 38 → x ≢ 60 → x ≢ 47 → Quiet true x
-ref-quiet x e a b p q s = record { low = a; high = b; ampersand = p; less = q; class = sym e; slash = ne-eqb x 47 s }
-
-quiet-is : (strict : Bool) (x : ℕ) → quietOf strict x ≡ true → Quiet strict x
-quiet-is true x e =
-    ⊎-elim
-    (⊎-elim
-    (⊎-elim
-    (⊎-elim
-    (⊎-elim
-    (⊎-elim
-    (λ h. ref-quiet x (yes reference 32 1 refl (omega arith) (omega arith)) (omega arith) (omega arith) (omega arith) (omega arith) (omega arith))
-    (λ h. ref-quiet x (yes reference 39 3 refl (omega arith) (omega arith)) (omega arith) (omega arith) (omega arith) (omega arith) (omega arith)))
-    (λ h. ref-quiet x (yes reference 43 16 refl (omega arith) (omega arith)) (omega arith) (omega arith) (omega arith) (omega arith) (omega arith)))
-    (λ h. ref-quiet x (yes reference 43 16 refl (omega arith) (omega arith)) (omega arith) (omega arith) (omega arith) (omega arith) (omega arith)))
-    (λ h. ref-quiet x (yes reference 63 1 refl (omega arith) (omega arith)) (omega arith) (omega arith) (omega arith) (omega arith) (omega arith)))
-    (λ h. ref-quiet x (yes reference 65 26 refl (omega arith) (omega arith)) (omega arith) (omega arith) (omega arith) (omega arith) (omega arith)))
-    (λ h. ref-quiet x (yes reference 97 26 refl (omega arith) (omega arith)) (omega arith) (omega arith) (omega arith) (omega arith) (omega arith))
-    (is-in quiet-reference x e)
-quiet-is false x e =
-    ⊎-elim
-    (⊎-elim
-    (⊎-elim
-    (λ h. txt-quiet x (yes writing 32 64 refl (omega arith) (omega arith)) (omega arith) (omega arith) (omega arith) (omega arith))
-    (λ h. txt-quiet x (yes writing 32 64 refl (omega arith) (omega arith)) (omega arith) (omega arith) (omega arith) (omega arith)))
-    (λ h. txt-quiet x (yes writing 32 64 refl (omega arith) (omega arith)) (omega arith) (omega arith) (omega arith) (omega arith)))
-    (λ h. txt-quiet x (yes writing 97 30 refl (omega arith) (omega arith)) (omega arith) (omega arith) (omega arith) (omega arith))
-    (is-in quiet-writing x e)
+quiet : (strict : Bool) (x : ℕ) → quietOf strict x ≡ true → Quiet strict x
+quiet true x e =
+    let w = quiet-is x e in
+    record { own = ref-own x (w .0); high = ref-low x (w .0); class = w .0; slash = ne-eqb x 47 (w .1) }
+quiet false x e =
+    let w = quiet-txt x e in
+    let a = ascii-is x (w .0) in
+    record { own = w .1; high = a .0; class = a .1; slash = refl }
 
 -- ---- a run of them
 
@@ -107,7 +81,7 @@ run-is strict true s i m e h =
       quiet = λ j a b.
           let q : i + (j - i) ≡ j = omega arith in
           let v : quietOf strict (getD (drop i s) (j - i) 0) ≡ true = span-at (quietOf strict) (drop i s) (j - i) (omega arith) in
-          quiet-is strict (getD s j 0) (subst (λ (y : ℕ). quietOf strict (getD s y 0) ≡ true) q (rw (getD-drop i s (j - i) 0) at v));
+          quiet strict (getD s j 0) (subst (λ (y : ℕ). quietOf strict (getD s y 0) ≡ true) q (rw (getD-drop i s (j - i) 0) at v));
       inked = λ z. refl;
     }
 
@@ -122,7 +96,7 @@ calm false b x e = refl
 
 module _ (strict : Bool) (k : ℕ) (s : List ℕ) where
   quiet-next : (i : ℕ) → i < length s → Quiet strict (getD s i 0) → NextChar (drop i s) (charOf 1 (getD s i 0))
-  quiet-next i h q = next-ascii s i h (charOf 1 (getD s i 0)) (q .low) (q .high) (q .ampersand) (q .less) refl
+  quiet-next i h q = next-ascii s i h (charOf 1 (getD s i 0)) (q .own .low) (q .high) (q .own .ampersand) (q .own .less) refl
 
   here-one : (i n : ℕ) (slash : Bool) → Here strict k s i n true slash → Calm strict slash → i < length s → n < k → Quiet strict (getD s i 0)
       → Here strict k s (i + 1) (n + 1) true false

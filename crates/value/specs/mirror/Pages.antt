@@ -1,4 +1,4 @@
--- A mirror: the characters of TXTk looked up, as bits of words, a word for each page of 64 code points. Assumes nothing.
+-- A mirror: the characters of REF and of TXTk looked up, as bits of words, a word for each page of 64 code points. Assumes nothing.
 use mathlib.Core.Bool.{Bool, cond}
 use mathlib.Core.List.{List, [], _∷_}
 use Prim.Native.Nat.{ℕ, _/_, _%_, _^_}
@@ -24,9 +24,13 @@ wordOf c = cond (ltb c 256) (wordIn words (c / 64)) (cond (eqb (c / 64) 130) 0x0
 unfoldable pub looked : ℕ → Bool
 looked c = bitOf (wordOf c) (c % 64)
 
--- the same of bytes that stand for themselves: ASCII, and neither `&` nor `<`
+-- the same of bytes that stand for themselves: of a text, ASCII, and neither `&` nor `<`
 abbrev pub quietWords : List ℕ
 quietWords = 0xEFFFFFBF00000000 ∷ 0x7FFFFFFEFFFFFFFF ∷ 0 ∷ 0 ∷ []
 
-unfoldable pub quietLooked : ℕ → Bool
-quietLooked x = bitOf (wordIn quietWords (x / 64)) (x % 64)
+-- of a reference, and no slash
+abbrev pub refWords : List ℕ
+refWords = 0x87FF7B8100000000 ∷ 0x07FFFFFE07FFFFFE ∷ 0 ∷ 0 ∷ []
+
+unfoldable pub lookedIn : List ℕ → ℕ → Bool
+lookedIn ws x = bitOf (wordIn ws (x / 64)) (x % 64)

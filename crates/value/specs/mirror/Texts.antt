@@ -5,7 +5,6 @@ use mathlib.Core.List.{List, [], _∷_}
 use Prim.Native.Nat.{ℕ, suc}
 use lib.Dec.{ltb, eqb}
 use lib.ListN.{length}
-use Rattle.text.specs.Bytes.{inRange}
 use Rattle.text_characters.specs.Utf8.{encodeAll}
 use Rattle.text_characters.specs.Passing.{Passes}
 use Rattle.value.specs.Text.{isTxt, isRef, notSpace}
@@ -37,12 +36,16 @@ pub data Spelled (g : List ℕ → Bool) (s : List ℕ) (r : Judged) : Type 0 wh
 unfoldable pub widthOf : ℕ → ℕ → ℕ
 widthOf len code = cond (ltb code 128) 1 len
 
--- quiet bytes: each is a character of the class by itself, and no slash of a reference
-unfoldable pub quietTxt : ℕ → Bool
-quietTxt x = inRange 32 37 x || inRange 39 59 x || inRange 61 95 x || inRange 97 126 x
+-- a character of a text that has one byte
+unfoldable pub isAsciiTxt : ℕ → Bool
+isAsciiTxt x = ltb x 128 && isTxt x
 
-unfoldable pub quietRef : ℕ → Bool
-quietRef x = eqb x 32 || inRange 39 41 x || inRange 43 46 x || inRange 48 58 x || eqb x 63 || inRange 65 90 x || inRange 97 122 x
+-- quiet bytes: each is a character of the class by itself, so neither `&` nor `<`, and no slash of a reference
+unfoldable pub quietTxt : ℕ → Bool
+quietTxt x = isAsciiTxt x && not (eqb x 38 || eqb x 60)
+
+abbrev pub quietRef : ℕ → Bool
+quietRef x = isRef x && not (eqb x 47)
 
 abbrev pub quietOf : Bool → ℕ → Bool
 quietOf true x = quietRef x

@@ -10,13 +10,10 @@ use lib.ListN.{length, getD, drop, drop-of-length-le}
 use lib.Seq.{drop-cons}
 use borrow.Author.Tests.{eqb-true, eq-eqb, ne-eqb}
 use Rattle.value.specs.Text.{isRef}
+use Rattle.value.specs.mirror.Texts.{quietRef}
+use Rattle.value.proofs.classes.Computed.{slash-ref, quiet-is}
 use Rattle.value_from_bytes.specs.mirror.Tests.{every, apart}
-use Rattle.value_from_bytes.specs.mirror.Judges.{isWord}
-use Rattle.value_from_bytes.proofs.texts.Classes.{word-is, no-word}
-
-slash-ref : isRef 47 ≡ true
-unfolding isRef
-slash-ref = refl
+use Rattle.value_from_bytes.proofs.texts.Classes.{no-word}
 
 -- ---- a loop over the characters of a reference, from i on, after a slash or not
 
@@ -30,15 +27,15 @@ module _ (s : List ℕ) (i : ℕ) (slash : Bool) (r : Bool) (w : (every isRef (d
     unfolding every apart
     go-on c z e f = sym (rw (add-one i, drop-cons s i 0, e, z, f)) ∙ w
 
-    pub spaced-word : isWord (getD s i 0) ≡ true → (every isRef (drop (i + 1) s) && apart false (drop (i + 1) s)) ≡ r
-    spaced-word e = let k = word-is (getD s i 0) e in go-on false (ne-eqb (getD s i 0) 47 (k .1)) (k .0) (and-false slash)
+    pub spaced-word : quietRef (getD s i 0) ≡ true → (every isRef (drop (i + 1) s) && apart false (drop (i + 1) s)) ≡ r
+    spaced-word e = let k = quiet-is (getD s i 0) e in go-on false (ne-eqb (getD s i 0) 47 (k .1)) (k .0) (and-false slash)
 
-    pub spaced-bad : isWord (getD s i 0) ≡ false → getD s i 0 ≢ 47 → false ≡ r
+    pub spaced-bad : quietRef (getD s i 0) ≡ false → getD s i 0 ≢ 47 → false ≡ r
     unfolding every apart
     spaced-bad e n = sym (rw (drop-cons s i 0, no-word (getD s i 0) e n)) ∙ w
 
     pub spaced-slash : getD s i 0 ≡ 47 → slash ≡ false → (every isRef (drop (i + 1) s) && apart true (drop (i + 1) s)) ≡ r
-    spaced-slash e f = go-on true (eq-eqb (getD s i 0) 47 e) (ap isRef e ∙ slash-ref) (rw f)
+    spaced-slash e f = go-on true (eq-eqb (getD s i 0) 47 e) (ap isRef e ∙ sym slash-ref) (rw f)
 
     pub spaced-twice : getD s i 0 ≡ 47 → slash ≡ true → false ≡ r
     unfolding every apart

@@ -28,7 +28,8 @@ use Rattle.value_from_bytes.proofs.Listed.{every-all, all-every, some-a
 use Rattle.value_from_bytes.proofs.Exactly.{Stored, Passes, Exact, number-at}
 use Rattle.value_from_bytes.proofs.texts.Codes.{currency-exactly, account-exactly}
 use Rattle.value_from_bytes.proofs.texts.Slashes.{apart-to, apart-from}
-use Rattle.value_from_bytes.proofs.texts.Classes.{ref-low, txt-scalar}
+use Rattle.value_from_bytes.proofs.texts.Classes.{txt-scalar}
+use Rattle.value.proofs.classes.Computed.{ref-low}
 use Rattle.value_from_bytes.proofs.texts.Decoded.{chars-encoded, encoded-bytes, chars-back}
 
 -- ---- a text's bytes, whatever its kind

@@ -20,9 +20,10 @@ use Rattle.text.proofs.Spans.{span-le}
 use Rattle.value.specs.Text.{isTxt, notSpace}
 use Rattle.value_from_bytes.specs.mirror.Tests.{every, some}
 use Rattle.value_from_bytes.specs.mirror.Chars.{charsFrom, chars}
-use Rattle.value_from_bytes.specs.mirror.Judges.{textFrom, isAsciiTxt, txtLen, isWriting}
+use Rattle.value_from_bytes.specs.mirror.Judges.{textFrom, txtLen, isWriting}
 use Rattle.value_from_bytes.proofs.Listed.{every-all}
-use Rattle.value_from_bytes.proofs.texts.Classes.{ascii-low, ascii-txt}
+use Rattle.value.specs.mirror.Texts.{isAsciiTxt}
+use Rattle.value.proofs.classes.Computed.{ascii-is}
 use Rattle.value_from_bytes.proofs.texts.Decoded.{chars-step, chars-first, chars-low, chars-ascii, chars-back, begun, begun-some}
 
 zero-txt : isTxt 0 ≡ false
@@ -84,7 +85,7 @@ run-class (x ∷ t) = go (isAsciiTxt x) refl (run-class t)
   where
     go : (b : Bool) → isAsciiTxt x ≡ b → every isTxt (chars t) ≡ every isTxt (chars (drop (span isAsciiTxt t) t))
         → every isTxt (chars (x ∷ t)) ≡ every isTxt (chars (drop (cond b (suc (span isAsciiTxt t)) zero) (x ∷ t)))
-    go true e h = ap (every isTxt) (chars-low x t (ascii-low x e)) ∙ ap (λ (b : Bool). b && every isTxt (chars t)) (ascii-txt x e) ∙ h
+    go true e h = ap (every isTxt) (chars-low x t (ascii-is x e .0)) ∙ ap (λ (b : Bool). b && every isTxt (chars t)) (ascii-is x e .1) ∙ h
     go false e h = refl
 
 run-count : (t : List ℕ) → length (chars t) ≡ span isAsciiTxt t + length (chars (drop (span isAsciiTxt t) t))
@@ -94,7 +95,7 @@ run-count (x ∷ t) = go (isAsciiTxt x) refl (run-count t)
   where
     go : (b : Bool) → isAsciiTxt x ≡ b → length (chars t) ≡ span isAsciiTxt t + length (chars (drop (span isAsciiTxt t) t))
         → length (chars (x ∷ t)) ≡ cond b (suc (span isAsciiTxt t)) zero + length (chars (drop (cond b (suc (span isAsciiTxt t)) zero) (x ∷ t)))
-    go true e h = let z = ap length (chars-low x t (ascii-low x e)) in omega arith
+    go true e h = let z = ap length (chars-low x t (ascii-is x e .0)) in omega arith
     go false e h = omega arith
 
 -- ---- a loop that has passed the characters before i, `more` of whose bytes are not the first of theirs

@@ -13,20 +13,12 @@ unfoldable pub use Rattle.value.specs.Day.{isReal}
 use Rattle.value_from_bytes.specs.mirror.Tests.{every, some, apart}
 use Rattle.value_from_bytes.specs.mirror.Chars.{chars}
 
--- of a reference, and no slash
-unfoldable pub isWord : ℕ → Bool
-isWord x = eqb x 32 || inRange 39 41 x || inRange 43 46 x || inRange 48 58 x || eqb x 63 || inRange 65 90 x || inRange 97 122 x
-
 unfoldable pub isReference : List ℕ → Bool
 isReference b = leb (length b) 35 && (every isRef b && (some notSpace b && apart true b))
 
 -- characters of TXTk of which n were read before, one of them no space if ink says so
 unfoldable pub textFrom : ℕ → ℕ → Bool → List ℕ → Bool
 textFrom k n ink cs = leb (n + length cs) k && (every isTxt cs && (ink || some notSpace cs))
-
--- of TXTk, and one byte
-unfoldable pub isAsciiTxt : ℕ → Bool
-isAsciiTxt x = inRange 32 95 x || inRange 97 126 x
 
 -- how many bytes the character of TXTk has that t begins with; 0 where it begins with none
 unfoldable pub txtLen : List ℕ → ℕ

@@ -1,7 +1,7 @@
 -- `chars::is_quiet_txt` meets its contract. Assumes nothing.
 use mathlib.Core.Path.{_∙_}
 use borrow.Author.Needs.{needs}
-use Rattle.value.specs.mirror.Pages.{quietLooked}
+use Rattle.value.specs.mirror.Pages.{lookedIn}
 use Rattle.value.proofs.Pages.{lookup-quiet}
 use Rattle.value.proofs.chars.is_quiet_txt.Statement.{statement}
 use Rattle.value.proofs.chars.is_quiet_txt.Tie as tie
@@ -13,7 +13,7 @@ has-bit-requires : tie.Need-has-bit-requires
 has-bit-requires c κs = search needs
 
 returns : tie.Need-returns
-unfolding quietLooked
+unfolding lookedIn
 returns c = c .has-bit .ensures ∙ rw (c .before .quiet-word .ensures) (lookup-quiet _)
 
 pub is-quiet-txt-spec : {M : Type 1} → statement M

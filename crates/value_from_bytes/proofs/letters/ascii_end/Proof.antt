@@ -4,7 +4,7 @@ use Prim.Native.Nat.{_+_, _-_}
 use lib.ListN.{length, drop}
 use borrow.Author.Needs.{needs}
 use Rattle.text.specs.Lists.{span}
-use Rattle.value_from_bytes.specs.mirror.Judges.{isAsciiTxt}
+use Rattle.value.specs.mirror.Texts.{isAsciiTxt}
 use Rattle.text.proofs.Spans.{span-over, span-found, span-again}
 use Rattle.value_from_bytes.proofs.letters.ascii_end.Statement.{statement}
 use Rattle.value_from_bytes.proofs.letters.ascii_end.Tie as tie

@@ -19,8 +19,8 @@ returns-2 : tie.Need-returns-2
 returns-2 c =
     letter-word _ (sym (c .before .is-letter .ensures) ∙ c .if2 .taken)
 
-is-sign-requires : tie.Need-is-sign-requires
-is-sign-requires c κs = search needs
+is-quiet-ref-requires : tie.Need-is-quiet-ref-requires
+is-quiet-ref-requires c κs = search needs
 
 returns-3 : tie.Need-returns-3
 returns-3 c = search needs
@@ -28,4 +28,4 @@ returns-3 c = search needs
 pub is-word-spec : {M : Type 1} → statement M
 is-word-spec =
     tie.close
-    (tie.spec is-digit-requires returns is-letter-requires returns-2 is-sign-requires returns-3)
+    (tie.spec is-digit-requires returns is-letter-requires returns-2 is-quiet-ref-requires returns-3)
