@@ -64,7 +64,8 @@ enum {
     KTO_NO_SUCH_LEAF = 18,
     /* of a file that is to be written */
     KTO_TOO_LARGE = 19,        /* it would have more than KTO_LIMIT bytes; place: the bytes that it needs */
-    KTO_TOO_FINE = 20          /* a date-time that no file may say any more; row: its own; place: its item's in the run */
+    KTO_TOO_FINE = 20,         /* a date-time that no file may say any more; row: its own; place: its item's in the run */
+    KTO_RETIRED = 26           /* an item that no file may have any more; row: its own, 40; place: the first such item's in the run */
 };
 
 /* The kinds of messages and the rows of their lists (docs/LIST.md). Written by tools/lists/make, from here .. */
@@ -232,9 +233,10 @@ uint64_t kto_pick(const uint8_t *run, uint64_t run_len, uint64_t row, uint64_t n
  *
  * KTO_ACCEPTED: out[0 .. *place) is the file, the bytes of out after it are as they were, *row is 0. kto_check accepts that file and gives the
  * image back; one of version 1 comes back as version 2.
- * Any other code: no byte of out is changed. 1, 15, 16 or 17 as kto_read answers, *row being 0; then KTO_TOO_FINE with the date-time's row; then
- * KTO_TOO_LARGE; then KTO_NO_ROOM, where *place says how many bytes the file needs, *row being 0. A buffer of KTO_LIMIT bytes is always long
- * enough. A file may be longer than its image, and longer than the file that the image was made from.
+ * Any other code: no byte of out is changed. 1, 15, 16 or 17 as kto_read answers, *row being 0; then KTO_RETIRED with row 40; then
+ * KTO_TOO_FINE with the date-time's row; then KTO_TOO_LARGE; then KTO_NO_ROOM, where *place says how many bytes the file needs, *row being 0.
+ * A buffer of KTO_LIMIT bytes is always long enough. A file may be longer than its image, and longer than the file that the image was made
+ * from.
  */
 uint64_t kto_write(const uint8_t *run, uint64_t run_len, uint8_t *out, uint64_t out_len, uint64_t *row, uint64_t *place);
 

@@ -268,6 +268,34 @@ static void write_all(uint64_t length) {
     writes("a run that is too long", large, sizeof large, sizeof out, KTO_TOO_LONG, 0, KTO_LIMIT);
 }
 
+/* An entry with the old transaction code, and the closing byte: 20 bytes, then rows 40 and 41. */
+static const uint8_t old_entry[26] = {0x17, 0x18, 0x45, 0x55, 0x52, 0x00, 0x00, 0x00, 0x00, 0x00, 0x00, 0x00, 0x00,
+                                      0x05, 0x19, 0x01, 0x1B, 0x1C, 0x01, 0x22, 0x28, 0x29, 0x00, 0x01, 0x58, 0x00};
+
+/* "Stored images with rows 40 and 41 are still read and picked from", and not written: the image with this entry, of either kind. */
+static void old_all(void) {
+    static uint8_t old[67 + sizeof old_entry];
+    for (uint64_t i = 0; i < sizeof old; i++) {
+        old[i] = i < 67 ? image[i] : old_entry[i - 67];
+    }
+    for (uint8_t kind = KTO_CAMT053; kind <= KTO_CAMT052; kind++) {
+        old[5] = kind;
+        uint64_t place = 77;
+        printf("c: an old transaction code, kind %d\n", kind);
+        same("the code", kto_read(old, sizeof old, &place), KTO_ACCEPTED);
+        same("the place", place, sizeof old);
+        picks(old, sizeof old, KTO_ROW_STMT_NTRY_BKTXCD_PRTRY_CD, 0, KTO_ACCEPTED, 91, 1);
+        picks(old, sizeof old, KTO_ROW_STMT_NTRY_BKTXCD_PRTRY, 0, KTO_NO_SUCH_LEAF, 0, 0);
+        item(old, sizeof old, 88, KTO_ACCEPTED, KTO_ROW_STMT_NTRY_BKTXCD_PRTRY_CD, 91, 1);
+        writes("it", old, sizeof old, sizeof out, KTO_RETIRED, KTO_ROW_STMT_NTRY_BKTXCD_PRTRY, 87);
+        writes("it, without room", old, sizeof old, 0, KTO_RETIRED, KTO_ROW_STMT_NTRY_BKTXCD_PRTRY, 87);
+        old[25] = 1;
+        writes("it, with a date-time finer than thousandths", old, sizeof old, sizeof out, KTO_RETIRED, KTO_ROW_STMT_NTRY_BKTXCD_PRTRY, 87);
+        old[25] = 0;
+        writes("all but its last byte", old, sizeof old - 1, sizeof out, KTO_BROKEN_IMAGE, 0, sizeof old - 1);
+    }
+}
+
 static void item_all(void) {
     items_of(image, sizeof image, 0);
     items_of(report_image, sizeof report_image, 0);
@@ -297,6 +325,7 @@ int main(void) {
     pick_all();
     write_all(length);
     item_all();
+    old_all();
     printf("c: %d faults\n", faults);
     return faults != 0;
 }

@@ -5,18 +5,33 @@ COUNTS = {'1..1': 'one', '0..1': 'optional', '1..n': 'several', '0..n': 'any', N
 KINDS = {'G': 'group', 'C': 'choice'}
 
 
-class Names:
-    """What the first list's things are called, and those of a further list."""
+class Form:
+    """A list as stored images keep to it or as files are asked, and what its things are called."""
 
-    def __init__(self, found, lists):
+    def __init__(self, found, stored, lists):
         own = found.name
-        plain = found is lists[0]
-        self.list = own
-        self.listed = 'rowsListed' if plain else f'{own}Listed'
-        self.table = f'{own}Rows'
-        self.function = 'rows' if plain else f'{own}_rows'
+        plain = own == lists[0].name
+        self.found = found
+        self.list = f'stored{own.capitalize()}' if stored else own
+        self.said = found.message() + (' as images keep to it' if stored else ' as files are asked' if found.narrower else '')
+        self.table = f'{self.list}Rows'
+        self.function = ('stored_' if stored else '') + ('rows' if plain else f'{own}_rows')
         self.constant = self.function.upper()
-        self.pool = f'{lists[0].name}Pool'
+
+
+def forms(lists):
+    """Each list as stored images keep to it, then those of which files are asked more as files are asked."""
+    kept = [Form(found, bool(found.narrower), lists) for found in lists]
+    return kept + [Form(found.of_files(), False, lists) for found in lists if found.narrower]
+
+
+def pool_name(lists):
+    return f'{lists[0].name}Pool'
+
+
+def rows_name(name, lists, what):
+    """What the rows of a list are called, and those of them that are others in files."""
+    return f'rows{what}' if name == lists[0].name else f'{name}{what}'
 
 
 def kind(row):
@@ -38,22 +53,14 @@ HOUSE = '''\
 -- "The house list": its rows, with their numbers at the right, its rule, its namespace. Assumes nothing.
 -- {made}
 use mathlib.Core.List.{{List, [], _∷_}}
-use Prim.Native.Nat.{{{numbers}}}
+use Prim.Native.Nat.{{ℕ}}
 use Prim.Native.String.{{String}}
-{also}use Rattle.text.specs.Bytes.{{ascii}}
+use Rattle.text.specs.Bytes.{{ascii}}
 use Rattle.list.specs.Listing.{{ref, iban, ccy, bool, num, amt, date, dtm, txt, enum, Kind, group, choice, leaf, Count, one, optional, several, any, alternative, Row, both, Listing}}
-
+{also}
 -- "name, parent row, count, kind"
 abbrev row : String → ℕ → Count → Kind → Row
 row n p c k = record {{ name = ascii n; parent = p; count = c; kind = k }}
-'''
-
-# where a list is like another
-CHANGED = '''
--- rows of which some are others, by their numbers
-abbrev changed : List Row → List (ℕ × Row) → List Row
-changed rs [] = rs
-changed rs (c ∷ cs) = changed (set rs (c .0 - 1) (c .1)) cs
 '''
 
 LISTED = '''
@@ -64,7 +71,7 @@ unfoldable {listed} : List Row
 '''
 
 LISTED_LIKE = '''
--- {message}: the rows of `{like}`, but for these
+-- {message}: the rows of `{base}`, but for these
 unfoldable {listed} : List Row
 unfolding {base}
 {listed} =
@@ -74,6 +81,20 @@ unfolding {base}
     [])
 '''
 
+NARROWER = '''
+-- what files are asked of some of these rows; no file may have a row without a name
+unfoldable pub {narrower} : List (ℕ × Row)
+{narrower} =
+{rows}
+    []
+'''
+
+ASKED = '''
+unfoldable pub {list} : Listing
+unfolding {stored} {narrower}
+{list} = altered {stored} {narrower}
+'''
+
 LISTING = '''
 {said}unfoldable pub {list} : Listing
 unfolding {listed}
@@ -81,21 +102,29 @@ unfolding {listed}
 '''
 
 
+def numbered(rows):
+    return '\n'.join(f'    ({it.number}, {row(it)}) ∷' for it in rows)
+
+
 def house(lists):
     """specs/House.antt"""
-    like = any(found.like for found in lists)
-    text = HOUSE.format(made=MADE, numbers='ℕ, _-_' if like else 'ℕ', also='use lib.ListN.{set}\n' if like else '') + (CHANGED if like else '')
-    listed = {found.name: Names(found, lists).listed for found in lists}
-    for found in lists:
-        own = listed[found.name]
+    also = [word for word, wanted in [('changed', any(found.like for found in lists)), ('altered', any(found.narrower for found in lists))] if wanted]
+    text = HOUSE.format(made=MADE, also='use Rattle.list.specs.Changed.{' + ', '.join(also) + '}\n' if also else '')
+    for found, form in zip(lists, forms(lists)):
+        listed = rows_name(found.name, lists, 'Listed')
         if found.like:
-            rows = '\n'.join(f'    ({it.number}, {row(it)}) ∷' for it in found.changed)
-            text += LISTED_LIKE.format(message=found.message(), like=found.like, base=listed[found.like], listed=own, rows=rows)
+            base = rows_name(found.like, lists, 'Listed')
+            text += LISTED_LIKE.format(message=found.message(), base=base, listed=listed, rows=numbered(found.changed))
         else:
-            text += LISTED.format(listed=own, rows='\n'.join(f'    {row(it)} ∷  -- {it.number}' for it in found.rows))
+            text += LISTED.format(listed=listed, rows='\n'.join(f'    {row(it)} ∷  -- {it.number}' for it in found.rows))
         said = ''.join(f'-- "Rule on row {group} (..): rows {one} and {two} are both present or both absent"\n' for group, one, two in found.rules)
         rules = ''.join(f'both {group} {one} {two} ∷ ' for group, one, two in found.rules)
-        text += LISTING.format(said=said, list=found.name, listed=own, rules=rules, space=found.space, byte=found.byte)
+        text += LISTING.format(said=said, list=form.list, listed=listed, rules=rules, space=found.space, byte=found.byte)
+        if found.narrower:
+            narrower = rows_name(found.narrowed, lists, 'Narrower')
+            if found.narrowed == found.name:
+                text += NARROWER.format(narrower=narrower, rows=numbered(found.narrower))
+            text += ASKED.format(list=found.name, stored=form.list, narrower=narrower)
     return text
 
 
@@ -108,22 +137,20 @@ use mathlib.Core.List.{{List, [], _∷_}}
 use Prim.Native.Nat.{{ℕ}}
 use Rattle.text.specs.Bytes.{{ascii}}
 '''
-    for found, table in zip(lists, cells):
-        names = Names(found, lists)
-        said = ['the list', *(f'{it.number} {it.name}' for it in found.rows)]
+    for form, table in zip(forms(lists), cells):
+        said = ['the list', *(f'{it.number} {it.name}'.rstrip() for it in form.found.rows)]
         said += ['no row'] * (len(table) - len(said))
-        if found is not lists[0]:
-            said = [f'{found.name}: {what}' for what in said]
+        if table is not cells[0]:
+            said = [f'{form.list}: {what}' for what in said]
         lines = ['    ' + ''.join(f'{cell} ∷ ' for cell in line) + f' -- {what}' for line, what in zip(table, said)]
-        text += f'\nunfoldable pub {names.table} : List ℕ\n{names.table} =\n' + '\n'.join(lines) + '\n    []\n'
-    name = Names(lists[0], lists).pool
+        text += f'\n-- {form.said}\nunfoldable pub {form.table} : List ℕ\n{form.table} =\n' + '\n'.join(lines) + '\n    []\n'
+    name = pool_name(lists)
     return text + f'\nunfoldable pub {name} : List ℕ\n{name} =\n    ascii "{pool}"\n'
 
 
 def tables(lists, cells, pool):
     """src/tables.rt"""
-    all_names = [Names(found, lists) for found in lists]
-    mirrors = ', '.join([*(names.table for names in all_names), all_names[0].pool])
+    mirrors = ', '.join([*(form.table for form in forms(lists)), pool_name(lists)])
     text = f'''\
 // The house list as its two tables.
 // {MADE}
@@ -136,26 +163,25 @@ pub type Rows = [u16; {sum(map(len, cells[0]))}];
 // Names, words, namespace, one after the other.
 pub type Pool = [u8; {len(pool)}];
 '''
-    for found, names, table in zip(lists, all_names, cells):
-        said = ['the list: its rows, its namespace, its kind byte', *(f'{row.number} {row.name}' for row in found.rows)]
+    for form, table in zip(forms(lists), cells):
+        said = ['the list: its rows, its namespace, its kind byte', *(f'{row.number} {row.name}'.rstrip() for row in form.found.rows)]
         said += ['no row'] * (len(table) - len(said))
         lines = [f'    // {what}\n' + '\n'.join(f'    {cell},' for cell in line) for line, what in zip(table, said)]
-        text += f'\nconst {names.constant}: Rows = [\n' + '\n'.join(lines) + '\n];\n'
+        text += f'\nconst {form.constant}: Rows = [\n' + '\n'.join(lines) + '\n];\n'
     text += f'\nconst POOL: Pool =\n    *b"{pool}";\n'
-    for found, names in zip(lists, all_names):
-        what = f'the {found.name} list' if found is lists[0] else found.message()
+    for form in forms(lists):
         text += f'''
-// The rows of {what}. A constant is copied where it is named: bind this once, and lend it.
-pub fn {names.function}() -> Rows
-    ensures {{ λ r. ⌜ r ≡ {names.table} ⌝ }}
+// The rows of {form.said}. A constant is copied where it is named: bind this once, and lend it.
+pub fn {form.function}() -> Rows
+    ensures {{ λ r. ⌜ r ≡ {form.table} ⌝ }}
 {{
-    {names.constant}
+    {form.constant}
 }}
 '''
     return text + f'''
 // The names, words and {'namespace' if len(lists) == 1 else 'namespaces'}.
 pub fn pool() -> Pool
-    ensures {{ λ r. ⌜ r ≡ {all_names[0].pool} ⌝ }}
+    ensures {{ λ r. ⌜ r ≡ {pool_name(lists)} ⌝ }}
 {{
     POOL
 }}
@@ -187,9 +213,8 @@ pub {list}-row : (p r : ℕ) → Child {list} p r → EachRow {list} p r
 
 def house_sound(lists):
     """proofs/HouseSound.antt"""
-    all_names = [Names(found, lists) for found in lists]
-    listed = ', '.join(names.list for names in all_names)
-    tabled = ', '.join([*(names.table for names in all_names), all_names[0].pool])
+    listed = ', '.join(form.list for form in forms(lists))
+    tabled = ', '.join([*(form.table for form in forms(lists)), pool_name(lists)])
     text = f'''\
 -- The constants say the house list, and they are sound: two computed equations. Assumes nothing.
 -- {MADE}
@@ -210,8 +235,8 @@ use Rattle.list.proofs.sound.Sound.{{is-sound}}
 use Rattle.list_house.specs.House.{{{listed}}}
 use Rattle.list_house.specs.mirror.HouseTable.{{{tabled}}}
 '''
-    for found, names in zip(lists, all_names):
-        text += SOUND.format(message=found.message(), list=names.list, table=names.table, pool=names.pool)
+    for form in forms(lists):
+        text += SOUND.format(message=form.said, list=form.list, table=form.table, pool=pool_name(lists))
     return text
 
 

@@ -17,6 +17,8 @@ WHAT = (
 )
 COLUMNS = (
     'Count: how often the element stands in its parent, n without a limit; a child of a choice has none. '
+    'Where files are asked more than stored images keep to, the count of files comes first and that of images after it; no file may have a row '
+    'whose first count is 0. '
     'Kind: G is a group in sequence, C a group that is a choice of exactly one child, the others are types. '
     "Bytes: those of a value in an image, after its row byte. A text has two bytes of length before it, and each of a TXT's characters "
     'has one to three; an ENUM has the place of its word.'
@@ -25,6 +27,13 @@ COLUMNS = (
 
 def kind(row):
     return f'{row.kind}{row.most or ""}'
+
+
+def count(row, asked):
+    """How often a row stands in its parent; where files differ, that of files and that of images."""
+    if not asked.name:
+        return f'0; in images {row.count}'
+    return (row.count or '-') if row.count == asked.count else f'{asked.count}; in images {row.count}'
 
 
 def value(row):
@@ -97,9 +106,9 @@ def page(lists):
     parts = ['# The lists', paragraph(WHAT.format(kinds=kinds, rows=prefixes)), paragraph(COLUMNS)]
     for found in lists:
         lines = ['| Row | Path | Count | Kind | Bytes |', '|---|---|---|---|---|']
-        for row in found.rows:
+        for row, asked in zip(found.rows, found.of_files().rows):
             path = '/'.join(name or '-' for name in found.path(row.number))
-            lines.append(f'| {row.number} | {path} | {row.count or "-"} | {kind(row)} | {value(row)} |'.replace('|  |', '| |'))
+            lines.append(f'| {row.number} | {path} | {count(row, asked)} | {kind(row)} | {value(row)} |'.replace('|  |', '| |'))
         parts += [f'## {found.message()}', f'Namespace: `{found.space}`. Kind byte: {found.byte}.', '\n'.join(lines)]
         parts += [paragraph(f'Row {group}: rows {one} and {two} are both present or both absent.') for group, one, two in found.rules]
     return '\n\n'.join(parts) + '\n'

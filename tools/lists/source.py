@@ -8,10 +8,13 @@ A line is one of
     like NAME                   the rows and rules of an earlier list, but for the rows that stand here
     ROW NAME PARENT COUNT KIND  a row, numbered from 1; `-` is no name and no parent, and a child of a choice has no COUNT
     rule ROW both ROW ROW       of a group: two rows are both present or both absent
+    files ROW NAME PARENT COUNT KIND    what files are asked of a row, where stored images keep to the row as it stands above; no file may have a row
+                                without a name
 
 and a `#` starts a comment. KIND is G, C, REF, TXTk, IBAN, CCY, ENUM with its words, BOOL, NUM, AMT, DATE or DTM.
 Only the form is judged here; that a list is well formed is what the prover computes.
 """
+import copy
 import re
 
 # in the order of their numbers in a table; the last count is that of a child of a choice
@@ -42,17 +45,28 @@ class Row:
 
 
 class Listing:
-    """A list: its rows, the rules of its groups as (group, row, row), its namespace, its kind byte; the list that it is like, and what it changes there."""
+    """A list: its rows, the rules of its groups as (group, row, row), its namespace, its kind byte; the list that it is like, and what it changes there;
+    the rows of which files are asked more, and the list that says them."""
 
     def __init__(self):
-        self.name = self.space = self.like = ''
+        self.name = self.space = self.like = self.narrowed = ''
         self.byte = 0
-        self.rows, self.rules, self.changed = [], [], []
+        self.rows, self.rules, self.changed, self.narrower = [], [], [], []
 
     def path(self, number):
         """The names from the root down to a row."""
         row = self.rows[number - 1]
         return (self.path(row.parent) if row.parent else []) + [row.name]
+
+    def of_files(self):
+        """The list that files are asked to keep to: this one, or one with its narrower rows."""
+        if not self.narrower:
+            return self
+        found = copy.copy(self)
+        found.rows = list(self.rows)
+        for row in self.narrower:
+            found.rows[row.number - 1] = row
+        return found
 
     def message(self):
         """The last part of the namespace, as camt.053.001.08."""
@@ -71,11 +85,15 @@ class Listing:
             self.like, = rest
             base = next(other for other in earlier if other.name == self.like)
             self.rows, self.rules = list(base.rows), list(base.rules)
+            self.narrower, self.narrowed = list(base.narrower), base.narrowed
         elif first == 'rule':
             group, both, one, other = rest
             if both != 'both':
                 raise ValueError
             self.rules.append((int(group), int(one), int(other)))
+        elif first == 'files':
+            self.narrower.append(Row(*rest))
+            self.narrowed = self.name
         else:
             self.take_row(Row(*words))
 

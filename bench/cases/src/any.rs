@@ -1,14 +1,15 @@
 //! Cases of every class, from a seed: the n-th case of a seed is always the same for the same ops.
 
-use independent::list::STATEMENT;
+use independent::house::resolve;
+use independent::list::{Kind, STATEMENT};
 use independent::LIMIT;
 
 use crate::feed::Case;
 use crate::message::chosen::{EVERY_ROW, REPORT_EVERY_ROW};
 use crate::message::{damage, valid, Draft, Size, Style};
 use crate::random::Random;
-use crate::runs::{damaged, filled, former, image_of, with_microseconds, STATEMENT_FRONT};
-use crate::{writes, xml};
+use crate::runs::{damaged, filled, former, image_of, with_microseconds, with_old_codes, Old, STATEMENT_FRONT};
+use crate::{values, writes, xml};
 
 /// What a case is for.
 #[derive(Clone, Copy, PartialEq, Eq, PartialOrd, Ord, Debug, Hash)]
@@ -294,7 +295,7 @@ fn full_of_entries(random: &mut Random) -> Vec<u8> {
     file
 }
 
-/// An image of either kind, a third of the statements in version 1.
+/// An image of either kind, a third of the statements in version 1; one of five has old transaction codes.
 fn image(random: &mut Random) -> Vec<u8> {
     let draft = draft(random);
     let file = Style::DENSE.write(&draft).into_bytes();
@@ -302,6 +303,9 @@ fn image(random: &mut Random) -> Vec<u8> {
         return image(random);
     }
     let mut image = image_of(&file);
+    if random.once_in(5) {
+        image = with_old_codes(&image, |_| any_old_code(random));
+    }
     if image.starts_with(STATEMENT_FRONT) && random.once_in(3) {
         image = former(&image);
     }
@@ -309,6 +313,13 @@ fn image(random: &mut Random) -> Vec<u8> {
         true => with_microseconds(&image, any_microseconds(random)),
         false => image,
     }
+}
+
+/// Mostly an old transaction code, alone or beside the present one.
+fn any_old_code(random: &mut Random) -> Option<(Old, String)> {
+    let text = values::made::valid(Kind::Txt(35), random);
+    let old = *random.one_of(&[&None, &Some(Old::Alone), &Some(Old::Beside)]);
+    Some((old?, resolve(text.as_bytes()).expect("a good text")))
 }
 
 /// Microseconds that an image may hold: mostly more than a file can say.

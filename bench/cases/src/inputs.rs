@@ -1,17 +1,18 @@
 //! Inputs for the programs over standard input: each is one run of it.
 
+use independent::list::{REPORT, STATEMENT};
 use independent::program::{images_program, program, write_program, PROGRAM_LIMIT};
 use independent::LIMIT;
 
 use crate::message::chosen::{EVERY_ROW, REPORT_EVERY_ROW, REPORT_LEAST, WHOLE};
-use crate::runs::{filled, former, image_of, with_front, with_microseconds};
+use crate::runs::{every_row, filled, former, image_of, with_front, with_microseconds, with_old_codes, Old};
 use crate::writes::image_for_file_of;
 
 /// An input, and what the independent program says to it.
 pub type Said = (Vec<u8>, Vec<u8>);
 
 /// For `kto`: document 01's whole example first; then every row, nothing, a refusal of each of a few codes, what is as long as may be and
-/// longer, schema hints; and reports, good ones, and under the namespace of the other kind and of none.
+/// longer, schema hints; and reports, good ones, and under the namespace of the other kind and of none; old transaction codes.
 pub fn kto() -> Vec<Said> {
     let refused = WHOLE.replace("2024-02-29", "2023-02-29");
     let inputs = vec![
@@ -34,19 +35,24 @@ pub fn kto() -> Vec<Said> {
         REPORT_LEAST.replace("camt.052", "camt.053").into(),
         WHOLE.replace("camt.053", "camt.052").into(),
         REPORT_LEAST.replace("camt.052", "camt.054").into(),
+        EVERY_ROW.replace("</Domn>", "</Domn><Prtry><Cd>X7</Cd></Prtry>").into(),
+        REPORT_EVERY_ROW.replace("<Domn>", "<Prtry><Cd>X7</Cd></Prtry><Domn>").into(),
     ];
     said(inputs, program)
 }
 
-/// For `write`: the image of every row first; then document 01's, runs with something behind the image, a refusal of each
-/// code, and runs and files as long as may be and longer; images of the other version and kind, and without a good kind byte.
+/// For `write`: the image of every row of files first; then document 01's, runs with something after the image, a refusal of each code, and
+/// runs and files as long as may be and longer; images of the other version and kind, and without a good kind byte; old transaction codes,
+/// also where a date-time is finer, and where the file would be over the limit.
 pub fn writes() -> Vec<Said> {
-    let (whole, every_row) = (image_of(WHOLE.as_bytes()), image_of(EVERY_ROW.as_bytes()));
+    let (whole, of_files) = (image_of(WHOLE.as_bytes()), image_of(EVERY_ROW.as_bytes()));
+    let (statement, report) = (every_row(&STATEMENT), every_row(&REPORT));
+    let over = with_old_codes(&image_for_file_of(LIMIT + 1), |_| Some((Old::Alone, "X".to_string())));
     let inputs = vec![
-        every_row.clone(),
+        of_files.clone(),
         whole.clone(),
-        [&whole[..], &every_row].concat(),
-        [&every_row[..], b"garbage"].concat(),
+        [&whole[..], &of_files].concat(),
+        [&of_files[..], b"garbage"].concat(),
         Vec::new(),
         b"KTO\x00".to_vec(),
         other_version(&whole),
@@ -60,13 +66,20 @@ pub fn writes() -> Vec<Said> {
         image_for_file_of(4 * LIMIT),
         with_microseconds(&image_of(WHOLE.as_bytes()), 123_456),
         with_microseconds(&image_for_file_of(LIMIT + 1), 1),
-        former(&every_row),
+        former(&of_files),
         former(&whole),
         image_of(REPORT_EVERY_ROW.as_bytes()),
         image_of(REPORT_LEAST.as_bytes()),
         b"KTO\x00\x02".to_vec(),
         with_front(b"KTO\x00\x02\x03", &whole),
         with_microseconds(&former(&whole), 1),
+        statement.clone(),
+        former(&statement),
+        report.clone(),
+        with_microseconds(&report, 1),
+        with_microseconds(&over, 1),
+        over,
+        [&whole[..], &statement].concat(),
     ];
     said(inputs, write_program)
 }
@@ -74,9 +87,9 @@ pub fn writes() -> Vec<Said> {
 /// For `images`: three images, of version 1 and of each kind of version 2, and a damaged one first; then nothing, one image and several,
 /// with every refusal behind them and without any image, a run of the limit's length full of images, and longer runs.
 pub fn images() -> Vec<Said> {
-    let (whole, every_row) = (image_of(WHOLE.as_bytes()), image_of(EVERY_ROW.as_bytes()));
-    let three = [&former(&whole)[..], &image_of(REPORT_EVERY_ROW.as_bytes()), &whole].concat();
-    let damaged = &every_row[..every_row.len() / 2];
+    let (whole, statement) = (image_of(WHOLE.as_bytes()), every_row(&STATEMENT));
+    let three = [&former(&whole)[..], &every_row(&REPORT), &whole].concat();
+    let damaged = &statement[..statement.len() / 2];
     let behind = |behind: &[u8]| [&three[..], behind].concat();
     let inputs = vec![
         behind(damaged),
@@ -103,6 +116,8 @@ pub fn images() -> Vec<Said> {
         behind(b"KTO\x00\x02"),
         behind(b"KTO\x00\x02\x00"),
         behind(b"KTO\x00\x02\x02"),
+        [&former(&statement)[..], &statement, &every_row(&REPORT)].concat(),
+        statement[..statement.len() - 1].to_vec(),
     ];
     said(inputs, images_program)
 }
@@ -147,6 +162,7 @@ mod tests {
         assert!(said[14].1.starts_with(b"KTO\x00\x02\x02") && said[15].1.starts_with(b"KTO\x00\x02\x02"));
         assert!(said[16].1.starts_with(b"refused 5 1 ") && said[17].1.starts_with(b"refused 5 1 "));
         assert_eq!(said[18].1, b"refused 4 1 0\n");
+        assert!(said[19].1.starts_with(b"refused 5 34 ") && said[20].1.starts_with(b"refused 5 34 "));
     }
 
     #[test]
@@ -162,12 +178,14 @@ mod tests {
         assert_eq!(said[21].1, b"refused 17 0 5\n");
         assert_eq!(said[22].1, b"refused 17 0 5\n");
         assert_eq!(said[23].1, b"refused 20 5 13\n");
+        assert!((24..30).all(|number| said[number].1.starts_with(b"refused 26 40 ")), "old transaction codes");
+        assert_eq!(said[30].1, said[1].1, "of the second image");
     }
 
     #[test]
     fn a_full_run_is_divided_to_its_end_and_a_longer_one_is_not() {
         let said = images();
-        let report = image_of(REPORT_EVERY_ROW.as_bytes()).len();
+        let report = every_row(&REPORT).len();
         let three = ["0 67".to_string(), format!("67 {report}"), format!("{} 68", 67 + report)];
         assert_eq!(lines(&said[0])[..3], three);
         assert!(lines(&said[0])[3].starts_with("refused 17 0 "));
@@ -181,5 +199,7 @@ mod tests {
         for (number, place) in [(21, 5), (22, 5), (23, 6)] {
             assert_eq!(lines(&said[number])[3], format!("refused 17 0 {place}"));
         }
+        assert_eq!(lines(&said[24]).len(), 3, "old transaction codes");
+        assert!(lines(&said[25])[0].starts_with("refused 17 0 "));
     }
 }

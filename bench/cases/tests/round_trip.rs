@@ -3,14 +3,15 @@
 //!
 //! So the reader accepts nothing but images of rule-meeting contents, and "The written file is accepted and gives the same
 //! image." Written again it is the same file, and no blank of it could be left out. What has a finer fraction than a file says
-//! "is still read", and of it that without what is finer is written.
+//! "is still read", and of it that without what is finer is written; so is what has old transaction codes, with a present one for them.
 
 use cases::any::{Class, Source};
 use cases::runs::{self, FRONTS};
 use independent::read::first_image;
 use independent::{check, read, write, Code, LIMIT};
 
-/// The file of an accepted run; none where it would be over the limit, or a fraction is finer than a file says.
+/// The file of an accepted run; none where it would be over the limit, a fraction is finer than a file says, or there is an old transaction
+/// code.
 fn written(run: &[u8]) -> Option<Vec<u8>> {
     let mut room = vec![0; LIMIT];
     let answer = write(run, &mut room);
@@ -37,20 +38,41 @@ fn examine(run: &[u8]) {
         };
         assert_eq!(image(&file), Some(expected), "{text}");
         assert_eq!(written(&run[..length]).unwrap(), file, "{text}");
-    } else if write(run, &mut []).code == Code::FinerThanAFile {
-        examine(&runs::with_microseconds(&run[..length], 120_000));
+        return;
     }
+    match write(run, &mut []).code {
+        Code::FinerThanAFile => examine(&runs::with_microseconds(&run[..length], 120_000)),
+        Code::OldCode => examine(&without_old_codes(&run[..length])),
+        _ => {}
+    }
+}
+
+/// The image with a present transaction code for each old one that stands alone, and without the others.
+fn without_old_codes(image: &[u8]) -> Vec<u8> {
+    let domain = [&b"\x23"[..], b"\x24\x00\x01A", b"\x25", b"\x26\x00\x01B", b"\x27\x00\x01C"].map(<[u8]>::to_vec);
+    let mut items: Vec<Vec<u8>> = Vec::new();
+    for item in runs::take_apart(image) {
+        let alone = items.last().is_some_and(|last| last[0] == 34);
+        match item[0] {
+            40 if alone => items.extend(domain.clone()),
+            40 | 41 => {}
+            _ => items.push(item),
+        }
+    }
+    runs::put_together(runs::front_of(image), &items)
 }
 
 #[test]
 fn accepted_runs_are_images_of_files() {
     let source = Source::new(&[1, 2, 3], 21);
-    let (mut accepted, mut of_damaged, mut fronts) = (0, 0, [0; 3]);
+    let (mut accepted, mut of_damaged, mut fronts, mut old) = (0, 0, [0; 3], [0; 3]);
     for number in 0..7_000 {
         let (class, case) = source.case(number);
         if !matches!(class, Class::AtTheLimit | Class::WriteAtTheLimit) && read(&case.bytes).is_accepted() {
             examine(&case.bytes);
-            fronts[FRONTS.iter().position(|(front, _)| case.bytes.starts_with(front)).unwrap()] += 1;
+            let front = FRONTS.iter().position(|(front, _)| case.bytes.starts_with(front)).unwrap();
+            fronts[front] += 1;
+            old[front] += usize::from(write(&case.bytes, &mut []).code == Code::OldCode);
             accepted += 1;
             of_damaged +=
                 usize::from(matches!(class, Class::DamagedRun | Class::PickFromDamaged | Class::WriteFromDamaged));
@@ -58,6 +80,7 @@ fn accepted_runs_are_images_of_files() {
     }
     assert!(accepted > 2000 && of_damaged > 100, "{accepted} accepted, {of_damaged} of them after damage");
     assert!(fronts.iter().all(|count| *count > 400), "{fronts:?}: of version 1, and of each kind of version 2");
+    assert!(old.iter().all(|count| *count > 40), "{old:?}: with old transaction codes");
 }
 
 #[test]

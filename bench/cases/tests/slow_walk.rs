@@ -85,10 +85,11 @@ impl Collected {
             self.add(text.is_empty(), 1, (11, row.number, at));
             self.add(value(row.kind, &text, currency).is_none(), 3, (12, row.number, at));
         } else {
+            // "Domn becomes 1..1"
             let absent = self
                 .list
                 .children(row.number)
-                .filter(|child| child.count.required && !has(child.number))
+                .filter(|child| (child.count.required || child.number == 35) && !has(child.number))
                 .min_by_key(|r| r.number);
             self.add(inside.is_empty(), 1, (11, row.number, at));
             if let Some(absent) = absent {
@@ -106,9 +107,12 @@ fn text_of<'a>(part: &Part<'a>) -> Option<&'a [u8]> {
     }
 }
 
+/// The row of a child; "Files of kinds 1 and 2 with row 40 are now refused with 5", so of an old transaction code none.
 fn row_of(list: &List, parent: Option<&Row>, part: &Part) -> Option<&'static Row> {
     match part {
-        Part::Child(child) => list.children(parent?.number).find(|row| row.name.as_bytes() == child.name),
+        Part::Child(child) => {
+            list.children(parent?.number).find(|row| row.name.as_bytes() == child.name).filter(|row| row.number != 40)
+        }
         Part::Text(_) => None,
     }
 }

@@ -12,7 +12,7 @@ fn tidied(list: &List, row: &Row, draft: &Draft) -> Draft {
     let parts = draft.parts.iter().map(|part| match part {
         Part::Text(raw) => Part::Text(tidied_text(row.kind, raw)),
         Part::Child(child) => {
-            let row = list.children(row.number).find(|row| row.name == child.name).expect("a made message");
+            let row = list.file_children(row.number).find(|row| row.name == child.name).expect("a made message");
             Part::Child(tidied(list, row, child))
         }
     });

@@ -18,7 +18,7 @@ impl Answer {
     }
 }
 
-/// The codes of document 01, and 19 and 20 of document 02, in the order of their numbers.
+/// The codes of document 01, and 19, 20 and 26 of document 02, in the order of their numbers.
 #[derive(Clone, Copy, PartialEq, Eq, PartialOrd, Ord, Debug, Hash)]
 pub enum Code {
     Accepted = 0,
@@ -42,10 +42,11 @@ pub enum Code {
     NoSuchItem = 18,
     FileTooLong = 19,
     FinerThanAFile = 20,
+    OldCode = 26,
 }
 
 impl Code {
-    pub const ALL: [Code; 21] = [
+    pub const ALL: [Code; 22] = [
         Code::Accepted,
         Code::TooLong,
         Code::NotUtf8,
@@ -67,6 +68,7 @@ impl Code {
         Code::NoSuchItem,
         Code::FileTooLong,
         Code::FinerThanAFile,
+        Code::OldCode,
     ];
 
     pub fn number(self) -> u8 {
@@ -74,7 +76,7 @@ impl Code {
     }
 
     pub fn from_number(number: u8) -> Option<Code> {
-        Code::ALL.get(number as usize).copied()
+        Code::ALL.into_iter().find(|code| code.number() == number)
     }
 
     /// The code's name, as a technician reads it.
@@ -101,6 +103,7 @@ impl Code {
             Code::NoSuchItem => "no such item",
             Code::FileTooLong => "file would be too long",
             Code::FinerThanAFile => "fraction finer than a file says",
+            Code::OldCode => "retired transaction code",
         }
     }
 }
@@ -111,10 +114,12 @@ mod tests {
 
     #[test]
     fn numbers_and_codes_match() {
-        for (number, code) in Code::ALL.into_iter().enumerate() {
-            assert_eq!(code.number() as usize, number);
-            assert_eq!(Code::from_number(number as u8), Some(code));
+        for (number, code) in (0..=20).chain([26]).zip(Code::ALL) {
+            assert_eq!(code.number(), number);
+            assert_eq!(Code::from_number(number), Some(code));
         }
-        assert_eq!(Code::from_number(21), None);
+        for none in [21, 25, 27, 255] {
+            assert_eq!(Code::from_number(none), None);
+        }
     }
 }

@@ -1,4 +1,4 @@
-//! Document 01, and sections 1, 2, 3 and 5 of document 02, as a plain program, written from the documents and the settled readings
+//! Document 01, and sections 1, 2, 3, 5 and 9 of document 02, as a plain program, written from the documents and the settled readings
 //! of them.
 //!
 //! The unit in `crates/` is compared with this program. The two share no code, no table and no generated file, so
@@ -16,7 +16,7 @@
 //! | File | Holds |
 //! |---|---|
 //! | [`answer`] | code, row and place; the numbers and names of the codes |
-//! | [`list`] | the house list of 57 rows, and that of the second message kind |
+//! | [`list`] | the house list of 57 rows, that of the second message kind, and what of them files may have |
 //! | [`house`] | house XML: the recogniser (code 3) and the tree of a text |
 //! | [`types`] | REF to DTM: from text to value |
 //! | [`walk`] | codes 4 to 13, from tree to content |

@@ -1,4 +1,5 @@
-//! "The house list. Row, name, parent row, count, kind." And the list of the second message kind, section 5 of document 02.
+//! "The house list. Row, name, parent row, count, kind." The list of the second message kind, section 5 of document 02; and what of each
+//! files may no longer have, section 9.
 
 use std::fmt;
 
@@ -143,6 +144,32 @@ const REPORT_ROWS: [Row; 57] = {
     rows
 };
 
+/// Section 9 of document 02: "Files of kinds 1 and 2 with row 40 are now refused with 5 and the parent row; Domn becomes 1..1." So files
+/// have neither row 40 nor row 41, which stands in it.
+const FILE_ROWS: usize = 55;
+
+/// The rows of files.
+const fn of_files(rows: [Row; 57]) -> [Row; FILE_ROWS] {
+    let mut kept = [rows[0]; FILE_ROWS];
+    let mut next = 0;
+    let mut index = 0;
+    while index < rows.len() {
+        let row = rows[index];
+        if row.number != OLD_CODE && row.parent != OLD_CODE {
+            kept[next] = if row.number == DOMAIN { Row { count: ONE, ..row } } else { row };
+            next += 1;
+        }
+        index += 1;
+    }
+    kept
+}
+
+/// "Old transaction codes retired. BkTxCd/Prtry was let in for a time".
+pub const OLD_CODE: u8 = 40;
+
+/// "Domn becomes 1..1".
+const DOMAIN: u8 = 35;
+
 /// "Rule on row 43: rows 47 and 48 are both present or both absent."
 pub const RULE_ROW: u8 = 43;
 pub const RULE_FIRST: u8 = 47;
@@ -159,7 +186,10 @@ pub struct List {
     pub byte: u8,
     /// The root's xmlns: "The namespace chooses the list."
     pub namespace: &'static str,
+    /// Those of images: "Stored images with rows 40 and 41 are still read and picked from, in both versions."
     pub rows: &'static [Row],
+    /// Those of files.
+    pub file_rows: &'static [Row],
 }
 
 pub static STATEMENT: List = List {
@@ -168,6 +198,7 @@ pub static STATEMENT: List = List {
     byte: 1,
     namespace: "urn:iso:std:iso:20022:tech:xsd:camt.053.001.08",
     rows: &STATEMENT_ROWS,
+    file_rows: &of_files(STATEMENT_ROWS),
 };
 
 pub static REPORT: List = List {
@@ -176,6 +207,7 @@ pub static REPORT: List = List {
     byte: 2,
     namespace: "urn:iso:std:iso:20022:tech:xsd:camt.052.001.08",
     rows: &REPORT_ROWS,
+    file_rows: &of_files(REPORT_ROWS),
 };
 
 pub static LISTS: [&List; 2] = [&STATEMENT, &REPORT];
@@ -200,9 +232,14 @@ impl List {
         &self.rows[0]
     }
 
-    /// The rows below a parent, in row order; the only row below parent 0 is the root.
+    /// The rows below a parent in images, in row order; the only row below parent 0 is the root.
     pub fn children(&self, parent: u8) -> impl Iterator<Item = &'static Row> {
         self.rows.iter().filter(move |row| row.parent == parent)
+    }
+
+    /// The rows below a parent in files, in row order.
+    pub fn file_children(&self, parent: u8) -> impl Iterator<Item = &'static Row> {
+        self.file_rows.iter().filter(move |row| row.parent == parent)
     }
 
     /// The names from the root down, as `Document/BkToCstmrStmt/Stmt`.
@@ -258,6 +295,23 @@ mod tests {
     #[test]
     fn the_lists_are_well_formed() {
         LISTS.into_iter().for_each(is_well_formed);
+    }
+
+    /// Every row of files is one of images, but for Domn's count, and all are there but 40 and 41.
+    #[test]
+    fn files_are_asked_more() {
+        for list in LISTS {
+            let mut left: Vec<Row> = list.rows.to_vec();
+            left.retain(|row| ![40, 41].contains(&row.number));
+            left[34].count = ONE;
+            assert_eq!(left, list.file_rows);
+            assert_eq!(list.file_rows[34].name, "Domn");
+            assert_eq!(list.file_children(34).map(|row| (row.number, row.count)).collect::<Vec<_>>(), [(35, ONE)]);
+            assert_eq!(
+                list.children(34).map(|row| (row.number, row.count)).collect::<Vec<_>>(),
+                [(35, MAYBE), (40, MAYBE)]
+            );
+        }
     }
 
     /// A namespace and a byte lead to one list each, and anything else to none.

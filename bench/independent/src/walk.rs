@@ -71,10 +71,10 @@ fn child_of_group(list: &List, parent: &Row, last: Option<u8>, child: &Element) 
 /// The children before this one passed the same tests, so they are in row order: a later sibling was seen exactly if the
 /// last one is later, and this row was seen exactly if the last one has it.
 fn opening(list: &List, parent: &Row, last: Option<u8>, child: &Element) -> Result<&'static Row, Answer> {
-    // 5: "not a child of its parent", with the parent's row.
+    // 5: "not a child of its parent", with the parent's row; so are "files .. with row 40", for the rows of files have it no longer.
     let not_a_child = Answer::new(Code::NotAChild, parent.number, child.at);
     let named_so = |row: &&Row| row.name.as_bytes() == child.name;
-    let row = list.children(parent.number).find(named_so).ok_or(not_a_child)?;
+    let row = list.file_children(parent.number).find(named_so).ok_or(not_a_child)?;
     let Some(last) = last else {
         return Ok(row);
     };
@@ -135,7 +135,7 @@ fn closing_group(list: &List, row: &Row, element: &Element, contents: &[Content]
         return Err(Answer::new(Code::Empty, row.number, element.at));
     }
     // 8: "required child absent from a group that has some child", with the "lowest absent" row.
-    if let Some(absent) = list.children(row.number).find(|child| child.count.required && !has(child.number)) {
+    if let Some(absent) = list.file_children(row.number).find(|child| child.count.required && !has(child.number)) {
         return Err(Answer::new(Code::RequiredAbsent, absent.number, element.at));
     }
     // 13: "rows 47 and 48 are both present or both absent".

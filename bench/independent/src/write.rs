@@ -5,7 +5,7 @@ use std::slice::Iter;
 
 use crate::answer::{Answer, Code};
 use crate::content::{Content, Message};
-use crate::list::{Kind, List};
+use crate::list::{Kind, List, OLD_CODE};
 use crate::read::{first_image, Image, Item};
 use crate::types::{Amount, Date, DateTime, Value};
 use crate::LIMIT;
@@ -18,6 +18,10 @@ pub fn write(run: &[u8], out: &mut [u8]) -> Answer {
         Ok(image) => image,
         Err(refused) => return refused,
     };
+    // Section 9: "§1 won't write such a statement. .. Refusals: 26, before 20, row 40, place of the first such item."
+    if let Some(item) = image.items.iter().find(|item| item.row == OLD_CODE) {
+        return Answer::new(Code::OldCode, OLD_CODE, item.at);
+    }
     // Section 3: "Stored images with finer fractions are still read; §1 refuses to write them. .. Refusals: 20, before 19, row
     // of the date-time, place of its item."
     if let Some(item) = image.items.iter().find(|item| is_finer(item)) {

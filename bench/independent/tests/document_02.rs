@@ -1,6 +1,6 @@
-//! Sections 1, 2, 3 and 5 of document 02, "Write the statement file", "Files with schema hints", "The retired six digits" and "Intraday
-//! reports", sentence by sentence. What must be written or answered stands here as a person reads it from the document; nothing of
-//! it is computed.
+//! Sections 1, 2, 3, 5 and 9 of document 02, "Write the statement file", "Files with schema hints", "The retired six digits", "Intraday
+//! reports" and "Old transaction codes retired", sentence by sentence. What must be written or answered stands here as a person reads it
+//! from the document; nothing of it is computed.
 
 mod support;
 
@@ -801,4 +801,183 @@ fn mixed_runs() {
     assert_eq!(held.pick(22, 0).0.code.number(), 18, "the report without a balance is next");
     assert_eq!((numbers(held.read()), held.place()), ((0, 0, 42), 245));
     assert_eq!(held.pick(22, 0).0.code.number(), 0);
+}
+
+// ---- Section 9.
+
+/// A file with one entry that has this inside its BkTxCd.
+fn coded(inside: &str) -> String {
+    document(&[header(), statement(&entry(""))].concat()).replace(DOMAIN, inside)
+}
+
+const OLD: &str = "<Prtry><Cd>X</Cd></Prtry>";
+
+/// "Files of kinds 1 and 2 with row 40 are now refused with 5 and the parent row": alone, beside Domn, before it, twice, whatever it
+/// holds and carries.
+#[test]
+fn files_with_an_old_code() {
+    let before = format!("{OLD}{DOMAIN}");
+    for (inside, at) in [
+        (OLD, 0),
+        (&before[..], 0),
+        (&format!("{DOMAIN}{OLD}"), DOMAIN.len()),
+        (&format!(" \n{DOMAIN}\t{OLD}"), DOMAIN.len() + 3),
+        (&format!("{OLD}{OLD}"), 0),
+        (&format!("{OLD}{DOMAIN}{OLD}"), 0),
+        ("<Prtry/>", 0),
+        ("<Prtry></Prtry>", 0),
+        ("<Prtry a=''>x</Prtry>", 0),
+        ("<Prtry><Cd/></Prtry>", 0),
+        ("<Prtry><Domn/></Prtry>", 0),
+    ] {
+        for file in [coded(inside), as_report(&coded(inside))] {
+            assert_eq!(judge(&file), (5, 34, place(&file, "<BkTxCd>") + 8 + at), "{inside}");
+            assert_eq!(program(file.as_bytes()), format!("refused 5 34 {}\n", judge(&file).2).into_bytes());
+        }
+    }
+    // In any other place it was no child before, and of the other groups it is none now.
+    let beside = document(&[header(), statement(&entry(OLD))].concat());
+    assert_eq!(judge(&beside), (5, 23, place(&beside, OLD)));
+    let within = coded(&DOMAIN.replace("</Domn>", &format!("{OLD}</Domn>")));
+    assert_eq!(judge(&within), (5, 35, place(&within, OLD)));
+}
+
+/// "Domn becomes 1..1". Nothing else may stand beside it, so that 8 with its row is never the answer: a BkTxCd without any child is 11, and
+/// with another child 5.
+#[test]
+fn one_domain() {
+    for as_kind in [|file: String| file, |file: String| as_report(&file)] {
+        let file = as_kind(coded(DOMAIN));
+        assert_eq!(judge(&file), (0, 0, 102));
+        let twice = as_kind(coded(&DOMAIN.repeat(2)));
+        assert_eq!(judge(&twice), (7, 35, twice.rfind("<Domn>").unwrap()));
+        for nothing in ["", " ", "\n\t"] {
+            let empty = as_kind(coded(nothing));
+            assert_eq!(judge(&empty), (11, 34, place(&empty, "<BkTxCd>")));
+        }
+        let other = as_kind(coded("<Cd>X</Cd>"));
+        assert_eq!(judge(&other), (5, 34, place(&other, "<Cd>X")));
+        let text = as_kind(coded("X"));
+        assert_eq!(judge(&text), (10, 34, place(&text, "X</BkTxCd>")));
+        let none = as_kind(coded("").replace("<BkTxCd></BkTxCd>", ""));
+        assert_eq!(judge(&none), (8, 34, place(&none, "<Ntry>")));
+    }
+}
+
+/// The first violation in document order: what stands before the old code, and what stands after it.
+#[test]
+fn old_codes_in_order() {
+    let long = DOMAIN.replace("<Cd>A<", "<Cd>ABCDE<");
+    let file = coded(&format!("{long}{OLD}"));
+    assert_eq!(judge(&file), (12, 36, place(&file, "<Cd>ABCDE")));
+    let file = coded(&format!("{OLD}{long}"));
+    assert_eq!(judge(&file), (5, 34, place(&file, OLD)));
+    let file = coded(&format!("x{OLD}"));
+    assert_eq!(judge(&file), (10, 34, place(&file, &format!("x{OLD}"))));
+    let file = coded(OLD).replace("<BkTxCd>", "<BkTxCd a=''>");
+    assert_eq!(judge(&file), (9, 34, place(&file, "<BkTxCd ")));
+    let file = coded(OLD).replace("1.00", "x");
+    assert_eq!(judge(&file), (12, 24, place(&file, "<Amt Ccy=\"EUR\">x")));
+    // 14 comes last.
+    assert_eq!(numbers(check(coded(OLD).as_bytes(), &mut [])).0, 5);
+}
+
+/// Images of an entry, version 1 and version 2 of either kind, and where the item after its row 34 stands: the old code alone, or after
+/// Domn.
+fn old_images(beside: bool) -> Vec<(Vec<u8>, usize)> {
+    let new = image(coded(DOMAIN));
+    let domain = bytes("23 24000141 25 26000142 27000143");
+    assert_eq!((new[86], &new[87..101], new[101], new.len()), (34, &domain[..], 0, 102));
+    let old = bytes("28 29000158 00");
+    let kept = if beside { 101 } else { 87 };
+    let statement = [&new[..kept], &old].concat();
+    let report = [b"KTO\x00\x02\x02", &statement[6..]].concat();
+    let former = [b"KTO\x00\x01", &statement[6..]].concat();
+    vec![(former, kept - 1), (statement, kept), (report, kept)]
+}
+
+/// "Stored images with rows 40 and 41 are still read and picked from, in both versions."
+#[test]
+fn images_with_an_old_code() {
+    for beside in [true, false] {
+        for (run, at) in old_images(beside) {
+            let length = at + 6;
+            assert_eq!(run.len(), length);
+            assert_eq!(numbers(read(&run)), (0, 0, length));
+            assert_eq!((numbers(pick(&run, 41, 0).0), pick(&run, 41, 0).1), ((0, 41, at + 4), &b"X"[..]));
+            assert_eq!(numbers(pick(&run, 40, 0).0), (18, 0, 0), "a group");
+            assert_eq!(numbers(pick(&run, 41, 1).0), (18, 0, 0));
+            assert_eq!(pick(&run, 36, 0).0.code.number(), if beside { 0 } else { 18 });
+            assert_eq!(pick(&run, 4, 0).1, b"M1");
+            assert_eq!(
+                images_program(&[&run[..], &run].concat()),
+                format!("0 {length}\n{length} {length}\n").into_bytes()
+            );
+            let double = [&run[..], &run].concat();
+            let mut held = Held::new(&double, length);
+            assert_eq!(held.pick(41, 0).1, b"X");
+            assert_eq!((numbers(held.read()), held.place()), ((0, 0, length), 2 * length));
+            // Each cut, and the rules of document 01 for these rows: 40 once, and a 41 in it, once; 35 before it.
+            for cut in [length - 1, at + 5] {
+                assert_eq!(numbers(read(&run[..cut])), (17, 0, at + 5));
+            }
+            for cut in at + 1..at + 5 {
+                assert_eq!(numbers(read(&run[..cut])), (17, 0, at + 1), "{cut}");
+            }
+            let with = |items: &str| [&run[..at], &bytes(items)].concat();
+            assert_eq!(numbers(read(&with("28 00"))), (17, 0, at + 1));
+            assert_eq!(numbers(read(&with("28 29000158 29000158 00"))), (17, 0, at + 5));
+            assert_eq!(numbers(read(&with("28 29000158 28 29000158 00"))), (17, 0, at + 5));
+            assert_eq!(numbers(read(&with("28 29000158 23 24000141 25 26000142 27000143 00"))), (17, 0, at + 5));
+            assert_eq!(numbers(read(&with("29000158 00"))), (17, 0, at));
+            assert_eq!(numbers(read(&with("28 290000 00"))), (17, 0, at + 1), "no character");
+            assert_eq!(numbers(read(&with("28 29000160 00"))), (17, 0, at + 1), "no character of TXT");
+            let long = |length: u8| [&run[..at], &[40, 41, 0, length], &vec![b'x'; length.into()], &[0]].concat();
+            assert_eq!(read(&long(35)).code.number(), 0);
+            assert_eq!(numbers(read(&long(36))), (17, 0, at + 1));
+        }
+    }
+    // Neither: 35 is not required there, but every group has a child.
+    for (run, at) in old_images(false) {
+        assert_eq!(numbers(read(&[&run[..at], &[0]].concat())), (17, 0, at));
+    }
+}
+
+/// "§1 won't write such a statement. .. Refusals: 26, before 20, row 40, place of the first such item."
+#[test]
+fn old_codes_are_not_written() {
+    for (run, at) in [old_images(true), old_images(false)].concat() {
+        for space in [0, 10, 1000, LIMIT] {
+            let mut room = vec![0xaa; space];
+            assert_eq!(numbers(write(&run, &mut room)), (26, 40, at), "room {space}");
+            assert_eq!(room, vec![0xaa; space], "a refusal changes no byte");
+        }
+        assert_eq!(write_program(&run), format!("refused 26 40 {at}\n").into_bytes());
+        assert_eq!(numbers(write(&[&run[..], b"behind"].concat(), &mut [])), (26, 40, at));
+        // "1 and 15 to 17 as in the reader", before it.
+        assert_eq!(numbers(write(&run[..run.len() - 1], &mut [])), (17, 0, run.len() - 1));
+        assert_eq!(numbers(write(&[b"KTO\x00\x03", &run[5..]].concat(), &mut [])), (16, 0, 3));
+        assert_eq!(numbers(write(&[b"KTX", &run[3..]].concat(), &mut [])), (15, 0, 0));
+        assert_eq!(numbers(write(&[&run[..], &vec![0; LIMIT]].concat(), &mut [])), (1, 0, LIMIT));
+        // Before 20, although the date-time stands first.
+        let mut finer = run.clone();
+        let microseconds = if run[4] == 1 { 21 } else { 22 };
+        finer[microseconds..microseconds + 4].copy_from_slice(&123_456_u32.to_be_bytes());
+        assert_eq!(numbers(write(&finer, &mut [])), (26, 40, at));
+        // Of the image at the start of the run alone.
+        assert_eq!(file_of(&[&whole_image()[..], &run].concat()), file_of(&whole_image()));
+    }
+    // Before 19: a second entry with an old code, in a file that would be over the limit.
+    let over = image_for_file_of(LIMIT + 1);
+    let entry = &old_images(false)[1].0[67..];
+    let with_old = [&over[..over.len() - 1], entry].concat();
+    assert_eq!(numbers(write(&over, &mut [])), (19, 0, LIMIT + 1));
+    assert_eq!(numbers(write(&with_old, &mut [])), (26, 40, over.len() - 1 + 20));
+    // The first of several.
+    let (run, at) = &old_images(false)[1];
+    let several = [&run[..run.len() - 1], entry].concat();
+    assert_eq!(numbers(read(&several)), (0, 0, several.len()));
+    assert_eq!(numbers(write(&several, &mut [])), (26, 40, *at));
+    let second = [&image(coded(DOMAIN))[..101], entry].concat();
+    assert_eq!(numbers(write(&second, &mut [])), (26, 40, 101 + 20));
 }

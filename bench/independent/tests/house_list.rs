@@ -1,7 +1,7 @@
 //! The tables of rows against the documents' own words: the house list stands below as document 01 prints it, and document 02's changes
 //! as replacements in that text.
 
-use independent::list::{Count, Kind, List, Row, REPORT, STATEMENT};
+use independent::list::{Count, Kind, Row, REPORT, STATEMENT};
 
 const PRINTED: &str = "
 1 Document - 1..1 G        2 BkToCstmrStmt 1 1..1 G
@@ -72,7 +72,22 @@ fn kind_in_words(row: &Row) -> String {
 
 #[test]
 fn the_table_is_the_printed_list() {
-    is_printed(&STATEMENT, PRINTED);
+    is_printed(STATEMENT.rows, PRINTED);
+    is_printed(STATEMENT.file_rows, &retired(PRINTED));
+}
+
+/// Section 9: "Files of kinds 1 and 2 with row 40 are now refused with 5 and the parent row; Domn becomes 1..1."
+fn retired(printed: &str) -> String {
+    let changes = [("35 Domn 34 0..1 G", "35 Domn 34 1..1 G"), ("40 Prtry 34 0..1 G        41 Cd 40 1..1 TXT35", "")];
+    changed(printed, &changes)
+}
+
+/// The text with pieces replaced, each of which stands in it once.
+fn changed(printed: &str, changes: &[(&str, &str)]) -> String {
+    changes.iter().fold(printed.to_string(), |printed, (old, new)| {
+        assert_eq!(printed.matches(old).count(), 1, "{old}");
+        printed.replace(old, new)
+    })
 }
 
 /// "Root child BkToCstmrAcctRpt with Rpt in place of Stmt (ISO spelling, not source document 002's), Bal 0..n with OPBD, CLBD, PRCD, ITBD,
@@ -86,14 +101,12 @@ fn the_table_of_reports_is_the_changed_list() {
         ("ENUM OPBD CLBD PRCD", "ENUM OPBD CLBD PRCD ITBD"),
         ("ENUM BOOK", "ENUM BOOK PDNG"),
     ];
-    let changed = changes.iter().fold(PRINTED.to_string(), |printed, (old, new)| {
-        assert_eq!(printed.matches(old).count(), 1, "{old}");
-        printed.replace(old, new)
-    });
-    is_printed(&REPORT, &changed);
+    let changed = changed(PRINTED, &changes);
+    is_printed(REPORT.rows, &changed);
+    is_printed(REPORT.file_rows, &retired(&changed));
 }
 
-fn is_printed(list: &List, printed: &str) {
+fn is_printed(table: &[Row], printed: &str) {
     let mut words = printed.split_whitespace().peekable();
     let mut rows = 0;
     while let Some((number, name, parent, count, kind)) = parse(&mut words) {
@@ -102,10 +115,10 @@ fn is_printed(list: &List, printed: &str) {
         while let Some(word) = words.next_if(|word| kind.starts_with("ENUM") && word.parse::<u8>().is_err()) {
             kind += &format!(" {word}");
         }
-        let row = &list.rows[rows];
+        let row = &table[rows];
         assert_eq!((row.number, row.name, row.parent, row.count), (number, name, parent, count));
         assert_eq!(kind_in_words(row), kind, "row {number}");
         rows += 1;
     }
-    assert_eq!(rows, list.rows.len());
+    assert_eq!(rows, table.len());
 }

@@ -41,8 +41,8 @@ fn grade_says_what_is_wrong_where() {
     let (status, text) = grade(&["damaged/12-bad-value.xml"]);
     let expected = "\
 judged by the independent program, not by the unit
-damaged/12-bad-value.xml: refused 12 BAD_VALUE, value breaks its type, row 30 Document/BkToCstmrStmt/Stmt/Ntry/BookgDt/Dt, byte 20076, \
-                    line 786, column 11
+damaged/12-bad-value.xml: refused 12 BAD_VALUE, value breaks its type, row 30 Document/BkToCstmrStmt/Stmt/Ntry/BookgDt/Dt, byte 20007, \
+                    line 783, column 11
               <Dt>2024-02-30</Dt>
               ^
 ";
@@ -70,7 +70,7 @@ fn images_are_kept_and_shown() {
     let (status, tree) = grade(&["show", kept[0].to_str().unwrap()]);
     assert_eq!(status, Some(0));
     for line in [
-        "image 1 at byte 0, 3949 bytes, version 2, statement (camt.053.001.08)",
+        "image 1 at byte 0, 3931 bytes, version 2, statement (camt.053.001.08)",
         "      ElctrncSeqNb: 3",
         "                  Nm: Müller & Söhne OG",
     ] {
@@ -82,12 +82,12 @@ fn images_are_kept_and_shown() {
     fs::write(&joined, images.concat()).unwrap();
     let (status, tree) = grade(&["show", joined.to_str().unwrap()]);
     assert_eq!(status, Some(0));
-    assert!(tree.contains("image 2 at byte 3949, 1171 bytes"), "{tree}");
+    assert!(tree.contains("image 2 at byte 3931, 1183 bytes"), "{tree}");
 
     fs::write(&joined, [&images[0][..], &images[1][..500]].concat()).unwrap();
     let (status, tree) = grade(&["show", joined.to_str().unwrap()]);
     assert_eq!(status, Some(1));
-    assert!(tree.contains("image 2 at byte 3949: refused 17 BROKEN_IMAGE, no whole image"), "{tree}");
+    assert!(tree.contains("image 2 at byte 3931: refused 17 BROKEN_IMAGE, no whole image"), "{tree}");
 }
 
 #[test]
@@ -100,7 +100,7 @@ fn images_are_written_as_files_and_none_is_written_over() {
     assert_eq!(grade(&["write", &path("both.kto")]).0, Some(0), "beside the images");
     let (status, said) = grade(&["write", "--write", &path("more"), &path("both.kto"), &path("both.kto")]);
     assert_eq!(status, Some(0));
-    assert!(said.contains("image 2 at byte 3949: written as"), "{said}");
+    assert!(said.contains("image 2 at byte 3931: written as"), "{said}");
     for (written, image) in [("both.xml", 0), ("both-2.xml", 1), ("more/both.xml", 0), ("more/both-4.xml", 1)] {
         let folder = format!("again/{written}");
         assert_eq!(grade(&["--write", &path(&folder), &path(written)]).0, Some(0));
@@ -114,7 +114,8 @@ fn images_are_written_as_files_and_none_is_written_over() {
     assert!(!folder.join("cut.xml").exists());
 }
 
-/// 20 says the row of the date-time and where its item stands in the run; 19 how many bytes the file would need.
+/// 26 and 20 say the row of the old transaction code, or of the date-time, and where its item stands in the run; 19 how many bytes the file
+/// would need.
 #[test]
 fn a_file_that_is_not_written_says_where_or_how_long() {
     let folder = empty_folder("not-written");
@@ -130,10 +131,20 @@ fn a_file_that_is_not_written_says_where_or_how_long() {
     let (status, said) = grade(&["write", run.to_str().unwrap()]);
     assert_eq!(status, Some(1));
     assert!(said.contains("image 1 at byte 0: written as"), "{said}");
-    let refused = "image 2 at byte 1170: refused 20 TOO_FINE, fraction finer than a file says, row 5 \
-                   Document/BkToCstmrStmt/GrpHdr/CreDtTm, byte 1199\n";
+    let refused = "image 2 at byte 1182: refused 20 TOO_FINE, fraction finer than a file says, row 5 \
+                   Document/BkToCstmrStmt/GrpHdr/CreDtTm, byte 1211\n";
     assert!(said.ends_with(refused), "{said}");
     assert_eq!(fs::read_dir(&folder).unwrap().count(), 2, "the run and the first image's file");
+
+    let old = Path::new(env!("CARGO_MANIFEST_DIR")).join("../../examples/stored/rent-account.kto");
+    let (status, said) = grade(&["write", "--write", folder.to_str().unwrap(), old.to_str().unwrap()]);
+    assert_eq!(status, Some(1));
+    let refused = "image 1 at byte 0: refused 26 RETIRED, retired transaction code, row 40 \
+                   Document/BkToCstmrStmt/Stmt/Ntry/BkTxCd/Prtry, byte 2038\n";
+    assert!(said.ends_with(refused), "{said}");
+    let (status, said) = grade(&["show", old.to_str().unwrap()]);
+    assert_eq!(status, Some(0));
+    assert!(said.contains("\n            Cd: RLS-SPESEN\n"), "{said}");
 
     let large = folder.join("large.kto");
     fs::write(&large, image_for_file_of(LIMIT + 1)).unwrap();
@@ -167,16 +178,16 @@ fn a_closed_pipe_ends_it_quietly() {
 fn one_object_for_each_file() {
     let (status, said) = grade(&["--json", ".", "no-such-file.xml"]);
     assert_eq!(status, Some(2));
-    assert_eq!(said.lines().count(), 38);
+    assert_eq!(said.lines().count(), 40);
     assert!(said.lines().all(|line| line.starts_with("{\"file\":\"") && line.ends_with('}')), "{said}");
     assert!(
-        said.contains("{\"file\":\"./rent-account.xml\",\"code\":0,\"name\":\"ACCEPTED\",\"meaning\":\"accepted\",\"row\":0,\"place\":3949,\"kind\":\"camt.053.001.08\"}")
+        said.contains("{\"file\":\"./rent-account.xml\",\"code\":0,\"name\":\"ACCEPTED\",\"meaning\":\"accepted\",\"row\":0,\"place\":3931,\"kind\":\"camt.053.001.08\"}")
     );
     let report = said.lines().find(|line| line.contains("./intraday.xml")).unwrap();
     assert!(report.ends_with("\"code\":0,\"name\":\"ACCEPTED\",\"meaning\":\"accepted\",\"row\":0,\"place\":1721,\"kind\":\"camt.052.001.08\"}"));
     let refused = said.lines().find(|line| line.contains("12-bad-value")).unwrap();
     assert_eq!(between(refused, "\"code\":", ",\"name\""), "12");
-    assert_eq!(between(refused, "\"line\":", ",\"text\""), "786,\"column\":11");
+    assert_eq!(between(refused, "\"line\":", ",\"text\""), "783,\"column\":11");
     assert!(said.contains("{\"file\":\"no-such-file.xml\",\"error\":\""), "{said}");
 }
 
@@ -187,11 +198,11 @@ fn a_page_for_a_browser() {
     let page = folder.join("report.html");
     assert_eq!(grade(&["--html", page.to_str().unwrap(), "."]).0, Some(1));
     let text = fs::read_to_string(&page).unwrap();
-    assert_eq!(text.matches("<article>").count(), 29);
+    assert_eq!(text.matches("<article>").count(), 31);
     assert_eq!(text.matches("<section id=\"code-").count(), 13);
     let section = between(&text, "<section id=\"code-12\">", "</section>");
     assert!(
-        section.contains("line 786, column 11") && section.contains("<mark>&lt;</mark>Dt&gt;2024-02-30"),
+        section.contains("line 783, column 11") && section.contains("<mark>&lt;</mark>Dt&gt;2024-02-30"),
         "{section}"
     );
     assert_eq!(grade(&["--html", "/no/such/folder/report.html", "."]).0, Some(2));

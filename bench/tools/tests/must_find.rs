@@ -22,7 +22,7 @@ const FAULTS: &[Fault] = &[
     (
         "walk.rs",
         "if contents.is_empty() {",
-        "if contents.is_empty() && list.children(row.number).all(|child| !child.count.required) {",
+        "if contents.is_empty() && list.file_children(row.number).all(|child| !child.count.required) {",
     ),
     // A test order swapped: 3 before 2.
     (
@@ -169,6 +169,52 @@ const FAULTS: &[Fault] = &[
     ("list.rs", "const BOOKED: Kind = Kind::Enum(&[\"BOOK\"]);", "const BOOKED: Kind = BOOKED_OR_PENDING;"),
     // A report that must have a balance.
     ("list.rs", "row(15, \"Bal\", 6, ANY, Group)", "row(15, \"Bal\", 6, MANY, Group)"),
+    // The old transaction code still let in.
+    ("walk.rs", "list.file_children(parent.number).find(named_so)", "list.children(parent.number).find(named_so)"),
+    // The old code refused with its own row.
+    (
+        "walk.rs",
+        "let not_a_child = Answer::new(Code::NotAChild, parent.number, child.at);",
+        "let own = if child.name == b\"Prtry\" && parent.number == 34 { 40 } else { parent.number };
+    let not_a_child = Answer::new(Code::NotAChild, own, child.at);",
+    ),
+    // The reader by the list of files.
+    ("order.rs", "list.children(self.row).any(", "list.file_children(self.row).any("),
+    (
+        "read.rs",
+        "let row = list.find(*run.get(at)?)?;",
+        "let row = list.find(*run.get(at)?).filter(|row| row.number != 40)?;",
+    ),
+    // Not picked from.
+    (
+        "read.rs",
+        ".filter(|item| u64::from(item.row) == row)",
+        ".filter(|item| u64::from(item.row) == row && item.row != 41)",
+    ),
+    // The old code written.
+    ("write.rs", "find(|item| item.row == OLD_CODE)", "find(|item| item.row == u8::MAX)"),
+    // 26 after 20.
+    (
+        "write.rs",
+        "if let Some(item) = image.items.iter().find(|item| item.row == OLD_CODE) {",
+        "let finer = image.items.iter().any(is_finer);
+    if let Some(item) = image.items.iter().find(|item| item.row == OLD_CODE && !finer) {",
+    ),
+    // 26 after 19.
+    (
+        "write.rs",
+        "if let Some(item) = image.items.iter().find(|item| item.row == OLD_CODE) {",
+        "let over = file(&message(&image)).len() > LIMIT;
+    if let Some(item) = image.items.iter().find(|item| item.row == OLD_CODE && !over) {",
+    ),
+    // The last such item, the row of its value, the place of that.
+    (
+        "write.rs",
+        "image.items.iter().find(|item| item.row == OLD_CODE)",
+        "image.items.iter().rfind(|item| item.row == OLD_CODE)",
+    ),
+    ("write.rs", "Answer::new(Code::OldCode, OLD_CODE, item.at)", "Answer::new(Code::OldCode, 41, item.at)"),
+    ("write.rs", "Answer::new(Code::OldCode, OLD_CODE, item.at)", "Answer::new(Code::OldCode, OLD_CODE, item.at + 1)"),
     // The order of a report's words.
     ("list.rs", "\"PRCD\", \"ITBD\"]", "\"ITBD\", \"PRCD\"]"),
 ];

@@ -62,7 +62,7 @@ fn sets_are_the_same_each_time() {
 #[test]
 fn inputs_of_programs_have_every_answer() {
     for (kind, count, codes) in
-        [("writes", 24, &["1", "15", "16", "17", "19", "20"][..]), ("images", 24, &["1", "15", "16", "17"])]
+        [("writes", 31, &["1", "15", "16", "17", "19", "20", "26"][..]), ("images", 26, &["1", "15", "16", "17"])]
     {
         let (first, said) = set(kind, "inputs");
         let folder = folder(kind, "inputs");

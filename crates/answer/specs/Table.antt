@@ -97,3 +97,7 @@ tooLarge n = answer 19 0 n
 -- section 3: "20, before 19, row of the date-time, place of its item"
 abbrev pub tooFine : ℕ → ℕ → Answer
 tooFine r p = answer 20 r p
+
+-- section 9: "26, before 20, row 40, place of the first such item"
+abbrev pub retired : ℕ → ℕ → Answer
+retired r p = answer 26 r p

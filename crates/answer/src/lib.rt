@@ -1,7 +1,7 @@
 // What every call of the unit hands back: a code, a row and a place. The numbers and names of the codes live here, and a
 // constructor for each case fixes the row and the place that belong to it, so that no caller writes a code by hand.
 ghost use mathlib.Core.Path.{_≡_};
-ghost use Rattle.answer.specs.Table.{accepted, picked, tooLong, notUtf8, notHouseXml, wrongRoot, notAChild, outOfOrder, tooMany, absent, wrongAttributes, textInGroup, empty, badValue, ruleBroken, noRoom, noHeader, wrongVersion, brokenImage, noSuchLeaf, tooLarge, tooFine};
+ghost use Rattle.answer.specs.Table.{accepted, picked, tooLong, notUtf8, notHouseXml, wrongRoot, notAChild, outOfOrder, tooMany, absent, wrongAttributes, textInGroup, empty, badValue, ruleBroken, noRoom, noHeader, wrongVersion, brokenImage, noSuchLeaf, tooLarge, tooFine, retired};
 
 pub struct Answer {
     pub code: u8,
@@ -51,6 +51,8 @@ impl Answer {
     pub const TOO_LARGE: u8 = 19;
 
     pub const TOO_FINE: u8 = 20;
+
+    pub const RETIRED: u8 = 26;
 
     // The most bytes that a file or a run may have.
     pub const LIMIT: usize = 1048576;
@@ -276,6 +278,17 @@ impl Answer {
     {
         Self {
             code: Self::TOO_FINE,
+            row: row,
+            place: place,
+        }
+    }
+
+    // A stored item is of a row that no file may have any more: that row, and where the item stands in the run.
+    pub fn retired(row: usize, place: usize) -> Self
+        ensures { λ r. ⌜ r ≡ retired row place ⌝ }
+    {
+        Self {
+            code: Self::RETIRED,
             row: row,
             place: place,
         }

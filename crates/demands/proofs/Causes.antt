@@ -33,12 +33,12 @@ attrs-mean j d (leaf k) ats = leaf-mean houseTypes j d k ats
 -- ---- what a violation says
 
 -- what is found has a property of answers
-abbrev Means : (Answer → Type 0) → Found → Type 0
+abbrev pub Means : (Answer → Type 0) → Found → Type 0
 Means P Fine = Unit {0}
 Means P (Violation a) = P a
 
 module _ (P : Answer → Type 0) where
-  refused : (b : Bool) (a : Answer) → (b ≡ true → P a) → Means P (refuse b a)
+  pub refused : (b : Bool) (a : Answer) → (b ≡ true → P a) → Means P (refuse b a)
   refused true a h = h refl
   refused false a h = tt
 

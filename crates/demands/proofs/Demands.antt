@@ -14,10 +14,12 @@ use Rattle.answer.specs.Table as table
 use Rattle.text_characters.specs.Utf8.{Utf8, LongestUtf8}
 use Rattle.list.specs.Listing.{Leaf, Listing}
 use Rattle.list.specs.WellFormed.{WellFormed}
-use Rattle.list.specs.Content.{Content, Meets}
+use Rattle.list.specs.Content.{Content, items, Meets}
 use Rattle.list.specs.Within.{Among}
-use Rattle.list_house.specs.Lists.{asked, stored}
+use Rattle.list.proofs.Within.{meets-within}
+use Rattle.list_house.specs.Lists.{asked, askedOf, stored}
 use Rattle.list_house.proofs.Lists.{asked-well, kept-well, bytes-tell}
+use Rattle.list_house.proofs.Retired.{stored-narrowed}
 use Rattle.xml.specs.House.{HouseXml, Longest}
 use Rattle.xml.specs.Message.{Inside, messageOf, rootAt}
 use Rattle.xml.proofs.Coded.{house-utf8}
@@ -50,10 +52,12 @@ use Rattle.file.proofs.Chosen.{checks-over, filed-answers}
 use Rattle.file.proofs.House.{spelling, houseJudge, deciding, image-no-longer, one-content, checks-one, finds-one, taken, taken-filed, accepted-image, written-image, images-tell}
 use Rattle.file.proofs.Some.{checks-some}
 use Rattle.file_letter.specs.Letter.{treeOf, letterOf}
+use Rattle.file_letter.specs.Stale.{NoneOf, Withdrawn}
 use Rattle.file_letter.proofs.Meeting.{meets-on, said-is, has-said}
+use Rattle.file_letter.proofs.Present.{meets-present, named-message}
 use Rattle.file_letter.proofs.Has.{letter-has}
 use Rattle.file_letter.proofs.Good.{letter-good}
-use Rattle.demands.specs.Demands.{Kinded, HouseFile, houseImage, Within, FileRefused, RunRefused, PickRefused, Demand1, WalkedBy, Told, Stored, Begins, Message, Demand2, Written, Imaged, Laid, Divides, Tells, Demand3}
+use Rattle.demands.specs.Demands.{Kinded, HouseFile, houseImage, Within, FileRefused, RunRefused, PickRefused, Demand1, WalkedBy, Told, Meeting, Together, Stored, Begins, Message, Demand2, Written, Imaged, Laid, Divides, Tells, Demand3}
 use Rattle.demands.proofs.Causes.{causes}
 
 code : {a x : Answer} → a ≡ x → a .code ≡ x .code
@@ -210,7 +214,7 @@ module _ (s d : List ℕ) where
 
 -- the reader accepts what begins with an image
 module _ (run : List ℕ) (n : ℕ) where
-  begins : HouseAccepts run n → Begins IsValue run n
+  begins : HouseAccepts run n → Begins (Meeting IsValue) run n
   begins w =
       let o = house-begins run n w in
       record {
@@ -222,7 +226,7 @@ module _ (run : List ℕ) (n : ℕ) where
         long = o .2;
       }
 
-  begun : Begins IsValue run n → HouseAccepts run n
+  begun : Begins (Meeting IsValue) run n → HouseAccepts run n
   begun b =
       let c = b .content in
       let k = body values (c .0) (c .1) in
@@ -238,7 +242,7 @@ module _ (run : List ℕ) (n : ℕ) where
         long = b .long ∙ ap length (b .held .is) ∙ length-append (b .held .head) k;
       }
 
-reads-image : (run : List ℕ) (a : Answer) → HouseReads run a → (n : ℕ) → (a ≡ accepted n) ↔ ((length run ≤ limit) × Begins IsValue run n)
+reads-image : (run : List ℕ) (a : Answer) → HouseReads run a → (n : ℕ) → (a ≡ accepted n) ↔ ((length run ≤ limit) × Begins (Meeting IsValue) run n)
 reads-image run a r n = (
   (λ z. let w = house-reads-exactly run a r n .0 (code z, place z) in (w .0, begins run n (w .1))),
   (λ g. house-reads-one run a (accepted n) r (wholeImage (g .0) n (begun run n (g .1)) refl)),
@@ -248,12 +252,22 @@ reads-image run a r n = (
 by-either : (l : Listing) (c : Content Value) → Meets IsValue l c ↔ Meets SpelledByEither l c
 by-either l c = (meets-on l IsValue SpelledByEither (λ k v. both-rules k v .0) c, meets-on l SpelledByEither IsValue (λ k v. both-rules k v .1) c)
 
--- by other values that meet a list alike
-begins-on : (P Q : Leaf → Value → Type 0) → ((l : Listing) (c : Content Value) → Meets P l c → Meets Q l c) → (run : List ℕ) (n : ℕ) → Begins P run n → Begins Q run n
+-- the former list, within which the present one lies, or the present one
+together-is : (m : Listing) → Among m stored → (c : Content Value) → Meets IsValue m c ↔ Together (m, c)
+together-is m i c = (
+  (λ h. inl (by-either m c .0 h)),
+  (λ h. elim h [
+    | inl f ↦ by-either m c .1 f
+    | inr f ↦ meets-within (askedOf (m .byte)) m (stored-narrowed m i .within) IsValue c (by-either (askedOf (m .byte)) c .1 f)
+  ]),
+)
+
+-- by other rules that a content meets alike
+begins-on : (P Q : Kinded → Type 0) → ((c : Kinded) → Among (c .0) stored → P c → Q c) → (run : List ℕ) (n : ℕ) → Begins P run n → Begins Q run n
 begins-on P Q f run n b = record {
   image = b .image;
   content = b .content;
-  held = record { among = b .held .among; meets = f (b .content .0) (b .content .1) (b .held .meets); head = b .held .head; front = b .held .front; is = b .held .is };
+  held = record { among = b .held .among; meets = f (b .content) (b .held .among) (b .held .meets); head = b .held .head; front = b .held .front; is = b .held .is };
   rest = b .rest;
   at = b .at;
   long = b .long;
@@ -261,12 +275,12 @@ begins-on P Q f run n b = record {
 
 -- every content that meets the rules, by the present one of date-times, has a message, the one that is written for it; and what has one meets them
 module _ (l : Listing) (wf : WellFormed l) (c : Content Value) where
-  message : Meets (Spelled present) l c → Message (letterOf l c) (l, c)
+  message : Meets (Spelled present) l c → NoneOf (Withdrawn l) (items c) → Message (letterOf l c) (l, c)
   unfolding letterOf
-  message s =
+  message s q =
       let m = said-is l c s in
       let h = letter-has l wf c s in
-      let g = letter-good l wf c m in
+      let g = letter-good l wf c m q in
       let n = messageOf (treeOf l c) in
       let f : First houseTypes l n (firstViolation houseJudge l n) = record { judge = houseJudge; decides = deciding; is = refl } in
       record {
@@ -282,8 +296,11 @@ module _ (l : Listing) (wf : WellFormed l) (c : Content Value) where
       let o = walk.accept houseTypes spelling l wf (messageOf t) (one-element (t .root) (rootAt t) (w .xml .good .one)) (w .good) in
       subst (Meets IsValue l) (walk.unique houseTypes spelling l wf (messageOf t) (o .0) c (o .2) (w .has)) (o .1)
 
-  messages : Meets (Spelled present) l c ↔ ((s : List ℕ) × Message s (l, c))
-  messages = ((λ m. (letterOf l c, message m)), (λ w. has-said l (messageOf (w .1 .xml .tree)) c (rules (w .0) (w .1)) (w .1 .has)))
+  messages : (Meets (Spelled present) l c × NoneOf (Withdrawn l) (items c)) ↔ ((s : List ℕ) × Message s (l, c))
+  messages = (
+    (λ m. (letterOf l c, message (m .0) (m .1))),
+    (λ w. let t = w .1 .xml .tree in (has-said l (messageOf t) c (rules (w .0) (w .1)) (w .1 .has), named-message l t c (w .1 .xml .good) (w .1 .has))),
+  )
 
 pub demand2 : Demand2
 demand2 = record {
@@ -296,10 +313,12 @@ demand2 = record {
   reads = reads-image;
   values = both-rules;
   same = by-either;
+  together = together-is;
   spelt = λ run a r n. (
-    (λ z. let g = reads-image run a r n .0 z in (g .0, begins-on IsValue SpelledByEither (λ l c. by-either l c .0) run n (g .1))),
-    (λ g. reads-image run a r n .1 (g .0, begins-on SpelledByEither IsValue (λ l c. by-either l c .1) run n (g .1))),
+    (λ z. let g = reads-image run a r n .0 z in (g .0, begins-on (Meeting IsValue) Together (λ c i. together-is (c .0) i (c .1) .0) run n (g .1))),
+    (λ g. reads-image run a r n .1 (g .0, begins-on Together (Meeting IsValue) (λ c i. together-is (c .0) i (c .1) .1) run n (g .1))),
   );
+  narrower = meets-present;
   messages = λ l i c. messages l (asked-well l i) c;
 }
 
@@ -343,7 +362,7 @@ image-some : (x : List ℕ) (c : Kinded) → x ≡ houseImage c → 0 < length x
 image-some x c e = omega (arith, image-long values (c .0) (c .1), ap length e)
 
 -- of either version
-stored-cuts : Cuts (Stored IsValue)
+stored-cuts : Cuts (Stored (Meeting IsValue))
 stored-cuts = record {
   long = λ x c p. omega (arith, front-long (c .0) (p .head) (p .front), ap length (p .is), length-append (p .head) (body values (c .0) (c .1)));
   cut = λ x y c e p q u v z.
@@ -355,7 +374,7 @@ stored-cuts = record {
 }
 
 -- version 2 is one of them
-imaged-stored : (x : List ℕ) (c : Kinded) → Imaged x c → Stored IsValue x c
+imaged-stored : (x : List ℕ) (c : Kinded) → Imaged x c → Stored (Meeting IsValue) x c
 unfolding image
 imaged-stored x c i = record { among = i .among; meets = i .meets; head = header (c .0); front = current refl; is = i .is }
 
@@ -384,5 +403,5 @@ demand3 = record {
   files = tells Written written-cuts written;
   contents = tells Imaged imaged-cuts (λ x c i. i .is);
   kinds = λ x y l m c p q z. ap (λ (k : Kinded). k .0) (imaged-cuts .cut x y (l, c) (m, c) p q [] [] (ap (λ (i : List ℕ). i ++ []) z) .1);
-  versions = parted (Stored IsValue) stored-cuts;
+  versions = parted (Stored (Meeting IsValue)) stored-cuts;
 }

@@ -2,7 +2,8 @@
 --
 -- What the statements speak of, and where it is defined, in the documents' words:
 --   Answer, accepted, tooLong ..   an answer, and each line of the table "Numbers handed back"          answer/specs/Table
---   asked, stored                  the lists, one for each kind: those of files, those of images        list_house/specs/Lists
+--   asked, askedOf b, stored       the lists, one for each kind: those of files, those of images        list_house/specs/Lists
+--   Withdrawn l i                  an item of a row that no file of the list has any more               file_letter/specs/Stale
 --   Checks s d a d′                what `check` answers to a file s and a buffer d, and leaves there     file/specs/Checks
 --   Finds s a                      what it answers to every buffer that is as long as the file           file/specs/Checks
 --   Filed s l c                    a good file with its list and its content                             file/specs/Checks
@@ -25,9 +26,9 @@ use Rattle.answer.specs.Table as table
 use Rattle.answer.specs.Table.{accepted, limit, tooLong, notUtf8, notHouseXml, noRoom, noHeader, wrongVersion, brokenImage, noSuchLeaf}
 use Rattle.text_characters.specs.Utf8.{Utf8, LongestUtf8}
 use Rattle.list.specs.Listing.{Leaf, Listing}
-use Rattle.list.specs.Content.{Content, Meets}
+use Rattle.list.specs.Content.{Content, items, Meets}
 use Rattle.list.specs.Within.{Among}
-use Rattle.list_house.specs.Lists.{asked, stored}
+use Rattle.list_house.specs.Lists.{asked, askedOf, stored}
 use Rattle.xml.specs.House.{HouseXml, Longest}
 use Rattle.xml.specs.Message.{Inside, messageOf}
 use Rattle.value.specs.Value.{Value, IsValue}
@@ -47,6 +48,7 @@ use Rattle.image_hold.specs.declared.held.Held.{Held}
 use Rattle.file.specs.Instance.{houseTypes, houseKinds}
 use Rattle.file.specs.File.{Whole, messageIn, imageOf}
 use Rattle.file.specs.Checks.{Chosen, Checks, Filed, Finds}
+use Rattle.file_letter.specs.Stale.{NoneOf, Withdrawn}
 use Rattle.demands.specs.Causes.{inner, BadValue, BadAttributes}
 
 -- "the kind being part of the content": a list, and a content of it
@@ -124,19 +126,28 @@ pub record Told (s d : List ℕ) (a : Answer) (d′ : List ℕ) : Type 0 where
   pub value : a .code ≡ 12 → (l : Listing) × (w : WalkedBy s l) × BadValue l 1 (inner (messageIn (w .whole))) (a .row) (a .place)
   pub attributes : a .code ≡ 9 → (l : Listing) × (w : WalkedBy s l) × BadAttributes l 1 (inner (messageIn (w .whole))) (a .row) (a .place)
 
--- x is an image of the content c, of version 1 or 2: how an image of its list begins, its items and a 0; and c meets its list, Is saying which values are
-pub record Stored (Is : Leaf → Value → Type 0) (x : List ℕ) (c : Kinded) : Type 0 where
+-- c meets its list, Is saying which values are
+abbrev pub Meeting : (Leaf → Value → Type 0) → Kinded → Type 0
+Meeting Is c = Meets Is (c .0) (c .1)
+
+-- by "former and present rules together" (document 02, sections 3 and 9): the former list of its kind, which images keep to, or the present one, which files
+-- are asked; and the former date-time rule or the present one
+abbrev pub Together : Kinded → Type 0
+Together c = Meeting SpelledByEither c ⊎ Meeting SpelledByEither (askedOf (c .0 .byte), c .1)
+
+-- x is an image of the content c, of version 1 or 2: how an image of its list begins, its items and a 0; and c meets the rules, which are a parameter
+pub record Stored (Rules : Kinded → Type 0) (x : List ℕ) (c : Kinded) : Type 0 where
   pub among : Among (c .0) stored
-  pub meets : Meets Is (c .0) (c .1)
+  pub meets : Rules c
   pub head : List ℕ
   pub front : Front (c .0) head
   pub is : x ≡ head ++ body values (c .0) (c .1)
 
 -- the run begins with such an image, n bytes long
-pub record Begins (Is : Leaf → Value → Type 0) (run : List ℕ) (n : ℕ) : Type 0 where
+pub record Begins (Rules : Kinded → Type 0) (run : List ℕ) (n : ℕ) : Type 0 where
   pub image : List ℕ
   pub content : Kinded
-  pub held : Stored Is image content
+  pub held : Stored Rules image content
   pub rest : List ℕ
   pub at : run ≡ image ++ rest
   pub long : n ≡ length image
@@ -154,15 +165,19 @@ pub record Demand2 : Type 0 where
   pub judges : (j : Judge) → Decides houseTypes j → (l : Listing) (m : Inside) (f : Found) → First houseTypes l m f ↔ (firstViolation j l m ≡ f)
   pub judge : (j : Judge) × Decides houseTypes j
   -- "within the size limit the image reader accepts exactly the runs that begin with the image of a content that meets the same rules": with its length
-  pub reads : (run : List ℕ) (a : Answer) → HouseReads run a → (n : ℕ) → (a ≡ accepted n) ↔ ((length run ≤ limit) × Begins IsValue run n)
+  pub reads : (run : List ℕ) (a : Answer) → HouseReads run a → (n : ℕ) → (a ≡ accepted n) ↔ ((length run ≤ limit) × Begins (Meeting IsValue) run n)
   -- "the same", which "reads over the former and the new date-time rule together" (document 02, section 3): each of the ten kinds has exactly the values that
   -- some text spells by the one or the other, and so a content meets a list with the one as with the other
   pub values : (k : Leaf) (v : Value) → IsValue k v ↔ SpelledByEither k v
   pub same : (l : Listing) (c : Content Value) → Meets IsValue l c ↔ Meets SpelledByEither l c
-  -- so the reader accepts exactly the images of contents whose values, date-times among them, one of the two rules spells
-  pub spelt : (run : List ℕ) (a : Answer) → HouseReads run a → (n : ℕ) → (a ≡ accepted n) ↔ ((length run ≤ limit) × Begins SpelledByEither run n)
-  -- of these the contents that the present rule spells are those that some message has
-  pub messages : (l : Listing) → Among l asked → (c : Content Value) → Meets (Spelled present) l c ↔ ((s : List ℕ) × Message s (l, c))
+  -- and "over former and present rules together" (section 9)
+  pub together : (m : Listing) → Among m stored → (c : Content Value) → Meets IsValue m c ↔ Together (m, c)
+  -- so the reader accepts exactly the images of contents that meet them
+  pub spelt : (run : List ℕ) (a : Answer) → HouseReads run a → (n : ℕ) → (a ≡ accepted n) ↔ ((length run ≤ limit) × Begins Together run n)
+  -- of these, the contents without a row that no file has any more meet the present list of their kind
+  pub narrower : (m : Listing) → Among m stored → (c : Content Value) → Meets IsValue m c → NoneOf (Withdrawn (askedOf (m .byte))) (items c) → Meets IsValue (askedOf (m .byte)) c
+  -- and those whose date-times the present rule spells are what some message has
+  pub messages : (l : Listing) → Among l asked → (c : Content Value) → (Meets (Spelled present) l c × NoneOf (Withdrawn l) (items c)) ↔ ((s : List ℕ) × Message s (l, c))
 
 -- ---- demand 3: "reads over version 2 files of either kind, the kind being part of the content"
 
@@ -209,4 +224,4 @@ pub record Demand3 : Type 0 where
   -- equal contents of two kinds have two images
   pub kinds : (x y : List ℕ) (l m : Listing) (c : Content Value) → Imaged x (l, c) → Imaged y (m, c) → x ≡ y → l ≡ m
   -- and a run of images of versions 1 and 2, mixed, divides as well
-  pub versions : Divides (Stored IsValue)
+  pub versions : Divides (Stored (Meeting IsValue))

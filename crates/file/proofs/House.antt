@@ -19,7 +19,7 @@ use Rattle.list_house.specs.House.{house, report}
 use Rattle.list_house.specs.Lists.{asked, stored}
 use Rattle.list.proofs.rows.Words.{firstFrom-none}
 use Rattle.list.proofs.rows.Next.{row-past}
-use Rattle.list_house.proofs.Lists.{each-asked, asked-kept, asked-well, kept-well, bytes-tell}
+use Rattle.list_house.proofs.Lists.{each-asked, asked-kept, asked-well, kept-well, kinds-tell, bytes-tell}
 use Rattle.value.specs.Value.{Value}
 use Rattle.value.proofs.types.Values.{value-laws}
 use Rattle.value.specs.Spell.{spell}
@@ -223,7 +223,7 @@ module _ (s d : List ℕ) (a : Answer) (d′ : List ℕ) (p : Checks s d a d′)
       let o =
       images.written-tell houseKinds stored lawful kept-well lists-apart (p .list) (kept s d a d′ p) s d a d′ t
       (p₂ .list) (kept s₂ d₂ a₂ e′ p₂) s₂ d₂ a₂ e′ t₂ u v e in
-      (x .0 ∙ bytes-tell (p .list) (p₂ .list) (p .among) (p₂ .among) (o .0) ∙ sym (y .0), x .1 ∙ o .1 ∙ sym (y .1), o .2)
+      (x .0 ∙ kinds-tell (p .list) (p₂ .list) (p .among) (p₂ .among) (o .0) ∙ sym (y .0), x .1 ∙ o .1 ∙ sym (y .1), o .2)
 
   -- they are equal exactly when the lists and the contents are
   pub images-equal : (l : Listing) (c : Content Value) → Filed s l c → (l₂ : Listing) (c₂ : Content Value) → Filed s₂ l₂ c₂ → (take (a .place) d′ ≡ take (a₂ .place) e′) ↔ ((l ≡ l₂) × (c ≡ c₂))

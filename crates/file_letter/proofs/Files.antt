@@ -13,12 +13,13 @@ use Rattle.list.specs.Listing.{Listing}
 use Rattle.list.specs.WellFormed.{WellFormed}
 use Rattle.list.specs.Content.{Content, items, Meets}
 use Rattle.list.specs.Within.{Among}
-use Rattle.list_house.specs.Lists.{asked, stored}
+use Rattle.list_house.specs.Lists.{asked}
 use Rattle.list_house.proofs.Lists.{asked-well}
+use Rattle.list_house.proofs.Retired.{Narrowed, stored-narrowed}
 use Rattle.value.specs.Moment.{present}
 use Rattle.value.specs.Value.{Value, IsValue}
 use Rattle.value_to_text.specs.Spelled.{Spelled}
-use Rattle.xml.specs.House.{Tree, whole, HouseXml}
+use Rattle.xml.specs.House.{Tree, GoodTree, whole, HouseXml}
 use Rattle.xml.specs.Message.{messageOf}
 use Rattle.xml.proofs.Unique.{tree-one}
 use Rattle.xml.proofs.Coded.{house-utf8}
@@ -28,6 +29,7 @@ use Rattle.image.specs.Image.{versioned, header, body, image}
 use Rattle.image.specs.Kinds.{values}
 use Rattle.image.specs.Place.{Front, current, earlier}
 use Rattle.image.proofs.answers.Heads.{header-is}
+use Rattle.image.proofs.content.Within.{image-within}
 use Rattle.image_reading.specs.Reads.{HouseAccepts}
 use Rattle.image_reading.proofs.House.{house-begins}
 use Rattle.file.specs.Instance.{houseTypes, houseKinds}
@@ -37,11 +39,18 @@ use Rattle.file.proofs.Chosen.{filed-chosen}
 use Rattle.file.proofs.House.{spelling, image-no-longer, accepted-image}
 use Rattle.file.proofs.Accepted.{good-accepted}
 use Rattle.file_letter.specs.Letter.{treeOf, letterOf}
-use Rattle.file_letter.specs.Stale.{NoneOf, Finer}
-use Rattle.file_letter.specs.Writes.{letterIn, imageIn}
-use Rattle.file_letter.proofs.Meeting.{said-is, none-finer, has-fine}
+use Rattle.file_letter.specs.Stale.{NoneOf, Withdrawn, Finer}
+use Rattle.file_letter.specs.Writes.{askedIn, letterIn, itemsIn, imageIn}
+use Rattle.file_letter.proofs.Meeting.{said-is, has-fine}
+use Rattle.file_letter.proofs.Present.{said-present}
 use Rattle.file_letter.proofs.Has.{letter-has}
 use Rattle.file_letter.proofs.Good.{letter-good}
+
+-- some house XML, of any length, is a message of the content
+pub record Sayable (l : Listing) (c : Content Value) : Type 0 where
+  pub tree : Tree
+  pub good : GoodTree tree
+  pub has : Has houseTypes l (messageOf tree) c
 
 module _ (l : Listing) (wf : WellFormed l) where
   letter-is : (c : Content Value) → letterOf l c ≡ whole (treeOf l c)
@@ -49,22 +58,26 @@ module _ (l : Listing) (wf : WellFormed l) where
   letter-is c = refl
 
   -- what is written is house XML
-  pub letter-xml : (c : Content Value) → Meets IsValue l c → HouseXml (letterOf l c)
-  letter-xml c m = record { tree = treeOf l c; good = letter-good l wf c m; is = letter-is c }
+  pub letter-xml : (c : Content Value) → Meets IsValue l c → NoneOf (Withdrawn l) (items c) → HouseXml (letterOf l c)
+  letter-xml c m q = record { tree = treeOf l c; good = letter-good l wf c m q; is = letter-is c }
 
   -- two contents have one text exactly when they are one
-  pub letters-tell : (a b : Content Value) → Meets (Spelled present) l a → Meets (Spelled present) l b → (letterOf l a ≡ letterOf l b) ↔ (a ≡ b)
-  letters-tell a b m n = (
-    (λ e. let t = tree-one (treeOf l a) (treeOf l b) (letter-good l wf a (said-is l a m)) (letter-good l wf b (said-is l b n)) (sym (letter-is a) ∙ e ∙ letter-is b) in
+  pub letters-tell : (a b : Content Value) → Meets (Spelled present) l a → NoneOf (Withdrawn l) (items a) → Meets (Spelled present) l b → NoneOf (Withdrawn l) (items b) → (letterOf l a ≡ letterOf l b) ↔ (a ≡ b)
+  letters-tell a b m p n q = (
+    (λ e. let t = tree-one (treeOf l a) (treeOf l b) (letter-good l wf a (said-is l a m) p) (letter-good l wf b (said-is l b n) q) (sym (letter-is a) ∙ e ∙ letter-is b) in
         walk.unique houseTypes spelling l wf (messageOf (treeOf l b)) a b (subst (λ (x : Tree). Has houseTypes l (messageOf x) a) t (letter-has l wf a m)) (letter-has l wf b n)),
     (λ e. ap (letterOf l) e),
   )
 
+  -- and it has the content
+  pub letter-sayable : (c : Content Value) → Meets (Spelled present) l c → NoneOf (Withdrawn l) (items c) → Sayable l c
+  letter-sayable c m q = record { tree = treeOf l c; good = letter-good l wf c (said-is l c m) q; has = letter-has l wf c m }
+
   -- the written file is a good file of the content
-  pub letter-file : (c : Content Value) → Meets (Spelled present) l c → length (letterOf l c) ≤ limit → File houseKinds l (letterOf l c) c
-  letter-file c m h =
+  pub letter-file : (c : Content Value) → Meets (Spelled present) l c → NoneOf (Withdrawn l) (items c) → length (letterOf l c) ≤ limit → File houseKinds l (letterOf l c) c
+  letter-file c m q h =
       record {
-        whole = record { size = h; utf8 = house-utf8 (letter-xml c (said-is l c m)); xml = record { tree = treeOf l c; good = letter-good l wf c (said-is l c m); is = letter-is c } };
+        whole = record { size = h; utf8 = house-utf8 (letter-xml c (said-is l c m) q); xml = record { tree = treeOf l c; good = letter-good l wf c (said-is l c m) q; is = letter-is c } };
         has = letter-has l wf c m;
         meets = said-is l c m;
       }
@@ -74,18 +87,14 @@ module _ (l : Listing) (wf : WellFormed l) where
   no-file s c f = has-fine l (messageIn (f .whole)) c (f .has)
 
   -- "The written file is accepted and gives the same image": by every buffer with room for it
-  pub letter-accepted : (c : Content Value) → Meets (Spelled present) l c → length (letterOf l c) ≤ limit → (d : List ℕ) (a : Answer) (d′ : List ℕ) → Answers houseKinds l (letterOf l c) d a d′
+  pub letter-accepted : (c : Content Value) → Meets (Spelled present) l c → NoneOf (Withdrawn l) (items c) → length (letterOf l c) ≤ limit → (d : List ℕ) (a : Answer) (d′ : List ℕ) → Answers houseKinds l (letterOf l c) d a d′
       → length (imageOf houseKinds l c) ≤ length d → (a ≡ accepted (length (imageOf houseKinds l c))) × (d′ ≡ imageOf houseKinds l c ++ drop (length (imageOf houseKinds l c)) d)
-  letter-accepted c m h d a d′ p r = good-accepted houseKinds l (letterOf l c) d a d′ spelling wf c (letter-file c m h) r p
-
--- the lists that images keep to are those that files are asked
-pub stored-asked : (l : Listing) → Among l stored → Among l asked
-stored-asked l i = i
+  letter-accepted c m q h d a d′ p r = good-accepted houseKinds l (letterOf l c) d a d′ spelling wf c (letter-file c m q h) r p
 
 -- of one of these lists: what is written is a file of that list, and check gives its image
-module _ (l : Listing) (i : Among l asked) (c : Content Value) (m : Meets (Spelled present) l c) (h : length (letterOf l c) ≤ limit) where
+module _ (l : Listing) (i : Among l asked) (c : Content Value) (m : Meets (Spelled present) l c) (q : NoneOf (Withdrawn l) (items c)) (h : length (letterOf l c) ≤ limit) where
   pub letter-filed : Filed (letterOf l c) l c
-  letter-filed = record { among = i; file = letter-file l (asked-well l i) c m h }
+  letter-filed = record { among = i; file = letter-file l (asked-well l i) c m q h }
 
   pub letter-checked : (d : List ℕ) (a : Answer) (d′ : List ℕ) → Checks (letterOf l c) d a d′ → length (imageOf houseKinds l c) ≤ length d
       → (a ≡ accepted (length (imageOf houseKinds l c))) × (d′ ≡ imageOf houseKinds l c ++ drop (length (imageOf houseKinds l c)) d)
@@ -124,11 +133,23 @@ header-five : (l : Listing) (u : List ℕ) → take 5 (header l ++ u) ≡ versio
 header-five l u = ap (λ (h : List ℕ). take 5 (h ++ u)) (header-is l) ∙ ap (take 5) (append-assoc (versioned 2) (l .byte ∷ []) u) ∙ five-of 2 (l .byte ∷ u)
 
 module _ (run : List ℕ) (n : ℕ) (w : HouseAccepts run n) where
+  abbrev its : Narrowed (w .list)
+  its = stored-narrowed (w .list) (w .among)
+
+  -- the content of an image that may be written is said by the present rules
+  pub image-said : NoneOf (Withdrawn (askedIn w)) (itemsIn w) → NoneOf Finer (itemsIn w) → Meets (Spelled present) (askedIn w) (w .holds .content)
+  image-said = said-present (w .list) (w .among) (w .holds .content) (w .holds .meets)
+
+  pub image-sayable : NoneOf (Withdrawn (askedIn w)) (itemsIn w) → NoneOf Finer (itemsIn w) → Sayable (askedIn w) (w .holds .content)
+  image-sayable q f = letter-sayable (askedIn w) (asked-well (askedIn w) (its .among)) (w .holds .content) (image-said q f) q
+
   -- "gives the same image": what check writes for the file that was written from it is the version 2 image of its content, of its kind
-  pub same-image : NoneOf Finer (items (w .holds .content)) → length (letterIn w) ≤ limit → (d : List ℕ) (a : Answer) (d′ : List ℕ) → Checks (letterIn w) d a d′ → length (imageIn w) ≤ length d
-      → (a ≡ accepted (length (imageIn w))) × (d′ ≡ imageIn w ++ drop (length (imageIn w)) d)
-  same-image q h d a d′ p r =
-      letter-checked (w .list) (stored-asked (w .list) (w .among)) (w .holds .content) (none-finer (w .list) (w .holds .content) (w .holds .meets) .0 q) h d a d′ p r
+  pub same-image : NoneOf (Withdrawn (askedIn w)) (itemsIn w) → NoneOf Finer (itemsIn w) → length (letterIn w) ≤ limit → (d : List ℕ) (a : Answer) (d′ : List ℕ) → Checks (letterIn w) d a d′
+      → length (imageIn w) ≤ length d → (a ≡ accepted (length (imageIn w))) × (d′ ≡ imageIn w ++ drop (length (imageIn w)) d)
+  same-image q f h d a d′ p =
+      subst (λ (x : List ℕ). length x ≤ length d → (a ≡ accepted (length x)) × (d′ ≡ x ++ drop (length x) d))
+      (image-within values (askedIn w) (w .list) (its .within) (w .holds .content))
+      (letter-checked (askedIn w) (its .among) (w .holds .content) (image-said q f) q h d a d′ p)
 
   abbrev bodyIn : List ℕ
   bodyIn = body values (w .list) (w .holds .content)

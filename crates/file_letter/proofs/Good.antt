@@ -1,7 +1,7 @@
 -- The tree that is written for a content is good house XML. Assumes nothing.
 use mathlib.Core.Path.{_≡_, refl, sym, _∙_, ap, ap₂, subst}
 use mathlib.Core.Bool.{Bool, true, false, cond, _&&_, true≢false}
-use mathlib.Core.Logic.{_≢_}
+use mathlib.Core.Logic.{_≢_, inl, inr}
 use mathlib.Core.List.{List, [], _∷_, _++_}
 use Prim.Native.Nat.{ℕ, zero, suc, _+_, _≤_, _<_}
 use native.Mathlib.Omega.{arith}
@@ -18,7 +18,9 @@ use Rattle.list.specs.Listing.{Leaf, Kind, group, choice, leaf, Listing, rowAt,
 use Rattle.list.specs.Sound.{level}
 use Rattle.list.specs.WellFormed.{WellFormed, LeafOk, KindOk}
 use Rattle.list.proofs.rows.Levels.{level-root, level-child, level-bound}
-use Rattle.list.specs.Content.{Content, end, value, node, rows, Good, Meets, ValueOf}
+use Rattle.list.specs.Content.{Content, end, value, node, rows, items, Good, Meets, ValueOf}
+use Rattle.list.specs.Changed.{Gone}
+use Rattle.list.proofs.Retired.{each-first, each-last}
 use Rattle.value.specs.Rules.{InThousandths}
 use Rattle.value.specs.Value.{Value, IsValue, Spelt}
 use Rattle.value.proofs.classes.Classes.{each-all}
@@ -27,6 +29,9 @@ use Rattle.value_to_text.specs.Script.{scriptOf, currencyOf}
 use Rattle.value_to_text.specs.Raw.{pieceOf, rawOf}
 use Rattle.file_letter.specs.Letter.{textIn, plainly, attrOf, tagOf, coinOf, wordsIn, treeIn, rootIn, treeOf}
 use Rattle.value_to_text.proofs.Scripts.{script-spelt}
+use Rattle.image.specs.Kinds.{values}
+use Rattle.image.specs.Image.{Item}
+use Rattle.file_letter.specs.Stale.{NoneOf, Withdrawn}
 use Rattle.file_letter.proofs.Chars.{script-inked, script-chars}
 use Rattle.file_letter.proofs.Has.{one-piece, rooted}
 
@@ -173,39 +178,47 @@ module _ (l : Listing) (wf : WellFormed l) where
   tags choice v n h i = absurd h
   tags (leaf f) v n h i = coined f v n h i
 
-  good-in : (c : Content Value) (p d : ℕ) → level l p + d ≡ 16 → Each (Child l p) (rows c) → Good IsValue l c → Fine d (treeIn l c)
-  good-in end p d e a g = tt
-  good-in (value r v k) p zero e a g = absurd (omega (arith, level-bound l wf p r (a .0), level-child l wf p r (a .0)))
-  good-in (value r v k) p (suc d) e a g = (
-    tags (rowAt l r .kind) v (rowAt l r .name) (g .0) (wf .names p r (a .0)),
+  -- a row that is not gone has a name
+  named : (p r : ℕ) → Child l p r → (Gone l r → ⊥) → IsName (rowAt l r .name)
+  named p r c h = elim (wf .names p r c) [
+    | inl e ↦ absurd (h e)
+    | inr n ↦ n
+  ]
+
+  good-in : (c : Content Value) (p d : ℕ) → level l p + d ≡ 16 → Each (Child l p) (rows c) → NoneOf (Withdrawn l) (items c) → Good IsValue l c → Fine d (treeIn l c)
+  good-in end p d e a q g = tt
+  good-in (value r v k) p zero e a q g = absurd (omega (arith, level-bound l wf p r (a .0), level-child l wf p r (a .0)))
+  good-in (value r v k) p (suc d) e a q g = (
+    tags (rowAt l r .kind) v (rowAt l r .name) (g .0) (named p r (a .0) (q .0)),
     good-text (wordsIn (rowAt l r .kind) v) d (texts (rowAt l r .kind) v (wf .kinds p r (a .0)) (g .0)),
     tt,
-    good-in k p (suc d) e (a .1) (g .1),
+    good-in k p (suc d) e (a .1) (q .1) (g .1),
   )
-  good-in (node r c k) p zero e a g = absurd (omega (arith, level-bound l wf p r (a .0), level-child l wf p r (a .0)))
-  good-in (node r c k) p (suc d) e a g = (
-    good-tag (rowAt l r .name) (wf .names p r (a .0)),
-    good-in c r d (omega (arith, level-child l wf p r (a .0))) (g .0 .1 .theirs) (g .1),
+  good-in (node r c k) p zero e a q g = absurd (omega (arith, level-bound l wf p r (a .0), level-child l wf p r (a .0)))
+  good-in (node r c k) p (suc d) e a q g = (
+    good-tag (rowAt l r .name) (named p r (a .0) (q .0)),
+    good-in c r d (omega (arith, level-child l wf p r (a .0))) (g .0 .1 .theirs) (each-first (λ (i : Item values). Withdrawn l i → ⊥) (items c) (items k) (q .1)) (g .1),
     tt,
-    good-in k p (suc d) e (a .1) (g .2),
+    good-in k p (suc d) e (a .1) (each-last (λ (i : Item values). Withdrawn l i → ⊥) (items c) (items k) (q .1)) (g .2),
   )
 
   root-child : Child l 0 1
   root-child = record { first = omega arith; last = wf .root .0; parent = wf .root .2 }
 
-  root-in : (kids : Content Value) → Good IsValue l (node 1 kids end) → Fine 16 (rootIn l (node 1 kids end))
-  root-in kids g = (
-    good-tag-one (rowAt l 1 .name) (ascii "xmlns") (l .space) (wf .names 0 1 root-child) name-xmlns (each-all isUnmarked Quiet unmarked-quiet (l .space) (wf .space)),
-    good-in kids 1 15 (omega (arith, level-child l wf 0 1 root-child, level-root l)) (g .0 .1 .theirs) (g .1),
+  root-in : (kids : Content Value) → NoneOf (Withdrawn l) (items (node 1 kids end)) → Good IsValue l (node 1 kids end) → Fine 16 (rootIn l (node 1 kids end))
+  root-in kids q g = (
+    good-tag-one (rowAt l 1 .name) (ascii "xmlns") (l .space) (wf .rootName) name-xmlns (each-all isUnmarked Quiet unmarked-quiet (l .space) (wf .space)),
+    good-in kids 1 15 (omega (arith, level-child l wf 0 1 root-child, level-root l)) (g .0 .1 .theirs) (each-first (λ (i : Item values). Withdrawn l i → ⊥) (items kids) [] (q .1)) (g .1),
     tt,
     tt,
   )
 
-  -- the tree that is written for a content is good
-  pub letter-good : (c : Content Value) → Meets IsValue l c → GoodTree (treeOf l c)
-  letter-good c m =
+  -- the tree that is written for a content is good, where no row of it is gone
+  pub letter-good : (c : Content Value) → Meets IsValue l c → NoneOf (Withdrawn l) (items c) → GoodTree (treeOf l c)
+  letter-good c m q =
       let w = rooted l wf c m in
-      subst (λ (x : Content Value). GoodTree (treeOf l x)) (sym (w .is)) (record { before = tt; one = refl; root = root-in (w .kids) (subst (Good IsValue l) (w .is) (m .good)); after = tt })
+      let k = subst (λ (x : Content Value). NoneOf (Withdrawn l) (items x)) (w .is) q in
+      subst (λ (x : Content Value). GoodTree (treeOf l x)) (sym (w .is)) (record { before = tt; one = refl; root = root-in (w .kids) k (subst (Good IsValue l) (w .is) (m .good)); after = tt })
 
 -- ---- no element is written empty: none is `<a/>`, and none is `<a></a>`
 

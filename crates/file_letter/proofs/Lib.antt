@@ -9,6 +9,8 @@ pub mod Example
 pub mod Meeting
 -- the first item that a file may not say
 pub mod Stale
+-- what a stored content is to the list of files
+pub mod Present
 -- the written message's content
 pub mod Has
 -- the written tree is good

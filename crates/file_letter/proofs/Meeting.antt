@@ -8,6 +8,7 @@ use native.Mathlib.Decide.{ℕ-discrete}
 use Rattle.text.specs.Lists.{Each}
 use Rattle.list.specs.Listing.{Leaf, Kind, group, choice, leaf, Listing, rowAt}
 use Rattle.list.specs.Content.{Content, end, value, node, items, Meets, ValueOf, GroupOf, Good}
+pub use Rattle.list.proofs.Retired.{each-first, each-last}
 use Rattle.value.specs.Moment.{present}
 use Rattle.value.specs.Value.{Value, text, place, truth, natural, amount, day, moment, IsValue}
 use Rattle.value.specs.Rules.{InThousandths}
@@ -50,14 +51,6 @@ said-is l = meets-on l (Spelled present) IsValue (λ k v s. present-spelt k v .1
 pub both-each : {A : Type 0} (P : A → Type 0) (a b : List A) → Each P a → Each P b → Each P (a ++ b)
 both-each P [] b h k = k
 both-each P (x ∷ a) b h k = (h .0, both-each P a b (h .1) k)
-
-pub each-first : {A : Type 0} (P : A → Type 0) (a b : List A) → Each P (a ++ b) → Each P a
-each-first P [] b h = tt
-each-first P (x ∷ a) b h = (h .0, each-first P a b (h .1))
-
-pub each-last : {A : Type 0} (P : A → Type 0) (a b : List A) → Each P (a ++ b) → Each P b
-each-last P [] b h = h
-each-last P (x ∷ a) b h = each-last P a b (h .1)
 
 -- ---- a finer date-time among them
 

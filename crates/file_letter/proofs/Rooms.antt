@@ -9,7 +9,7 @@ use Rattle.answer.specs.declared.Answer.{Answer}
 use Rattle.answer.specs.Table.{limit}
 use Rattle.image.specs.Place.{over, foreign, version, kindless, broken, wholeImage as read}
 use Rattle.image_reading.specs.Reads.{HouseReads}
-use Rattle.file_letter.specs.Writes.{letterIn, Delivers, large, short, delivered, Writes, unread, finer, begun}
+use Rattle.file_letter.specs.Writes.{letterIn, Delivers, large, short, delivered, Writes, unread, withdrawn, finer, begun}
 use Rattle.file_letter.proofs.Writing.{writes-one, written-file}
 
 delivers-fits : (s d : List ℕ) (a : Answer) (d′ : List ℕ) → Delivers s d a d′ → a .code ≡ 0 → a .place ≤ length d
@@ -19,8 +19,9 @@ delivers-fits s d a d′ (delivered h k e f) z = omega (arith, ap (λ (x : Answe
 
 pub written-fits : (run d : List ℕ) (a : Answer) (d′ : List ℕ) → Writes run d a d′ → a .code ≡ 0 → a .place ≤ length d
 written-fits run d a d′ (unread r k e) z = absurd (k z)
-written-fits run d a d′ (finer h n w r p f e q) z = absurd (omega (arith, ap (λ (x : Answer). x .code) e, z))
-written-fits run d a d′ (begun h n w c p) z = delivers-fits (letterIn w) d a d′ p z
+written-fits run d a d′ (withdrawn h n w r p f e q) z = absurd (omega (arith, ap (λ (x : Answer). x .code) e, z))
+written-fits run d a d′ (finer h n w c r p f e q) z = absurd (omega (arith, ap (λ (x : Answer). x .code) e, z))
+written-fits run d a d′ (begun h n w c t p) z = delivers-fits (letterIn w) d a d′ p z
 
 -- ---- with room for every file that may be written 14 is not answered
 
@@ -39,8 +40,9 @@ delivers-code s d a d′ r (delivered h k e f) z = omega (arith, ap (λ (x : Ans
 
 pub limit-enough : (run d : List ℕ) (a : Answer) (d′ : List ℕ) → limit ≤ length d → Writes run d a d′ → a .code ≢ 14
 limit-enough run d a d′ r (unread q k e) z = read-code run a q z
-limit-enough run d a d′ r (finer h n w q i f e g) z = omega (arith, ap (λ (x : Answer). x .code) e, z)
-limit-enough run d a d′ r (begun h n w c p) z = delivers-code (letterIn w) d a d′ r p z
+limit-enough run d a d′ r (withdrawn h n w q i f e g) z = omega (arith, ap (λ (x : Answer). x .code) e, z)
+limit-enough run d a d′ r (finer h n w c q i f e g) z = omega (arith, ap (λ (x : Answer). x .code) e, z)
+limit-enough run d a d′ r (begun h n w c t p) z = delivers-code (letterIn w) d a d′ r p z
 
 -- ---- another buffer of the same length: the same answer and the same file
 
@@ -53,8 +55,9 @@ module _ (d e : List ℕ) (n : length d ≡ length e) where
   module _ (run : List ℕ) where
     moved : (a : Answer) (d′ : List ℕ) → Writes run d a d′ → (x : List ℕ) × Writes run e a x
     moved a d′ (unread r k q) = (e, unread r k refl)
-    moved a d′ (finer h m w r p f q s) = (e, finer h m w r p f q refl)
-    moved a d′ (begun h m w c p) = let x = delivers-moved (letterIn w) a d′ p in (x .0, begun h m w c (x .1))
+    moved a d′ (withdrawn h m w r p f q s) = (e, withdrawn h m w r p f q refl)
+    moved a d′ (finer h m w c r p f q s) = (e, finer h m w c r p f q refl)
+    moved a d′ (begun h m w c t p) = let x = delivers-moved (letterIn w) a d′ p in (x .0, begun h m w c t (x .1))
 
     pub written-alike : (a b : Answer) (d′ e′ : List ℕ) → Writes run d a d′ → Writes run e b e′ → (a ≡ b) × (a .code ≡ 0 → take (a .place) d′ ≡ take (b .place) e′)
     written-alike a b d′ e′ p q = (same, λ z. same-file z p)
@@ -64,6 +67,7 @@ module _ (d e : List ℕ) (n : length d ≡ length e) where
 
         same-file : a .code ≡ 0 → Writes run d a d′ → take (a .place) d′ ≡ take (b .place) e′
         same-file z (unread r k f) = absurd (k z)
-        same-file z (finer h m w r i f q s) = absurd (omega (arith, ap (λ (x : Answer). x .code) q, z))
-        same-file z (begun h m w c f) =
+        same-file z (withdrawn h m w r i f q s) = absurd (omega (arith, ap (λ (x : Answer). x .code) q, z))
+        same-file z (finer h m w c r i f q s) = absurd (omega (arith, ap (λ (x : Answer). x .code) q, z))
+        same-file z (begun h m w c t f) =
             written-file run d a d′ p z m w .3 ∙ sym (written-file run e b e′ q (sym (ap (λ (x : Answer). x .code) same) ∙ z) m w .3)

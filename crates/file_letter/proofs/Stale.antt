@@ -7,11 +7,11 @@ use Prim.Native.Nat.{ℕ, _+_}
 use native.Mathlib.Omega.{arith}
 use lib.ListN.{length, length-append}
 use Rattle.text.specs.Lists.{Each}
-use Rattle.list.specs.Listing.{Listing}
+use Rattle.list.specs.Listing.{Listing, rowAt}
 use Rattle.value.specs.Rules.{InThousandths}
 use Rattle.image.specs.Kinds.{values}
 use Rattle.image.specs.Image.{Item, itemBytes, itemsBytes}
-use Rattle.file_letter.specs.Stale.{NoneOf, FirstAt, Finer}
+use Rattle.file_letter.specs.Stale.{NoneOf, FirstAt, Withdrawn, Finer}
 use Rattle.file_letter.proofs.Meeting.{fine-or, each-last}
 
 pub finer-or : (i : Item values) → Dec (Finer i)
@@ -21,6 +21,13 @@ finer-or (r, some v) = go (fine-or v)
     go : Dec (InThousandths v) → Dec (InThousandths v → ⊥)
     go (yes f) = no (λ g. g f)
     go (no f) = yes f
+
+pub withdrawn-or : (l : Listing) (i : Item values) → Dec (Withdrawn l i)
+withdrawn-or l i = go (rowAt l (i .0) .name)
+  where
+    go : (n : List ℕ) → Dec (n ≡ [])
+    go [] = yes refl
+    go (x ∷ n) = no (λ e. omega (arith, ap length e))
 
 module _ (l : Listing) (P : Item values → Type 0) where
   -- some item, whatever its row and place

@@ -6,6 +6,7 @@ use Prim.Native.Nat.{ℕ, _+_}
 use lib.ListN.{length}
 use Rattle.text.specs.Lists.{Each}
 use Rattle.list.specs.Listing.{Listing}
+use Rattle.list.specs.Changed.{Gone}
 use Rattle.value.specs.Rules.{InThousandths}
 use Rattle.image.specs.Kinds.{values}
 use Rattle.image.specs.Image.{Item, itemsBytes}
@@ -24,6 +25,10 @@ pub record FirstAt (l : Listing) (P : Item values → Type 0) (from : ℕ) (is :
   pub clean : NoneOf P before
   pub own : row ≡ item .0
   pub stands : place ≡ from + length (itemsBytes values l before)
+
+-- section 9: "Stored images with rows 40 and 41": an item of a row that no file of the list has any more
+abbrev pub Withdrawn : Listing → Item values → Type 0
+Withdrawn l i = Gone l (i .0)
 
 -- "Stored images with finer fractions": a date-time with a part of a second below a thousandth
 abbrev pub Finer : Item values → Type 0

@@ -5,17 +5,27 @@ use mathlib.Core.List.{List, _++_}
 use Prim.Native.Nat.{ℕ, _≤_, _<_}
 use lib.ListN.{length, drop}
 use Rattle.answer.specs.declared.Answer.{Answer}
-use Rattle.answer.specs.Table.{limit, accepted, noRoom, tooLarge, tooFine}
+use Rattle.answer.specs.Table.{limit, accepted, noRoom, tooLarge, tooFine, retired}
+use Rattle.list.specs.Listing.{Listing}
 use Rattle.list.specs.Content.{items}
-use Rattle.image.specs.Image.{image}
+use Rattle.list_house.specs.Lists.{askedOf}
+use Rattle.image.specs.Image.{Item, image}
 use Rattle.image.specs.Kinds.{values}
 use Rattle.image_reading.specs.Reads.{HouseAccepts, HouseReads}
 use Rattle.file_letter.specs.Letter.{letterOf}
-use Rattle.file_letter.specs.Stale.{NoneOf, FirstAt, Finer}
+use Rattle.file_letter.specs.Stale.{NoneOf, FirstAt, Withdrawn, Finer}
 
--- "From an image at the start of a run, write a message": the file of that image's content, by its list
+-- the list that files of the image's kind are asked to keep to
+abbrev pub askedIn : {run : List ℕ} {n : ℕ} → HouseAccepts run n → Listing
+askedIn w = askedOf (w .list .byte)
+
+-- "From an image at the start of a run, write a message": the file of that image's content, by the list of files
 abbrev pub letterIn : {run : List ℕ} {n : ℕ} → HouseAccepts run n → List ℕ
-letterIn w = letterOf (w .list) (w .holds .content)
+letterIn w = letterOf (askedIn w) (w .holds .content)
+
+-- the image's items
+abbrev pub itemsIn : {run : List ℕ} {n : ℕ} → HouseAccepts run n → List (Item values)
+itemsIn w = items (w .holds .content)
 
 -- "The written file .. gives the same image": section 5, "§1's same image reads: the version 2 image of that content"
 abbrev pub imageIn : {run : List ℕ} {n : ℕ} → HouseAccepts run n → List ℕ
@@ -34,7 +44,10 @@ pub data Delivers (s d : List ℕ) (a : Answer) (d′ : List ℕ) : Type 0 where
 pub data Writes (run d : List ℕ) (a : Answer) (d′ : List ℕ) : Type 0 where
   -- "Refusals: 1 and 15 to 17 as in the reader"
   unread : HouseReads run a → a .code ≢ 0 → d′ ≡ d → Writes run d a d′
+  -- section 9: "§1 won't write such a statement", with "26, before 20, row 40, place of the first such item"
+  withdrawn : length run ≤ limit → (n : ℕ) (w : HouseAccepts run n) (r p : ℕ) → FirstAt (w .list) (Withdrawn (askedIn w)) (length (w .head)) (itemsIn w) r p → a ≡ retired r p → d′ ≡ d → Writes run d a d′
   -- section 3: "Stored images with finer fractions are still read; §1 refuses to write them", with "20, before 19, row of the date-time, place of its item"
-  finer : length run ≤ limit → (n : ℕ) (w : HouseAccepts run n) (r p : ℕ) → FirstAt (w .list) Finer (length (w .head)) (items (w .holds .content)) r p → a ≡ tooFine r p → d′ ≡ d → Writes run d a d′
+  finer : length run ≤ limit → (n : ℕ) (w : HouseAccepts run n) → NoneOf (Withdrawn (askedIn w)) (itemsIn w) → (r p : ℕ) → FirstAt (w .list) Finer (length (w .head)) (itemsIn w) r p → a ≡ tooFine r p → d′ ≡ d
+      → Writes run d a d′
   -- "then 19 .., then 14 .."
-  begun : length run ≤ limit → (n : ℕ) (w : HouseAccepts run n) → NoneOf Finer (items (w .holds .content)) → Delivers (letterIn w) d a d′ → Writes run d a d′
+  begun : length run ≤ limit → (n : ℕ) (w : HouseAccepts run n) → NoneOf (Withdrawn (askedIn w)) (itemsIn w) → NoneOf Finer (itemsIn w) → Delivers (letterIn w) d a d′ → Writes run d a d′

@@ -69,7 +69,7 @@ statement k = message (lf 110 "Id" "S1" (account (balance 200 euro k)))
 abbrev pub entry : Inside → Inside
 entry i =
     el 300 "Ntry" (amount 310 euro "1" (lf 320 "CdtDbtInd" "DBIT" (el 330 "Sts" (lf 340 "Cd" "BOOK" nothingInside)
-    (el 350 "BkTxCd" (el 360 "Prtry" (lf 370 "Cd" "X" nothingInside) nothingInside) (el 380 "NtryDtls" (el 390 "TxDtls" i nothingInside) nothingInside))))) nothingInside
+    (el 350 "BkTxCd" (el 360 "Domn" (lf 362 "Cd" "X" (el 364 "Fmly" (lf 366 "Cd" "X" (lf 368 "SubFmlyCd" "X" nothingInside)) nothingInside)) nothingInside) (el 380 "NtryDtls" (el 390 "TxDtls" i nothingInside) nothingInside))))) nothingInside
 
 unfoldable pub examples : List (Inside × Found)
 examples =

@@ -1,22 +1,26 @@
--- Going over the items for the first that is finer: those that are passed are not. Assumes nothing.
+-- Going over the items for the first that no file may say: those that are passed are of no row that is gone, and the first that is finer is noted. Assumes nothing.
 use mathlib.Core.Path.{_≡_, refl, sym, _∙_, ap, ap₂, subst}
 use mathlib.Core.Logic.{_≢_}
-use mathlib.Core.Bool.{Bool, true, false, not, true≢false}
+use mathlib.Core.Bool.{Bool, true, false, not, cond, true≢false}
 use mathlib.Core.List.{List, [], _∷_, _++_, append-assoc, append-nil}
 use mathlib.Core.Option.{Option, none, some}
 use Prim.Native.Nat.{ℕ, _+_, _%_, _≤_, _<_}
 use native.Mathlib.Omega.{arith}
 use lib.Dec.{eqb}
-use lib.Seq.{drop-drop}
+use lib.Seq.{drop-drop, slice}
 use borrow.Author.Tests.{eq-eqb, ne-eqb, eqb-true}
 use lib.ListN.{length, getD, take, drop, length-append}
-use Rattle.text.specs.Lists.{Each}
+use Rattle.answer.specs.declared.Answer.{Answer}
+use Rattle.answer.specs.Table.{tooFine, retired}
+use Rattle.text.specs.Bytes.{isNameStart, isNamePart}
+use Rattle.text.specs.Lists.{Begins}
 use Rattle.text.specs.Numbers.{bigEndian, number}
 use Rattle.text.proofs.Numbers.{number-big}
-use Rattle.list.specs.Listing.{Leaf, Kind, leaf, Listing, rowAt}
-use Rattle.list.specs.Content.{Content, end, node, items}
-use Rattle.list.specs.Table.{cell, listOf}
+use Rattle.list.specs.Listing.{Leaf, Kind, Listing, size, rowAt}
+use Rattle.list.specs.Changed.{Gone}
+use Rattle.list.specs.Table.{cell, nameIn, listOf}
 use Rattle.list.specs.Sound.{Sound}
+use Rattle.list.proofs.rows.Rows.{size-is, name-is}
 use Rattle.value.specs.Value.{Value, text, place, truth, natural, amount, day, moment, IsValue, bytes as valued}
 use Rattle.value.specs.Rules.{InThousandths}
 use Rattle.value.specs.Kind.{code}
@@ -24,12 +28,11 @@ use Rattle.value_from_bytes.specs.mirror.Ends.{width}
 use Rattle.value_to_text.proofs.Meaning.{kind-number}
 use Rattle.image.specs.Image.{Item, valueBytes, itemBytes, itemsBytes}
 use Rattle.image.specs.Kinds.{values}
-use Rattle.image.specs.Place.{Holds}
 use Rattle.file_walk.specs.Numbers.{isGroupIn}
-use Rattle.file_letter.specs.Stale.{NoneOf, FirstAt, Finer}
-use Rattle.file_write.specs.mirror.Emit.{Held, ValueAt}
-use Rattle.file_write.specs.mirror.Stale.{finerBy, FirstFiner, clear, found, Stale}
-use Rattle.file_write.proofs.Standing.{Standing, kids, is-root, stand-first, stand-start, stand-in, stand-end, Ahead, ahead, group-none, group-after, Leafed, leafed, value-at, end-is, leaf-after}
+use Rattle.file_letter.specs.Stale.{NoneOf, FirstAt, Withdrawn, Finer}
+use Rattle.file_write.specs.mirror.Emit.{ValueAt}
+use Rattle.file_write.specs.mirror.Stale.{goneBy, finerBy, notedBy, refusedBy, Lined, Searched, FirstFiner, clear, found, FirstStale, lost, kept, Stale}
+use Rattle.file_write.proofs.Standing.{inside, rest-there, Standing, stand-in, stand-end, Ahead, ahead, group-none, group-after, Leafed, leafed, value-at, end-is, leaf-after}
 
 -- ---- what is asked of a value's bytes
 
@@ -79,11 +82,99 @@ finer-there t pool run x i f v a =
     subst (λ (s : List ℕ). Asked (finerBy (cell t x 2) s) v) (sym (a .holds))
     (subst (λ (k : ℕ). Asked (finerBy k (valued v ++ a .behind)) v) (kind-number (cell t x 2) (cell t x 3) _ f (a .kind)) (finer-asked f v (a .behind) (a .is)))
 
--- ---- where the pass stands
+-- ---- a row without a name
 
-none-then : (is : List (Item values)) (j : Item values) → NoneOf Finer is → (Finer j → ⊥) → NoneOf Finer (is ++ (j ∷ []))
-none-then [] j h k = (k, tt)
-none-then (i ∷ is) j h k = (h .0, none-then is j (h .1) k)
+module _ (t pool : List ℕ) (x : ℕ) (lo : 0 < x) (hi : x ≤ size (listOf t pool)) where
+  abbrev name-there : rowAt (listOf t pool) x .name ≡ nameIn t pool x
+  name-there = name-is t pool x lo (omega (arith, size-is t pool))
+
+  pub gone-so : goneBy t pool x ≡ true → Gone (listOf t pool) x
+  unfolding goneBy
+  gone-so e = name-there ∙ none-long (nameIn t pool x) (eqb-true (length (nameIn t pool x)) 0 e)
+    where
+      none-long : (n : List ℕ) → length n ≡ 0 → n ≡ []
+      none-long [] h = refl
+      none-long (y ∷ n) h = absurd (omega arith)
+
+  pub gone-not : goneBy t pool x ≡ false → Gone (listOf t pool) x → ⊥
+  unfolding goneBy
+  gone-not e g = true≢false (sym (eq-eqb (length (nameIn t pool x)) 0 (ap length (sym name-there ∙ g))) ∙ e)
+
+pub gone-test : (t pool : List ℕ) (r a b n : ℕ) → a ≡ cell t r 4 → b ≡ cell t r 5 → n ≡ length (slice a b pool) → eqb n 0 ≡ goneBy t pool r
+unfolding goneBy
+gone-test t pool r a b n ea eb en = ap (λ (k : ℕ). eqb k 0) (en ∙ ap₂ (λ (u v : ℕ). length (slice u v pool)) ea eb)
+
+-- ---- what is noted
+
+pub noted-before : (f k : ℕ) (run : List ℕ) (i : ℕ) → f ≢ 0 → f ≡ notedBy f k run i
+unfolding notedBy
+noted-before f k run i n = rw (ne-eqb f 0 n) refl
+
+module _ (f k : ℕ) (run : List ℕ) (i : ℕ) (z : f ≡ 0) (c : Bool) (e : c ≡ finerBy k (drop (i + 1) run)) where
+  noted-by : notedBy f k run i ≡ cond c i 0
+  unfolding notedBy
+  noted-by = ap (λ (x : Bool). cond x (cond (finerBy k (drop (i + 1) run)) i 0) f) (eq-eqb f 0 z) ∙ ap (λ (x : Bool). cond x i 0) (sym e)
+
+  pub noted-here : c ≡ true → i ≡ notedBy f k run i
+  noted-here q = sym (noted-by ∙ ap (λ (x : Bool). cond x i 0) q)
+
+  pub noted-nowhere : c ≡ false → 0 ≡ notedBy f k run i
+  noted-nowhere q = sym (noted-by ∙ ap (λ (x : Bool). cond x i 0) q)
+
+-- ---- what is answered
+
+module _ (t pool : List ℕ) (r p : ℕ) (g : Bool) (e : g ≡ goneBy t pool r) (a : Answer) where
+  refused-by : refusedBy t pool r p ≡ cond g (retired r p) (tooFine r p)
+  unfolding refusedBy
+  refused-by = ap (λ (x : Bool). cond x (retired r p) (tooFine r p)) (sym e)
+
+  pub refused-gone : g ≡ true → a ≡ retired r p → a ≡ refusedBy t pool r p
+  refused-gone q h = h ∙ sym (refused-by ∙ ap (λ (x : Bool). cond x (retired r p) (tooFine r p)) q)
+
+  pub refused-finer : g ≡ false → a ≡ tooFine r p → a ≡ refusedBy t pool r p
+  refused-finer q h = h ∙ sym (refused-by ∙ ap (λ (x : Bool). cond x (retired r p) (tooFine r p)) q)
+
+none-then : (P : Item values → Type 0) (is : List (Item values)) (j : Item values) → NoneOf P is → (P j → ⊥) → NoneOf P (is ++ (j ∷ []))
+none-then P [] j h k = (k, tt)
+none-then P (i ∷ is) j h k = (h .0, none-then P is j (h .1) k)
+
+module _ (l : Listing) (run : List ℕ) (from : ℕ) (is : List (Item values)) (j : Item values) where
+  -- the first of some items is the first of more
+  first-on : (r p : ℕ) → FirstAt l Finer from is r p → FirstAt l Finer from (is ++ (j ∷ [])) r p
+  first-on r p f = record {
+    before = f .before;
+    item = f .item;
+    rest = f .rest ++ (j ∷ []);
+    at = ap (λ (u : List (Item values)). u ++ (j ∷ [])) (f .at) ∙ append-assoc (f .before) (f .item ∷ f .rest) (j ∷ []);
+    its = f .its;
+    clean = f .clean;
+    own = f .own;
+    stands = f .stands;
+  }
+
+  noted-on : (f : ℕ) → (Finer j → ⊥) → FirstFiner l run from is f → FirstFiner l run from (is ++ (j ∷ [])) f
+  noted-on f n (clear e c) = clear e (none-then Finer is j c n)
+  noted-on f n (found h k a) = found h k (first-on (getD run f 0) f a)
+
+  -- a leaf at i: noted where nothing was, and it is finer
+  noted-leaf : (k f g i : ℕ) → g ≡ notedBy f k run i → 0 < i → i < length run → j .0 ≡ getD run i 0 → i ≡ from + length (itemsBytes values l is)
+      → (finerBy k (drop (i + 1) run) ≡ true → Finer j) → (finerBy k (drop (i + 1) run) ≡ false → Finer j → ⊥) → FirstFiner l run from is f → FirstFiner l run from (is ++ (j ∷ [])) g
+  unfolding notedBy
+  noted-leaf k f g i e lo hi own stood so not′ (found h m a) =
+      let z : g ≡ f = e ∙ ap (λ (b : Bool). cond b (cond (finerBy k (drop (i + 1) run)) i 0) f) (ne-eqb f 0 (λ q. omega arith)) in
+      subst (FirstFiner l run from (is ++ (j ∷ []))) (sym z) (found h m (first-on (getD run f 0) f a))
+  noted-leaf k f g i e lo hi own stood so not′ (clear q c) = go (finerBy k (drop (i + 1) run)) refl
+    where
+      z : (b : Bool) → finerBy k (drop (i + 1) run) ≡ b → g ≡ cond b i 0
+      z b d = e ∙ ap (λ (x : Bool). cond x (cond (finerBy k (drop (i + 1) run)) i 0) f) (eq-eqb f 0 q) ∙ ap (λ (x : Bool). cond x i 0) d
+
+      go : (b : Bool) → finerBy k (drop (i + 1) run) ≡ b → FirstFiner l run from (is ++ (j ∷ [])) g
+      go true d =
+          subst (FirstFiner l run from (is ++ (j ∷ []))) (sym (z true d))
+          (found lo hi (record { before = is; item = j; rest = []; at = refl; its = so d; clean = c; own = sym own; stands = stood }))
+      go false d = clear (z false d) (none-then Finer is j c (not′ d))
+
+-- ---- where the pass stands
 
 module _ (t pool : List ℕ) where
   abbrev l : Listing
@@ -95,43 +186,46 @@ module _ (t pool : List ℕ) where
       omega (arith, length-append (itemBytes values l i) (itemsBytes values l (is ++ (j ∷ []))), length-append (itemBytes values l i) (itemsBytes values l is), bytes-then is j)
 
   module _ (run : List ℕ) (from : ℕ) (all : List (Item values)) where
-    -- the items before i are passed, and none of them is finer
-    pub record Passing (i : ℕ) : Type 0 where
+    -- the items before i are passed, none of them of a row that is gone; f is the place of the first that is finer, or 0
+    pub record Passing (f i : ℕ) : Type 0 where
       pub stands : Standing t pool run i
       pub passed : List (Item values)
       pub are : passed ++ stands .left ≡ all
-      pub clean : NoneOf Finer passed
+      pub clean : NoneOf (Withdrawn l) passed
+      pub noted : FirstFiner l run from passed f
       pub place : i ≡ from + length (itemsBytes values l passed)
       pub late : from < i
 
-  -- the same of whatever content is held in the run
-  abbrev pub PassingOn : List ℕ → ℕ → ℕ → Type 0
-  PassingOn run from i = (n : ℕ) (w : Holds values l (drop from run) n) → Passing run from (items (w .content)) i
+  -- the same of whatever items stand in the run
+  abbrev pub PassingOn : List ℕ → ℕ → ℕ → ℕ → Type 0
+  PassingOn run from f i = (w : Lined t pool run from) → Passing run from ((1, none) ∷ w .kids) f i
 
   module _ (so : Sound t pool) (run : List ℕ) (from : ℕ) where
-    -- ---- the start: the root is passed
+    -- ---- the start: the root is passed, which has a name
 
-    pub pass-first : PassingOn run from (from + 1)
-    pass-first n w = record {
-      stands = stand-first t pool so run from n w;
+    pub pass-first : PassingOn run from 0 (from + 1)
+    pass-first w = record {
+      stands = record { left = w .kids; rest = w .rest; here = rest-there run from 1 (itemsBytes values l (w .kids) ++ (0 ∷ w .rest)) (w .at); fine = w .each };
       passed = (1, none) ∷ [];
-      are =
-          ap (λ (is : List (Item values)). (1, none) ∷ is) (sym (append-nil (items (kids t pool so run from n w))))
-          ∙ ap items (sym (is-root t pool so run from n w));
-      clean = (λ f. f, tt);
+      are = refl;
+      clean = ((λ g. subst (Begins isNameStart isNamePart) g (so .well .rootName)), tt);
+      noted = clear refl ((λ f. f), tt);
       place = omega (arith, ap (λ (k : Kind). length (valueBytes values l k none)) (so .well .root .1), ap length (append-nil (itemBytes values l (1, none))));
       late = omega arith;
     }
 
+    pub pass-start : Lined t pool run from → from < length run
+    pass-start w = inside run from 1 (itemsBytes values l (w .kids) ++ (0 ∷ w .rest)) (w .at)
+
     -- ---- a turn
 
-    module _ (all : List (Item values)) (i : ℕ) (w : Passing run from all i) where
-      pub pass-clear : getD run i 0 ≡ 0 → (r : ℕ) → r ≡ 0 → FirstFiner l run from all r
-      pass-clear z r e =
-          let f = stand-end t pool so run i (w .stands) z in
-          clear e (subst (NoneOf Finer) (sym (append-nil (w .passed)) ∙ ap (λ (is : List (Item values)). w .passed ++ is) (sym f) ∙ w .are) (w .clean))
+    module _ (all : List (Item values)) (f i : ℕ) (w : Passing run from all f i) where
+      pub pass-clear : getD run i 0 ≡ 0 → FirstStale l run from all f
+      pass-clear z =
+          let e : w .passed ≡ all = sym (append-nil (w .passed)) ∙ ap (λ (is : List (Item values)). w .passed ++ is) (sym (stand-end t pool so run i (w .stands) z)) ∙ w .are in
+          kept (subst (NoneOf (Withdrawn l)) e (w .clean)) (subst (λ (is : List (Item values)). FirstFiner l run from is f) e (w .noted))
 
-      module _ (x : ℕ) (ex : x ≡ getD run i 0) (n : x ≢ 0) (b : Bool) (eb : b ≡ isGroupIn (cell t x 2)) where
+      module _ (x : ℕ) (ex : x ≡ getD run i 0) (n : x ≢ 0) where
         abbrev h : Ahead t pool so run i (w .stands) x
         h = ahead t pool so run i (w .stands) x ex n
 
@@ -140,96 +234,101 @@ module _ (t pool : List ℕ) where
             append-assoc (w .passed) ((x, h .val) ∷ []) (h .more)
             ∙ ap (λ (is : List (Item values)). w .passed ++ is) (sym (h .is)) ∙ w .are
 
-        pub pass-group : b ≡ true → Passing run from all (i + 1)
-        pass-group y =
-            let g = group-none t pool so run i (w .stands) x ex n b eb y in
-            record {
-              stands = group-after t pool so run i (w .stands) x ex n b eb y;
-              passed = w .passed ++ ((x, h .val) ∷ []);
-              are = onto;
-              clean = none-then (w .passed) (x, h .val) (w .clean) (subst (λ (v : Option Value). Finer (x, v) → ⊥) (sym (g .0)) (λ f. f));
-              place = omega (arith, w .place, bytes-then (w .passed) (x, h .val), ap length (g .1));
-              late = omega (arith, w .late);
-            }
+        pub pass-gone : goneBy t pool x ≡ true → FirstStale l run from all i
+        pass-gone g =
+            lost (omega (arith, w .late)) (stand-in t pool so run i (w .stands)) (record {
+              before = w .passed;
+              item = (x, h .val);
+              rest = h .more;
+              at = sym onto ∙ append-assoc (w .passed) ((x, h .val) ∷ []) (h .more);
+              its = gone-so t pool x (h .its .0) (h .its .1) g;
+              clean = w .clean;
+              own = sym ex;
+              stands = w .place;
+            })
 
-        module _ (y : b ≡ false) where
-          abbrev its : Leafed t pool (rowAt l x .kind) (h .val)
-          its = leafed t pool so run i (w .stands) x ex n b eb y
+        module _ (g : goneBy t pool x ≡ false) (b : Bool) (eb : b ≡ isGroupIn (cell t x 2)) where
+          cleaner : NoneOf (Withdrawn l) (w .passed ++ ((x, h .val) ∷ []))
+          cleaner = none-then (Withdrawn l) (w .passed) (x, h .val) (w .clean) (gone-not t pool x (h .its .0) (h .its .1) g)
 
-          asked : Asked (finerBy (cell t x 2) (drop (i + 1) run)) (its .val)
-          asked = finer-there t pool run x (i + 1) (its .type) (its .val) (value-at t pool so run i (w .stands) x ex n b eb y)
+          pub pass-group : b ≡ true → Passing run from all f (i + 1)
+          pass-group y =
+              let o = group-none t pool so run i (w .stands) x ex n b eb y in
+              record {
+                stands = group-after t pool so run i (w .stands) x ex n b eb y;
+                passed = w .passed ++ ((x, h .val) ∷ []);
+                are = onto;
+                clean = cleaner;
+                noted = noted-on l run from (w .passed) (x, h .val) f (subst (λ (v : Option Value). Finer (x, v) → ⊥) (sym (o .0)) (λ f. f)) (w .noted);
+                place = omega (arith, w .place, bytes-then (w .passed) (x, h .val), ap length (o .1));
+                late = omega (arith, w .late);
+              }
 
-          module _ (c : Bool) (ec : c ≡ finerBy (cell t x 2) (drop (i + 1) run)) where
-            pub pass-found : c ≡ true → FirstFiner l run from all i
-            pass-found e =
-                found (omega (arith, w .late)) (stand-in t pool so run i (w .stands)) (record {
-                  before = w .passed;
-                  item = (x, h .val);
-                  rest = h .more;
-                  at = sym onto ∙ append-assoc (w .passed) ((x, h .val) ∷ []) (h .more);
-                  its = subst (λ (v : Option Value). Finer (x, v)) (sym (its .some′)) (asked .so′ (sym ec ∙ e));
-                  clean = w .clean;
-                  own = sym ex;
-                  stands = w .place;
-                })
+          module _ (y : b ≡ false) where
+            abbrev its : Leafed t pool (rowAt l x .kind) (h .val)
+            its = leafed t pool so run i (w .stands) x ex n b eb y
 
-            pub pass-leaf : c ≡ false → (e : ℕ) → e ≡ i + 1 + width (cell t x 2) (drop (i + 1) run) → Passing run from all e
-            pass-leaf q e ee =
-                let k = asked .not′ (sym ec ∙ q) in
-                let d = end-is t pool so run i (w .stands) x ex n b eb y e ee in
-                let v : valueBytes values l (rowAt l x .kind) (h .val) ≡ valued (its .val) = ap₂ (λ (k : Kind) (v : Option Value). valueBytes values l k v) (its .kind) (its .some′) in
-                record {
-                  stands = leaf-after t pool so run i (w .stands) x ex n b eb y e ee;
-                  passed = w .passed ++ ((x, h .val) ∷ []);
-                  are = onto;
-                  clean = none-then (w .passed) (x, h .val) (w .clean) (subst (λ (v : Option Value). Finer (x, v) → ⊥) (sym (its .some′)) (λ f. f k));
-                  place = omega (arith, w .place, bytes-then (w .passed) (x, h .val), ap length v, d);
-                  late = omega (arith, w .late, d);
-                }
+            asked : Asked (finerBy (cell t x 2) (drop (i + 1) run)) (its .val)
+            asked = finer-there t pool run x (i + 1) (its .type) (its .val) (value-at t pool so run i (w .stands) x ex n b eb y)
 
-            pub pass-less : (e : ℕ) → e ≡ i + 1 + width (cell t x 2) (drop (i + 1) run) → i < e
-            pass-less e ee = omega (arith, end-is t pool so run i (w .stands) x ex n b eb y e ee)
+            module _ (e : ℕ) (ee : e ≡ i + 1 + width (cell t x 2) (drop (i + 1) run)) where
+              pub pass-leaf : (g′ : ℕ) → g′ ≡ notedBy f (cell t x 2) run i → Passing run from all g′ e
+              pass-leaf g′ eg =
+                  let d = end-is t pool so run i (w .stands) x ex n b eb y e ee in
+                  let v : valueBytes values l (rowAt l x .kind) (h .val) ≡ valued (its .val) = ap₂ (λ (k : Kind) (v : Option Value). valueBytes values l k v) (its .kind) (its .some′) in
+                  record {
+                    stands = leaf-after t pool so run i (w .stands) x ex n b eb y e ee;
+                    passed = w .passed ++ ((x, h .val) ∷ []);
+                    are = onto;
+                    clean = cleaner;
+                    noted =
+                        noted-leaf l run from (w .passed) (x, h .val) (cell t x 2) f g′ i eg (omega (arith, w .late)) (stand-in t pool so run i (w .stands)) ex (w .place)
+                        (λ z. subst (λ (v : Option Value). Finer (x, v)) (sym (its .some′)) (asked .so′ z))
+                        (λ z. subst (λ (v : Option Value). Finer (x, v) → ⊥) (sym (its .some′)) (λ k. k (asked .not′ z))) (w .noted);
+                    place = omega (arith, w .place, bytes-then (w .passed) (x, h .val), ap length v, d);
+                    late = omega (arith, w .late, d);
+                  }
 
--- ---- the same of whatever content is held in the run, as the loop asks for it
+              pub pass-less : i < e
+              pass-less = omega (arith, end-is t pool so run i (w .stands) x ex n b eb y e ee)
 
-module _ (t pool run : List ℕ) (from : ℕ) (pre : Held t pool run from) where
+-- ---- the same of whatever items stand in the run, as the loop asks for it
+
+module _ (t pool run : List ℕ) (from : ℕ) (pre : Searched t pool run from) where
   pub stale-start : from < length run
-  stale-start = stand-start t pool (pre .sound) run from (pre .size) (pre .holds)
+  stale-start = pass-start t pool (pre .sound) run from (pre .lined)
 
-  pub stale-first : PassingOn t pool run from (from + 1)
+  pub stale-first : PassingOn t pool run from 0 (from + 1)
   stale-first = pass-first t pool (pre .sound) run from
 
-  module _ (i : ℕ) (w : PassingOn t pool run from i) where
-    abbrev here : Passing t pool run from (items (pre .holds .content)) i
-    here = w (pre .size) (pre .holds)
+  module _ (f i : ℕ) (w : PassingOn t pool run from f i) where
+    abbrev here : Passing t pool run from ((1, none) ∷ pre .lined .kids) f i
+    here = w (pre .lined)
 
     pub stale-in : i < length run
     stale-in = stand-in t pool (pre .sound) run i (here .stands)
 
     module _ (x : ℕ) (ex : x ≡ getD run i 0) where
-      pub stale-clear : x ≡ 0 → Stale t pool run from 0
-      stale-clear z n h = pass-clear t pool (pre .sound) run from _ i (w n h) (sym ex ∙ z) 0 refl
+      pub stale-clear : x ≡ 0 → Stale t pool run from f
+      stale-clear z h = pass-clear t pool (pre .sound) run from _ f i (w h) (sym ex ∙ z)
 
-      module _ (nz : x ≢ 0) (k : ℕ) (ek : k ≡ cell t x 2) (b : Bool) (eb : b ≡ isGroupIn k) where
-        sorted : b ≡ isGroupIn (cell t x 2)
-        sorted = eb ∙ ap isGroupIn ek
+      module _ (nz : x ≢ 0) (g : Bool) (eg : g ≡ goneBy t pool x) where
+        pub stale-gone : g ≡ true → Stale t pool run from i
+        stale-gone q h = pass-gone t pool (pre .sound) run from _ f i (w h) x ex nz (sym eg ∙ q)
 
-        pub stale-group : b ≡ true → PassingOn t pool run from (i + 1)
-        stale-group y n h = pass-group t pool (pre .sound) run from _ i (w n h) x ex nz b sorted y
+        module _ (q : g ≡ false) (k : ℕ) (ek : k ≡ cell t x 2) (b : Bool) (eb : b ≡ isGroupIn k) where
+          sorted : b ≡ isGroupIn (cell t x 2)
+          sorted = eb ∙ ap isGroupIn ek
 
-        module _ (y : b ≡ false) (c : Bool) (ec : c ≡ finerBy k (drop (i + 1) run)) where
-          tested : c ≡ finerBy (cell t x 2) (drop (i + 1) run)
-          tested = ec ∙ ap (λ (j : ℕ). finerBy j (drop (i + 1) run)) ek
+          pub stale-group : b ≡ true → PassingOn t pool run from f (i + 1)
+          stale-group y h = pass-group t pool (pre .sound) run from _ f i (w h) x ex nz (sym eg ∙ q) b sorted y
 
-          pub stale-found : c ≡ true → Stale t pool run from i
-          stale-found q n h = pass-found t pool (pre .sound) run from _ i (w n h) x ex nz b sorted y c tested q
-
-          module _ (q : c ≡ false) (e : ℕ) (ee : e ≡ i + 1 + width k (drop (i + 1) run)) where
+          module _ (y : b ≡ false) (e : ℕ) (ee : e ≡ i + 1 + width k (drop (i + 1) run)) where
             ends : e ≡ i + 1 + width (cell t x 2) (drop (i + 1) run)
             ends = ee ∙ ap (λ (j : ℕ). i + 1 + width j (drop (i + 1) run)) ek
 
-            pub stale-leaf : PassingOn t pool run from e
-            stale-leaf n h = pass-leaf t pool (pre .sound) run from _ i (w n h) x ex nz b sorted y c tested q e ends
+            pub stale-leaf : (f′ : ℕ) → f′ ≡ notedBy f k run i → PassingOn t pool run from f′ e
+            stale-leaf f′ ef h = pass-leaf t pool (pre .sound) run from _ f i (w h) x ex nz (sym eg ∙ q) b sorted y e ends f′ (ef ∙ ap (λ (j : ℕ). notedBy f j run i) ek)
 
             pub stale-less : i < e
-            stale-less = pass-less t pool (pre .sound) run from _ i here x ex nz b sorted y c tested e ends
+            stale-less = pass-less t pool (pre .sound) run from _ f i here x ex nz (sym eg ∙ q) b sorted y e ends

@@ -12,7 +12,9 @@ use lib.Seq.{drop-cons, drop-drop, drop-at}
 use Rattle.text.specs.Lists.{Each}
 use Rattle.list.specs.Listing.{Leaf, Kind, group, choice, leaf, Listing, size, rowAt, Child, isGroup}
 use Rattle.list.specs.WellFormed.{LeafOk, KindOk}
-use Rattle.list.specs.Content.{Content, end, value, node, rows, items, Good, Meets}
+use Rattle.list.specs.Content.{Content, end, value, node, rows, items, ValueOf, GroupOf, Good}
+use Rattle.list.specs.Within.{Within}
+use Rattle.list.proofs.Within.{within-itself}
 use Rattle.list.specs.Table.{cell, kindOf, wordsIn, listOf}
 use Rattle.list.specs.Sound.{wordCount, Sound}
 use Rattle.list.proofs.rows.Rows.{size-is, parent-is, kind-is}
@@ -23,11 +25,12 @@ use Rattle.value_from_bytes.proofs.Meaning.{end-is as width-is, ends-one}
 use Rattle.image.specs.Image.{Item, valueBytes, itemsBytes, body}
 use Rattle.image.specs.Kinds.{values}
 use Rattle.image.specs.Place.{Holds}
-use Rattle.image.specs.mirror.Follow.{OfKind, ItemOk}
+use Rattle.image.specs.mirror.Follow.{OfKind}
 use Rattle.file_walk.specs.Numbers.{isGroupIn}
 use Rattle.file_walk.proofs.bytes.Sound.{group-in}
 use Rattle.file_letter.proofs.Has.{rooted}
 use Rattle.file_write.specs.mirror.Emit.{ValueAt}
+use Rattle.file_write.specs.mirror.Stale.{ItemOf}
 
 each-both : {A : Type 0} (P : A → Type 0) (a b : List A) → Each P a → Each P b → Each P (a ++ b)
 each-both P [] b h k = k
@@ -51,15 +54,21 @@ module _ (t pool : List ℕ) where
   abbrev l : Listing
   l = listOf t pool
 
-  -- an item of the list
   abbrev pub Fine : Item values → Type 0
-  Fine i = (0 < i .0) × (i .0 ≤ size l) × ItemOk values l (i .0) (i .1)
+  Fine = ItemOf t pool
 
-  pub fine-in : (c : Content Value) (p : ℕ) → Each (Child l p) (rows c) → Good IsValue l c → Each Fine (items c)
-  fine-in end p a g = tt
-  fine-in (value r v k) p a g = ((a .0 .first, a .0 .last, g .0), fine-in k p (a .1) (g .1))
-  fine-in (node r c k) p a g =
-      ((a .0 .first, a .0 .last, g .0 .0), each-both Fine (items c) (items k) (fine-in c r (g .0 .1 .theirs) (g .1)) (fine-in k p (a .1) (g .2)))
+  -- the items of a content of a list that this one lies within
+  module _ (m : Listing) (v : Within l m) where
+    last-in : (p r : ℕ) → Child m p r → r ≤ size l
+    last-in p r c = omega (arith, c .last, v .many)
+
+    pub fine-in : (c : Content Value) (p : ℕ) → Each (Child m p) (rows c) → Good IsValue m c → Each Fine (items c)
+    fine-in end p a g = tt
+    fine-in (value r u k) p a g = ((a .0 .first, last-in p r (a .0), subst (λ (z : Kind). ValueOf IsValue l z u) (sym (v .kinds r)) (g .0)), fine-in k p (a .1) (g .1))
+    fine-in (node r c k) p a g = (
+      (a .0 .first, last-in p r (a .0), subst (λ (z : Kind). GroupOf IsValue l z) (sym (v .kinds r)) (g .0 .0)),
+      each-both Fine (items c) (items k) (fine-in c r (g .0 .1 .theirs) (g .1)) (fine-in k p (a .1) (g .2)),
+    )
 
   -- ---- what an item of a kind has
 
@@ -114,7 +123,7 @@ module _ (t pool : List ℕ) where
             left = items kids;
             rest = w .rest;
             here = rest-there run from 1 (itemsBytes values l (items kids) ++ (0 ∷ w .rest)) body-is;
-            fine = fine-in kids 1 (g .0 .1 .theirs) (g .1);
+            fine = fine-in l (within-itself l) kids 1 (g .0 .1 .theirs) (g .1);
           }
 
       pub stand-start : from < length run

@@ -7,6 +7,7 @@ use list::lay::lay;
 use list_house::by_byte::rows_of;
 use list_house::tables::pool;
 use stale::first_stale;
+use stale::refusal;
 ghost use Rattle.file_letter.specs.Writes.{Writes};
 
 mod put; // put.rt: tags, put at a place
@@ -29,7 +30,7 @@ pub fn write(run: &[u8], out: &mut [u8]) -> Answer
     let pool = pool();
     let stale = first_stale(&table, &pool, run, read.from);
     if stale != 0 {
-        return Answer::too_fine(wide(run[stale]), stale);
+        return refusal(&table, &pool, wide(run[stale]), stale);
     }
     let mut nothing = [0u8; 1];
     let n = emit(&table, &pool, run, read.from, &mut nothing);

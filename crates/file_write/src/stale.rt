@@ -1,16 +1,26 @@
-// What an image may hold and a file may not say any more: the first such item.
+// What an image may hold and a file may not say any more: the first item of a row that is gone, or else the first finer date-time.
 use crate::emit::after;
 use crate::emit::wide;
+use answer::Answer;
 use file_walk::tag::is_group;
 use list::lookup::cell;
 use list::table::DTM;
 use list::table::KIND;
+use list::table::NAME;
+use list::table::NAME_END;
 use text::number::get32;
+use text::part::part_len;
 ghost use mathlib.Core.Path.{_≡_};
 ghost use Prim.Native.Nat.{_≤_};
+ghost use Rattle.file_write.specs.mirror.Stale.{finerBy, goneBy, notedBy, refusedBy, Searched, Stale};
 ghost use lib.ListN.{drop};
-ghost use Rattle.file_write.specs.mirror.Emit.{Held};
-ghost use Rattle.file_write.specs.mirror.Stale.{finerBy, Stale};
+
+// A row without a name: no file may have it any more.
+fn is_gone(rows: &[u16], pool: &[u8], row: usize) -> bool
+    ensures { λ r. ⌜ r ≡ goneBy (now (rows .entry)) (now (pool .entry)) row ⌝ }
+{
+    part_len(pool, cell(rows, row, NAME), cell(rows, row, NAME_END)) == 0
+}
 
 // A date-time, whose bytes stand from i on, with a part of a second below a thousandth: its microseconds have the bytes 7 to 10.
 fn is_finer(kind: usize, run: &[u8], i: usize) -> bool
@@ -23,25 +33,52 @@ fn is_finer(kind: usize, run: &[u8], i: usize) -> bool
     get32(run, i + 7) % 1000 != 0
 }
 
-// Its place, 0 where there is none: items stand after a header. The root is a group, so that the second item is the first to be asked.
+// The place of the first finer date-time: the one that was noted before, or else that of the leaf at i, if it is one.
+fn noted(before: usize, kind: usize, run: &[u8], i: usize) -> usize
+    requires { ⌜ i ≤ 1048575 ⌝ }
+    ensures { λ r. ⌜ r ≡ notedBy before kind (now (run .entry)) i ⌝ }
+{
+    if before != 0 {
+        return before;
+    }
+    if is_finer(kind, run, i + 1) {
+        return i;
+    }
+    0
+}
+
+// Its place, 0 where there is none: items stand after a header. The root is a group with a name, so that the second item is the first to be
+// asked. A row that is gone ends the search: it comes before a finer date-time, wherever that stands.
 pub(crate) fn first_stale(rows: &[u16; 4096], pool: &[u8], run: &[u8], from: usize) -> usize
-    requires { ⌜ Held (now rows) (now pool) (now run) from ⌝ }
+    requires { ⌜ Searched (now rows) (now pool) (now run) from ⌝ }
     ensures { λ r. ⌜ Stale (now (rows .entry)) (now (pool .entry)) (now (run .entry)) from r ⌝ }
 {
+    let mut finer = 0;
     let mut i = from + 1;
     loop {
         let x = wide(run[i]);
         if x == 0 {
-            return 0;
+            return finer;
+        }
+        if is_gone(rows, pool, x) {
+            return i;
         }
         let kind = cell(rows, x, KIND);
         if is_group(kind) {
             i += 1;
         } else {
-            if is_finer(kind, run, i + 1) {
-                return i;
-            }
+            finer = noted(finer, kind, run, i);
             i = after(kind, run, i + 1);
         }
     }
+}
+
+// What is answered for the item of that row at that place.
+pub(crate) fn refusal(rows: &[u16; 4096], pool: &[u8], row: usize, place: usize) -> Answer
+    ensures { λ a. ⌜ a ≡ refusedBy (now (rows .entry)) (now (pool .entry)) row place ⌝ }
+{
+    if is_gone(rows, pool, row) {
+        return Answer::retired(row, place);
+    }
+    Answer::too_fine(row, place)
 }

@@ -17,8 +17,8 @@ use Rattle.list.specs.Table.{cell, listOf}
 use Rattle.list.specs.Sound.{Sound}
 use Rattle.list.proofs.rows.Rows.{size-is}
 use Rattle.list_house.specs.mirror.HouseTable.{housePool}
-use Rattle.list_house.specs.mirror.Rows.{askedRows}
-use Rattle.list_house.proofs.Lists.{asked-is, asked-sound, bytes-tell, kept-well}
+use Rattle.list_house.specs.mirror.Rows.{keptRows}
+use Rattle.list_house.proofs.Lists.{stored-is, stored-sound, bytes-tell, kept-well}
 use Rattle.value.specs.Value.{Value, IsValue, bytes}
 use Rattle.image.specs.Image.{valueBytes}
 use Rattle.image.specs.Kinds.{lengthBytes, values}
@@ -233,9 +233,9 @@ module _ (at : AtByte) where
   open AtByte at using (run, from, kind, start, headed, known, within, x, read)
 
   -- the table of the kind says the list
-  module _ (t : List ℕ) (et : t ≡ askedRows kind) where
+  module _ (t : List ℕ) (et : t ≡ keptRows kind) where
     sound : Sound t housePool
-    sound = subst (λ (z : List ℕ). Sound z housePool) (sym et) (asked-sound kind)
+    sound = subst (λ (z : List ℕ). Sound z housePool) (sym et) (stored-sound kind)
 
     its-list : SaysList run (listOf t housePool)
     its-list = go headed
@@ -243,7 +243,7 @@ module _ (at : AtByte) where
         go : Headed run kind start → SaysList run (listOf t housePool)
         go (bare e k f) = absurd (known k)
         go (leads l i g s f e k o) =
-            subst (SaysList run) (sym (ap (λ (z : List ℕ). listOf z housePool) (et ∙ ap askedRows k) ∙ asked-is l i)) (record { among = i; head = g; front = f; behind = s; at = e })
+            subst (SaysList run) (sym (ap (λ (z : List ℕ). listOf z housePool) (et ∙ ap keptRows k) ∙ stored-is l i)) (record { among = i; head = g; front = f; behind = s; at = e })
 
     house : (a : Answer) (n : ℕ) → Told (listOf t housePool) run from a n → HouseItem run from a n
     house a n o = by-header run from a n (listOf t housePool) its-list o
@@ -267,4 +267,4 @@ module _ (at : AtByte) where
           house-valued a n m em e = house a n (valued t housePool sound run from x within read z b end ee y q a n m em e)
 
   pub house-closing : (a : Answer) (n : ℕ) → x ≡ 0 → (a ≡ picked 0 (from + 1)) × (n ≡ 0) → HouseItem run from a n
-  house-closing a n z e = house (askedRows kind) refl a n (closing (askedRows kind) housePool (asked-sound kind) run from x within read a n z e)
+  house-closing a n z e = house (keptRows kind) refl a n (closing (keptRows kind) housePool (stored-sound kind) run from x within read a n z e)

@@ -6,7 +6,7 @@ use image::reader::item_end;
 use image_reading::front::head_of;
 use list::lookup::cell;
 use list::table::SIZE;
-use list_house::by_byte::rows_of;
+use list_house::by_byte::kept_rows_of;
 ghost use mathlib.Core.Path.{_≡_};
 ghost use Rattle.answer.specs.Table.{picked, brokenImage};
 ghost use Rattle.image_items.specs.Items.{HouseItem};
@@ -59,7 +59,7 @@ pub fn item_at(run: &[u8], from: usize) -> Item
     if row == 0 {
         return told(0, at, 0);
     }
-    let rows = rows_of(start.kind);
+    let rows = kept_rows_of(start.kind);
     if cell(&rows, 0, SIZE) < row {
         return broken(from);
     }

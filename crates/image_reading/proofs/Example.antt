@@ -13,10 +13,10 @@ use Rattle.text.specs.Bytes.{ascii, isCapital}
 use Rattle.text.specs.Numbers.{bigEndian, numberFrom}
 use Rattle.text_characters.specs.mirror.Decoding.{decoded}
 use Rattle.list.specs.Table.{cell, listOf}
-use Rattle.list_house.specs.mirror.HouseTable.{houseRows, housePool}
-use Rattle.list_house.specs.mirror.Rows.{askedRows}
-use Rattle.list_house.proofs.HouseSound.{house-sound}
-use Rattle.list_house.proofs.Lists.{asked-is}
+use Rattle.list_house.specs.mirror.HouseTable.{storedHouseRows, housePool}
+use Rattle.list_house.specs.mirror.Rows.{keptRows}
+use Rattle.list_house.proofs.HouseSound.{storedHouse-sound}
+use Rattle.list_house.proofs.Lists.{stored-is}
 use Rattle.value.specs.Text.{isRef, isTxt}
 use Rattle.value_from_bytes.specs.mirror.Tests.{isByte, every, some as any, apart as slashes}
 use Rattle.value_from_bytes.specs.mirror.Chars.{charsFrom}
@@ -54,23 +54,23 @@ turns-come {A} f (suc k) q i a e = go (f q i) refl e (λ x j. turns-come f k x j
 
 -- the reader over the example, and over all of it but its last byte: from after the root's item
 abbrev Read : List ℕ → ℕ → Answer → Type 0
-Read s i a = turns (turn houseRows (itemEnd houseRows s) s) 30 1 i ≡ some a
+Read s i a = turns (turn storedHouseRows (itemEnd storedHouseRows s) s) 30 1 i ≡ some a
 
 printed-turns : Read printed 6 (accepted 67) × Read (take 66 printed) 6 (brokenImage 66)
-unfolding printedBody printed turn hunt headOf follows ended isLeaf again owed before mated inOrder beside inside climbs rests cell houseRows itemEnd valueEnd begins isValue width head isReference textFrom isWriting isCurrency isPlace isAmount isReal isDay isMoment charsFrom isByte every any slashes turns numberFrom isRef isTxt decoded isCapital
+unfolding printedBody printed turn hunt headOf follows ended isLeaf again owed before mated inOrder beside inside climbs rests cell storedHouseRows itemEnd valueEnd begins isValue width head isReference textFrom isWriting isCurrency isPlace isAmount isReal isDay isMoment charsFrom isByte every any slashes turns numberFrom isRef isTxt decoded isCapital
 printed-turns = (refl, refl)
 
 written-turns : Read written 7 (accepted 68) × Read (take 67 written) 7 (brokenImage 67)
-unfolding printedBody written turn hunt headOf follows ended isLeaf again owed before mated inOrder beside inside climbs rests cell houseRows itemEnd valueEnd begins isValue width head isReference textFrom isWriting isCurrency isPlace isAmount isReal isDay isMoment charsFrom isByte every any slashes turns numberFrom isRef isTxt decoded isCapital
+unfolding printedBody written turn hunt headOf follows ended isLeaf again owed before mated inOrder beside inside climbs rests cell storedHouseRows itemEnd valueEnd begins isValue width head isReference textFrom isWriting isCurrency isPlace isAmount isReal isDay isMoment charsFrom isByte every any slashes turns numberFrom isRef isTxt decoded isCapital
 written-turns = (refl, refl)
 
 -- the picker, over items from a place on: where the value of the n-th leaf of row r stands, and its part
 record Found (s : List ℕ) (from r n p : ℕ) (a : Answer) (part : List ℕ) : Type 0 where
-  leafy : isLeaf houseRows r ≡ true
-  hunts : turns (hunt houseRows (itemEnd houseRows s) s r) 30 n from ≡ some p
+  leafy : isLeaf storedHouseRows r ≡ true
+  hunts : turns (hunt storedHouseRows (itemEnd storedHouseRows s) s r) 30 n from ≡ some p
   some′ : 0 < p
-  says : a ≡ picked r (p + headOf houseRows r)
-  holds : part ≡ slice (p + headOf houseRows r) (itemEnd houseRows s r p) s
+  says : a ≡ picked r (p + headOf storedHouseRows r)
+  holds : part ≡ slice (p + headOf storedHouseRows r) (itemEnd storedHouseRows s r p) s
 
 -- MsgId's two bytes, the balance's amount
 abbrev identified : List ℕ
@@ -80,14 +80,14 @@ abbrev balance : List ℕ
 balance = 0x45 ∷ 0x55 ∷ 0x52 ∷ 0x00 ∷ 0x00 ∷ 0x00 ∷ 0x00 ∷ 0x00 ∷ 0x00 ∷ 0x00 ∷ 0x00 ∷ 0x05 ∷ []
 
 printed-found : Found printed 5 4 0 9 (picked 4 11) identified × Found printed 5 19 0 46 (picked 19 46) balance
-unfolding printedBody printed turn hunt headOf follows ended isLeaf again owed before mated inOrder beside inside climbs rests cell houseRows itemEnd valueEnd begins isValue width head isReference textFrom isWriting isCurrency isPlace isAmount isReal isDay isMoment charsFrom isByte every any slashes turns numberFrom isRef isTxt decoded isCapital
+unfolding printedBody printed turn hunt headOf follows ended isLeaf again owed before mated inOrder beside inside climbs rests cell storedHouseRows itemEnd valueEnd begins isValue width head isReference textFrom isWriting isCurrency isPlace isAmount isReal isDay isMoment charsFrom isByte every any slashes turns numberFrom isRef isTxt decoded isCapital
 printed-found = (
   record { leafy = refl; hunts = refl; some′ = omega arith; says = refl; holds = refl },
   record { leafy = refl; hunts = refl; some′ = omega arith; says = refl; holds = refl },
 )
 
 written-found : Found written 6 4 0 10 (picked 4 12) identified × Found written 6 19 0 47 (picked 19 47) balance
-unfolding printedBody written turn hunt headOf follows ended isLeaf again owed before mated inOrder beside inside climbs rests cell houseRows itemEnd valueEnd begins isValue width head isReference textFrom isWriting isCurrency isPlace isAmount isReal isDay isMoment charsFrom isByte every any slashes turns numberFrom isRef isTxt decoded isCapital
+unfolding printedBody written turn hunt headOf follows ended isLeaf again owed before mated inOrder beside inside climbs rests cell storedHouseRows itemEnd valueEnd begins isValue width head isReference textFrom isWriting isCurrency isPlace isAmount isReal isDay isMoment charsFrom isByte every any slashes turns numberFrom isRef isTxt decoded isCapital
 written-found = (
   record { leafy = refl; hunts = refl; some′ = omega arith; says = refl; holds = refl },
   record { leafy = refl; hunts = refl; some′ = omega arith; says = refl; holds = refl },
@@ -112,8 +112,8 @@ written-kind : (getD written 5 0 ≡ 1) × (getD (take 67 written) 5 0 ≡ 1)
 unfolding printedBody written
 written-kind = (refl, refl)
 
-says : Says houseRows 1
-says = record { sound = house-sound; is = λ l i b. ap (λ (k : ℕ). listOf (askedRows k) housePool) b ∙ asked-is l i }
+says : Says storedHouseRows 1
+says = record { sound = storedHouse-sound; is = λ l i b. ap (λ (k : ℕ). listOf (keptRows k) housePool) b ∙ stored-is l i }
 
 abbrev begun : ℕ → ℕ → Reading
 begun n from = record { answer = accepted n; kind = 1; from = from }
@@ -128,15 +128,15 @@ fronted-current s n h b l u =
 
 -- read as n bytes, or broken off at a place
 module _ (s : List ℕ) (n v from : ℕ) (h : Shaped s n v from) (l : from < n) (f : Fronts s (begun from from)) where
-  ran : (a : Answer) → Read s (from + 1) a → Behind houseRows (itemEnd houseRows s) s from a
-  ran a e = rooted (omega (arith, h .long)) (h .root) (turns-come (turn houseRows (itemEnd houseRows s) s) 30 1 (from + 1) a e)
+  ran : (a : Answer) → Read s (from + 1) a → Behind storedHouseRows (itemEnd storedHouseRows s) s from a
+  ran a e = rooted (omega (arith, h .long)) (h .root) (turns-come (turn storedHouseRows (itemEnd storedHouseRows s) s) 30 1 (from + 1) a e)
 
   runs : (k : ℕ) → Read s (from + 1) (accepted k) → Begun s (begun k from)
-  runs k e = begins-with s (begun from from) f (λ z. omega arith) houseRows says (accepted k) (ran (accepted k) e) refl
+  runs k e = begins-with s (begun from from) f (λ z. omega arith) storedHouseRows says (accepted k) (ran (accepted k) e) refl
 
   breaks : (k : ℕ) → Read s (from + 1) (brokenImage k) → HouseReads s (brokenImage k)
   breaks k e =
-      begun-reads s off (begins-not s (begun from from) f (λ z. omega arith) houseRows says (brokenImage k) (ran (brokenImage k) e) (λ z. omega arith) off (refl, refl, refl) .0)
+      begun-reads s off (begins-not s (begun from from) f (λ z. omega arith) storedHouseRows says (brokenImage k) (ran (brokenImage k) e) (λ z. omega arith) off (refl, refl, refl) .0)
     where
       off : Reading
       off = record { answer = brokenImage k; kind = 0; from = 0 }
@@ -165,8 +165,8 @@ example-cut-now =
 module _ (s : List ℕ) (k from : ℕ) (b : Begun s (begun k from)) where
   picks : (r n p : ℕ) (a : Answer) (part : List ℕ) → Found s from r n p a part → HousePicks s r n a part
   picks r n p a part f =
-      begun-picks s houseRows (begun k from) says b refl r n a part
-      (found p (f .some′) (leaves (f .leafy) (turns-come (hunt houseRows (itemEnd houseRows s) s r) 30 n from p (f .hunts))) (f .says) (f .holds))
+      begun-picks s storedHouseRows (begun k from) says b refl r n a part
+      (found p (f .some′) (leaves (f .leafy) (turns-come (hunt storedHouseRows (itemEnd storedHouseRows s) s r) 30 n from p (f .hunts))) (f .says) (f .holds))
 
 pub example-picks : HousePicks printed 4 0 (picked 4 11) identified × HousePicks printed 19 0 (picked 19 46) balance
 example-picks = let p = picks printed 67 5 printed-runs in (p 4 0 9 (picked 4 11) _ (printed-found .0), p 19 0 46 (picked 19 46) _ (printed-found .1))

@@ -13,9 +13,9 @@ use borrow.Author.Tests.{eqb-true, eqb-false}
 use Rattle.text.specs.Bytes.{ascii}
 use Rattle.list.specs.Listing.{Listing}
 use Rattle.list.specs.Within.{Among}
-use Rattle.list_house.specs.House.{house, report}
+use Rattle.list_house.specs.House.{storedHouse, storedReport}
 use Rattle.list_house.specs.Lists.{stored}
-use Rattle.list_house.proofs.Lists.{each-stored, house-byte, report-byte, house-asked, report-asked}
+use Rattle.list_house.proofs.Lists.{each-stored, stored-house-byte, stored-report-byte, house-stored, report-stored}
 use Rattle.image.specs.Image.{versioned, header}
 use Rattle.image.proofs.answers.Heads.{first-is, second-is, header-is, header-bytes}
 use Rattle.image_reading.specs.mirror.Front.{Kto, Named, versionOf, KindByte}
@@ -124,8 +124,8 @@ module _ (s : List ℕ) where
 byte-low : (l : Listing) → Among l stored → (1 ≤ l .byte) × (l .byte ≤ 2)
 byte-low =
     each-stored (λ l. (1 ≤ l .byte) × (l .byte ≤ 2))
-    (omega (arith, house-byte), omega (arith, house-byte))
-    (omega (arith, report-byte), omega (arith, report-byte))
+    (omega (arith, stored-house-byte), omega (arith, stored-house-byte))
+    (omega (arith, stored-report-byte), omega (arith, stored-report-byte))
 
 -- a kind byte is a list's
 pub record Kinded (k : ℕ) : Type 0 where
@@ -135,8 +135,8 @@ pub record Kinded (k : ℕ) : Type 0 where
 
 kinded : (k : ℕ) → k ≢ 0 → k ≤ 2 → Kinded k
 kinded k n h = elim (ℕ-discrete k 1) [
-  | yes e ↦ record { list = house; among = house-asked; byte = e ∙ sym house-byte }
-  | no d ↦ let e : k ≡ 2 = omega arith in record { list = report; among = report-asked; byte = e ∙ sym report-byte }
+  | yes e ↦ record { list = storedHouse; among = house-stored; byte = e ∙ sym stored-house-byte }
+  | no d ↦ let e : k ≡ 2 = omega arith in record { list = storedReport; among = report-stored; byte = e ∙ sym stored-report-byte }
 ]
 
 -- a sixth byte stands after five

@@ -16,12 +16,12 @@ use Rattle.list.specs.Content.{Content, Meets}
 use Rattle.list.specs.Table.{listOf}
 use Rattle.list.specs.Sound.{Sound}
 use Rattle.list.specs.Laid.{laid}
-use Rattle.list_house.specs.House.{house}
+use Rattle.list_house.specs.House.{storedHouse}
 use Rattle.list_house.specs.mirror.HouseTable.{housePool}
 use Rattle.list_house.specs.mirror.Rows.{keptRows}
 use Rattle.list_house.specs.Kind.{houseKind}
 use Rattle.list_house.proofs.HouseKind.{stored-kind, low-group}
-use Rattle.list_house.proofs.Lists.{house-asked, house-byte, kept-is, kept-sound, kept-well, bytes-tell}
+use Rattle.list_house.proofs.Lists.{house-stored, stored-house-byte, kept-is, kept-sound, kept-well, bytes-tell}
 use Rattle.value.specs.Value.{Value, IsValue}
 use Rattle.image.specs.Image.{versioned, header, body}
 use Rattle.image.specs.Kinds.{values}
@@ -90,7 +90,7 @@ module _ (run : List ℕ) where
 
     pub starts-former : Kto run → versionOf run ≡ 1 → x .kind ≡ 1 → x .from ≡ 5 → Starts run x
     starts-former k v e f =
-        starts house house-asked (take 5 run) (drop 5 run) (earlier house-byte (version-first run k v)) (sym (take-append-drop 5 run)) (e ∙ sym house-byte)
+        starts storedHouse house-stored (take 5 run) (drop 5 run) (earlier stored-house-byte (version-first run k v)) (sym (take-append-drop 5 run)) (e ∙ sym stored-house-byte)
         (f ∙ sym (length-take-le 5 run (k .0)))
 
     pub starts-current : Kto run → versionOf run ≡ 2 → (k : ℕ) → KindByte run k → k ≢ 0 → x .kind ≡ k → x .from ≡ 6 → Starts run x

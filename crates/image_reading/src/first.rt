@@ -8,7 +8,7 @@ use image::picker::picked_from;
 use image::reader::body;
 use list::lay::lay;
 use list::table::REF;
-use list_house::by_byte::rows_of;
+use list_house::by_byte::kept_rows_of;
 use list_house::kinds::kind;
 ghost use mathlib.Core.Path.{_≡_};
 ghost use Rattle.list.specs.Laid.{zeros, laid};
@@ -26,7 +26,7 @@ fn begun(run: &[u8], table: &mut [u16; 4096]) -> Reading
     if front.kind == 0 {
         return front;
     }
-    let rows = rows_of(front.kind);
+    let rows = kept_rows_of(front.kind);
     lay(&rows, table);
     let answer = body(table, run, front.from);
     if answer.code != Answer::ACCEPTED {

@@ -3,6 +3,10 @@
 pub mod Laid
 -- a list within another
 pub mod Within
+-- a list that is another but for some rows
+pub mod Changed
+-- what has no row that is gone meets the narrower list
+pub mod Retired
 -- the rows of a list and the cells that say them
 pub mod rows
 -- the computed test, and what it says of every row

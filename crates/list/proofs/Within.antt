@@ -11,15 +11,19 @@ pub within-itself : (l : Listing) → Within l l
 within-itself l = record { many = refl; parents = λ r. refl; kinds = λ r. refl; counts = λ r n h. h; rules = refl; byte = refl }
 
 module _ (l m : Listing) (w : Within l m) where
-  child-within : (p r : ℕ) → Child l p r → Child m p r
+  pub child-within : (p r : ℕ) → Child l p r → Child m p r
   child-within p r c = record { first = c .first; last = subst (λ (n : ℕ). r ≤ n) (w .many) (c .last); parent = sym (w .parents r) ∙ c .parent }
 
-  child-without : (p r : ℕ) → Child m p r → Child l p r
+  pub child-without : (p r : ℕ) → Child m p r → Child l p r
   child-without p r c = record { first = c .first; last = subst (λ (n : ℕ). r ≤ n) (sym (w .many)) (c .last); parent = w .parents r ∙ c .parent }
 
   theirs-within : (p : ℕ) (rs : List ℕ) → Each (Child l p) rs → Each (Child m p) rs
   theirs-within p [] h = tt
   theirs-within p (r ∷ rs) h = (child-within p r (h .0), theirs-within p rs (h .1))
+
+  pub theirs-without : (p : ℕ) (rs : List ℕ) → Each (Child m p) rs → Each (Child l p) rs
+  theirs-without p [] h = tt
+  theirs-without p (r ∷ rs) h = (child-without p r (h .0), theirs-without p rs (h .1))
 
   children-within : (p : ℕ) (rs : List ℕ) → Children l p rs → Children m p rs
   children-within p rs h = record {

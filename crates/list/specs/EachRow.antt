@@ -2,6 +2,7 @@
 use mathlib.Core.Path.{_≡_}
 use mathlib.Core.Bool.{true}
 use mathlib.Core.Logic.{_≢_, _⊎_}
+use mathlib.Core.List.{[]}
 use Prim.Native.Nat.{ℕ, suc, _≤_, _<_}
 use Rattle.text.specs.Bytes.{isNameStart, isNamePart}
 use Rattle.text.specs.Lists.{Begins}
@@ -19,8 +20,8 @@ pub record EachRow (l : Listing) (p r : ℕ) : Type 0 where
   pub byte : r ≤ 255
   pub levels : up l 16 r ≡ 0
   pub deeper : level l r ≡ suc (level l p)
-  -- "names by the XML rules below, different among siblings"
-  pub name : Begins isNameStart isNamePart (rowAt l r .name)
+  -- "names by the XML rules below, different among siblings"; none, where no file may have the row any more
+  pub name : (rowAt l r .name ≡ []) ⊎ Begins isNameStart isNamePart (rowAt l r .name)
   pub apart : (q : ℕ) → Child l p q → rowAt l r .name ≡ rowAt l q .name → r ≡ q
   -- "counts of the four forms used here, none within a choice"
   pub counted : rowAt l p .kind ≡ group → rowAt l r .count ≢ alternative

@@ -9,6 +9,8 @@ pub mod WellFormed
 pub mod Content
 -- a list within another
 pub mod Within
+-- a list that is another but for some rows; rows that are gone
+pub mod Changed
 -- a list as two tables of numbers
 pub mod Table
 -- a table over 256 rows

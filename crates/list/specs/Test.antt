@@ -99,7 +99,7 @@ module _ (l : Listing) where
       ltb p r ∷
       countFits (rowAt l p .kind) (rowAt l r .count) ∷
       (not (isGroup (rowAt l r .kind)) || ltb 0 (nextChild l r 0)) ∷
-      begins isNameStart isNamePart (rowAt l r .name) ∷
+      (same (rowAt l r .name) [] || begins isNameStart isNamePart (rowAt l r .name)) ∷
       each l (λ q. eqb r q || not (eqb (rowAt l q .parent) p && same (rowAt l r .name) (rowAt l q .name))) ∷
       kindOk (rowAt l r .kind) ∷ []
 
@@ -127,7 +127,8 @@ module _ (l : Listing) where
       each l (λ r. allOf (rowTests (rowAt l r .parent) r)) ∷
       rulesOk (l .rules) ∷
       every isUnmarked (l .space) ∷
-      inRange 1 255 (l .byte) ∷ []
+      inRange 1 255 (l .byte) ∷
+      begins isNameStart isNamePart (rowAt l 1 .name) ∷ []
 
   -- the columns that follow, at row r
   unfoldable pub derivedTests : List ℕ → ℕ → List Bool

@@ -1,7 +1,7 @@
 -- What a well-formed list keeps to, rule by rule in document 01's order. Assumes nothing.
 use mathlib.Core.Path.{_≡_}
 use mathlib.Core.Bool.{true}
-use mathlib.Core.Logic.{_≢_}
+use mathlib.Core.Logic.{_≢_, _⊎_}
 use mathlib.Core.List.{List, [], _∷_}
 use Prim.Native.Nat.{ℕ, _≤_, _<_}
 use lib.ListN.{length}
@@ -58,8 +58,9 @@ pub record WellFormed (l : Listing) : Type 0 where
   pub before : (p r : ℕ) → Child l p r → p < r
   pub parents : (p r : ℕ) → Child l p r → 0 < p → isGroup (rowAt l p .kind) ≡ true
   pub filled : (p r : ℕ) → Child l p r → isGroup (rowAt l r .kind) ≡ true → (q : ℕ) × Child l r q
-  -- "names by the XML rules below, different among siblings"
-  pub names : (p r : ℕ) → Child l p r → Begins isNameStart isNamePart (rowAt l r .name)
+  -- "names by the XML rules below, different among siblings"; a row that no file may have any more has none, but the root has one
+  pub names : (p r : ℕ) → Child l p r → (rowAt l r .name ≡ []) ⊎ Begins isNameStart isNamePart (rowAt l r .name)
+  pub rootName : Begins isNameStart isNamePart (rowAt l 1 .name)
   pub apart : (p r q : ℕ) → Child l p r → Child l p q → rowAt l r .name ≡ rowAt l q .name → r ≡ q
   -- "counts of the four forms used here, none within a choice"
   pub counted : (p r : ℕ) → Child l p r → rowAt l p .kind ≡ group → rowAt l r .count ≢ alternative

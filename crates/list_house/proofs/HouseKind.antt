@@ -12,10 +12,10 @@ use Rattle.list.specs.Table.{cell}
 use Rattle.list.specs.Within.{Among}
 use Rattle.list.proofs.rows.Next.{row-past}
 use Rattle.list.proofs.rows.Cells.{no-row}
-use Rattle.list_house.specs.House.{house, report}
+use Rattle.list_house.specs.House.{house, storedReport}
 use Rattle.list_house.specs.mirror.HouseTable.{houseRows}
-use Rattle.list_house.proofs.HouseSound.{house-well, report-well}
-use Rattle.list_house.proofs.Lists.{each-stored}
+use Rattle.list_house.proofs.HouseSound.{house-well, storedReport-well}
+use Rattle.list_house.proofs.Lists.{each-stored, house-within}
 use Rattle.list_house.specs.Kind.{numberOf, houseKind}
 use Rattle.list_house.specs.Lists.{stored}
 
@@ -35,15 +35,15 @@ kind-column r h = elim (decLt 255 r) [
   | yes l ↦ sym (kind-past (suc (size house)) refl r (omega (arith, house-well .bytes))) ∙ no-row houseRows r 2 (omega arith) l
 ]
 
-report-test : every (λ r. eqb (numberOf (rowAt report r .kind)) (houseKind r)) 0 256 ≡ true
-unfolding rowAt house report
+report-test : every (λ r. eqb (numberOf (rowAt storedReport r .kind)) (houseKind r)) 0 256 ≡ true
+unfolding rowAt house storedReport
 report-test = refl
 
 -- the lists of images have rows of the same kinds, but for an ENUM's words
 pub stored-kind : (l : Listing) → Among l stored → (r : ℕ) → numberOf (rowAt l r .kind) ≡ houseKind r
-stored-kind = each-stored (λ l. (r : ℕ) → numberOf (rowAt l r .kind) ≡ houseKind r) (λ r. refl) (λ r. elim (decLt 255 r) [
-  | no h ↦ eqb-true (numberOf (rowAt report r .kind)) (houseKind r) (passes (λ y. eqb (numberOf (rowAt report y .kind)) (houseKind y)) 0 256 report-test r (omega arith) (omega arith))
-  | yes h ↦ ap (λ (x : Row). numberOf (x .kind)) (row-past report r (omega (arith, report-well .bytes))) ∙ kind-past (suc (size house)) refl r (omega (arith, house-well .bytes))
+stored-kind = each-stored (λ l. (r : ℕ) → numberOf (rowAt l r .kind) ≡ houseKind r) (λ r. ap numberOf (sym (house-within .kinds r))) (λ r. elim (decLt 255 r) [
+  | no h ↦ eqb-true (numberOf (rowAt storedReport r .kind)) (houseKind r) (passes (λ y. eqb (numberOf (rowAt storedReport y .kind)) (houseKind y)) 0 256 report-test r (omega arith) (omega arith))
+  | yes h ↦ ap (λ (x : Row). numberOf (x .kind)) (row-past storedReport r (omega (arith, storedReport-well .bytes))) ∙ kind-past (suc (size house)) refl r (omega (arith, house-well .bytes))
 ])
 
 -- a number below a leaf's is a group's

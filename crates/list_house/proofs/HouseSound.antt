@@ -14,10 +14,50 @@ use Rattle.list.specs.Test.{every, begins, among, wordsOk, rowTests, ruleTests,
 use Rattle.list.specs.EachRow.{EachRow}
 use Rattle.list.proofs.sound.EachRow.{each-row}
 use Rattle.list.proofs.sound.Sound.{is-sound}
-use Rattle.list_house.specs.House.{house, report}
-use Rattle.list_house.specs.mirror.HouseTable.{houseRows, reportRows, housePool}
+use Rattle.list_house.specs.House.{storedHouse, storedReport, house, report}
+use Rattle.list_house.specs.mirror.HouseTable.{storedHouseRows, storedReportRows, houseRows, reportRows, housePool}
 
--- ---- camt.053.001.08
+-- ---- camt.053.001.08 as images keep to it
+
+pub storedHouse-is : listOf storedHouseRows housePool ≡ storedHouse
+unfolding storedHouse storedHouseRows housePool cell words rowOf rowsFrom rulesFrom listOf
+storedHouse-is = refl
+
+storedHouse-test : sound storedHouseRows housePool ≡ true
+unfolding storedHouseRows housePool cell words rowOf rowsFrom rulesFrom listOf same isCapital isUnmarked isNameStart isNamePart firstFrom rowAt nextDue nextChild firstOf secondOf levelIn every begins among wordsOk rowTests ruleTests derivedTests well derived sound
+storedHouse-test = refl
+
+pub storedHouse-sound : Sound storedHouseRows housePool
+storedHouse-sound = is-sound storedHouseRows housePool storedHouse-test
+
+pub storedHouse-well : WellFormed storedHouse
+storedHouse-well = rw storedHouse-is at (storedHouse-sound .well)
+
+-- and so every row keeps to the rules
+pub storedHouse-row : (p r : ℕ) → Child storedHouse p r → EachRow storedHouse p r
+storedHouse-row p r c = each-row storedHouse storedHouse-well p r c
+
+-- ---- camt.052.001.08 as images keep to it
+
+pub storedReport-is : listOf storedReportRows housePool ≡ storedReport
+unfolding storedReport storedReportRows housePool cell words rowOf rowsFrom rulesFrom listOf
+storedReport-is = refl
+
+storedReport-test : sound storedReportRows housePool ≡ true
+unfolding storedReportRows housePool cell words rowOf rowsFrom rulesFrom listOf same isCapital isUnmarked isNameStart isNamePart firstFrom rowAt nextDue nextChild firstOf secondOf levelIn every begins among wordsOk rowTests ruleTests derivedTests well derived sound
+storedReport-test = refl
+
+pub storedReport-sound : Sound storedReportRows housePool
+storedReport-sound = is-sound storedReportRows housePool storedReport-test
+
+pub storedReport-well : WellFormed storedReport
+storedReport-well = rw storedReport-is at (storedReport-sound .well)
+
+-- and so every row keeps to the rules
+pub storedReport-row : (p r : ℕ) → Child storedReport p r → EachRow storedReport p r
+storedReport-row p r c = each-row storedReport storedReport-well p r c
+
+-- ---- camt.053.001.08 as files are asked
 
 pub house-is : listOf houseRows housePool ≡ house
 unfolding house houseRows housePool cell words rowOf rowsFrom rulesFrom listOf
@@ -37,7 +77,7 @@ house-well = rw house-is at (house-sound .well)
 pub house-row : (p r : ℕ) → Child house p r → EachRow house p r
 house-row p r c = each-row house house-well p r c
 
--- ---- camt.052.001.08
+-- ---- camt.052.001.08 as files are asked
 
 pub report-is : listOf reportRows housePool ≡ report
 unfolding report reportRows housePool cell words rowOf rowsFrom rulesFrom listOf

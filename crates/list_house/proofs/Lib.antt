@@ -7,3 +7,5 @@ pub mod HouseKind
 pub mod Arms
 -- what files are asked lies within what images keep to
 pub mod Lists
+-- what the lists of files have given up
+pub mod Retired

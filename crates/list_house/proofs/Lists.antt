@@ -1,9 +1,10 @@
--- The lists of files and of images: each is what its table says, and is told by its kind byte and by its namespace. Assumes nothing.
+-- The lists of files and of images: each is what its table says, and is told by its kind byte and by its namespace; those of files lie within those of images. Assumes nothing.
 use mathlib.Core.Path.{_≡_, refl, sym, _∙_, ap, subst}
 use mathlib.Core.Logic.{inl, inr}
 use mathlib.Core.Bool.{Bool, true, false, cond, true≢false}
 use mathlib.Core.List.{List}
 use Prim.Native.Nat.{ℕ}
+use native.Mathlib.Omega.{arith}
 use lib.Dec.{eqb}
 use Rattle.text.specs.Bytes.{ascii}
 use Rattle.text.specs.Lists.{same}
@@ -13,33 +14,42 @@ use Rattle.list.specs.WellFormed.{WellFormed}
 use Rattle.list.specs.Table.{listOf}
 use Rattle.list.specs.Sound.{Sound}
 use Rattle.list.specs.Laid.{laid}
-use Rattle.list.specs.Within.{Among, Kept}
+use Rattle.list.specs.Within.{Among, Within, Kept}
 use Rattle.list.proofs.Laid.{laid-list, laid-sound}
-use Rattle.list.proofs.Within.{within-itself}
-use Rattle.list_house.specs.House.{house, report}
-use Rattle.list_house.specs.mirror.HouseTable.{houseRows, reportRows, housePool}
+use Rattle.list.proofs.Changed.{altered-within}
+use Rattle.list_house.specs.House.{house, report, storedHouse, storedReport, rowsNarrower}
+use Rattle.list_house.specs.mirror.HouseTable.{houseRows, reportRows, storedHouseRows, storedReportRows, housePool}
 use Rattle.list_house.specs.mirror.Rows.{askedRows, keptRows}
-use Rattle.list_house.specs.Lists.{asked, stored}
-use Rattle.list_house.proofs.HouseSound.{house-is, house-sound, house-well, report-is, report-sound, report-well}
+use Rattle.list_house.specs.Lists.{asked, askedOf, stored}
+use Rattle.list_house.proofs.HouseSound.{house-is, house-sound, house-well, report-is, report-sound, report-well, storedHouse-is, storedHouse-sound, storedHouse-well, storedReport-is, storedReport-sound, storedReport-well}
 
 -- what holds of each list of files
-module _ (P : Listing → Type 0) where
-  pub each-asked : P house → P report → (l : Listing) → Among l asked → P l
-  each-asked h r l (inl e) = subst P (sym e) h
-  each-asked h r l (inr (inl e)) = subst P (sym e) r
-  each-asked h r l (inr (inr e)) = absurd e
+pub each-asked : (P : Listing → Type 0) → P house → P report → (l : Listing) → Among l asked → P l
+each-asked P h r l (inl e) = subst P (sym e) h
+each-asked P h r l (inr (inl e)) = subst P (sym e) r
+each-asked P h r l (inr (inr e)) = absurd e
 
 -- what holds of each list of images
-pub each-stored : (P : Listing → Type 0) → P house → P report → (l : Listing) → Among l stored → P l
-each-stored P = each-asked P
+pub each-stored : (P : Listing → Type 0) → P storedHouse → P storedReport → (l : Listing) → Among l stored → P l
+each-stored P h r l (inl e) = subst P (sym e) h
+each-stored P h r l (inr (inl e)) = subst P (sym e) r
+each-stored P h r l (inr (inr e)) = absurd e
 
 pub house-byte : house .byte ≡ 1
-unfolding house
+unfolding house storedHouse
 house-byte = refl
 
 pub report-byte : report .byte ≡ 2
-unfolding report
+unfolding report storedReport
 report-byte = refl
+
+pub stored-house-byte : storedHouse .byte ≡ 1
+unfolding storedHouse
+stored-house-byte = refl
+
+pub stored-report-byte : storedReport .byte ≡ 2
+unfolding storedReport
+stored-report-byte = refl
 
 pub house-asked : Among house asked
 house-asked = inl refl
@@ -47,12 +57,33 @@ house-asked = inl refl
 pub report-asked : Among report asked
 report-asked = inr (inl refl)
 
--- every list of files lies within one of images
+pub house-stored : Among storedHouse stored
+house-stored = inl refl
+
+pub report-stored : Among storedReport stored
+report-stored = inr (inl refl)
+
+-- ---- every list of files lies within one of images
+
+pub house-within : Within house storedHouse
+unfolding rowAt house storedHouse rowsNarrower
+house-within = altered-within storedHouse rowsNarrower (
+  record { parent = refl; kind = refl; count = λ n h. omega arith },
+  (record { parent = refl; kind = refl; count = λ n h. h }, (record { parent = refl; kind = refl; count = λ n h. h }, tt)),
+)
+
+pub report-within : Within report storedReport
+unfolding rowAt report storedReport rowsNarrower
+report-within = altered-within storedReport rowsNarrower (
+  record { parent = refl; kind = refl; count = λ n h. omega arith },
+  (record { parent = refl; kind = refl; count = λ n h. h }, (record { parent = refl; kind = refl; count = λ n h. h }, tt)),
+)
+
 pub asked-kept : (l : Listing) → Among l asked → Kept l stored
 asked-kept =
     each-asked (λ l. Kept l stored)
-    (record { list = house; among = house-asked; within = within-itself house })
-    (record { list = report; among = report-asked; within = within-itself report })
+    (record { list = storedHouse; among = house-stored; within = house-within })
+    (record { list = storedReport; among = report-stored; within = report-within })
 
 -- ---- of files: the table of a kind byte says its list, is sound, and the list is well-formed
 
@@ -72,24 +103,48 @@ asked-sound b = go (eqb b 2)
 pub asked-well : (l : Listing) → Among l asked → WellFormed l
 asked-well = each-asked WellFormed house-well report-well
 
--- ---- of images, over 256 rows
+-- the list that a table says is that of its kind byte
+pub asked-of : (b : ℕ) → listOf (askedRows b) housePool ≡ askedOf b
+asked-of b = go (eqb b 2)
+  where
+    go : (x : Bool) → listOf (cond x reportRows houseRows) housePool ≡ cond x report house
+    go true = report-is
+    go false = house-is
+
+-- ---- of images, and over 256 rows
+
+pub stored-is : (l : Listing) → Among l stored → listOf (keptRows (l .byte)) housePool ≡ l
+stored-is =
+    each-stored (λ l. listOf (keptRows (l .byte)) housePool ≡ l)
+    (ap (λ (b : ℕ). listOf (keptRows b) housePool) stored-house-byte ∙ storedHouse-is)
+    (ap (λ (b : ℕ). listOf (keptRows b) housePool) stored-report-byte ∙ storedReport-is)
+
+pub stored-sound : (b : ℕ) → Sound (keptRows b) housePool
+stored-sound b = go (eqb b 2)
+  where
+    go : (x : Bool) → Sound (cond x storedReportRows storedHouseRows) housePool
+    go true = storedReport-sound
+    go false = storedHouse-sound
 
 pub kept-is : (l : Listing) → Among l stored → listOf (laid (keptRows (l .byte))) housePool ≡ l
-kept-is l i = laid-list (keptRows (l .byte)) housePool ∙ asked-is l i
+kept-is l i = laid-list (keptRows (l .byte)) housePool ∙ stored-is l i
 
 pub kept-sound : (b : ℕ) → Sound (laid (keptRows b)) housePool
-kept-sound b = laid-sound (keptRows b) housePool (asked-sound b)
+kept-sound b = laid-sound (keptRows b) housePool (stored-sound b)
 
 pub kept-well : (l : Listing) → Among l stored → WellFormed l
-kept-well = asked-well
+kept-well = each-stored WellFormed storedHouse-well storedReport-well
 
 -- ---- a kind byte and a namespace tell the list; each root is called alike
 
+pub kinds-tell : (l m : Listing) → Among l asked → Among m asked → l .byte ≡ m .byte → l ≡ m
+kinds-tell l m i j e = sym (asked-is l i) ∙ ap (λ (b : ℕ). listOf (askedRows b) housePool) e ∙ asked-is m j
+
 pub bytes-tell : (l m : Listing) → Among l stored → Among m stored → l .byte ≡ m .byte → l ≡ m
-bytes-tell l m i j e = sym (asked-is l i) ∙ ap (λ (b : ℕ). listOf (askedRows b) housePool) e ∙ asked-is m j
+bytes-tell l m i j e = sym (stored-is l i) ∙ ap (λ (b : ℕ). listOf (keptRows b) housePool) e ∙ stored-is m j
 
 spaces-differ : same (house .space) (report .space) ≡ false
-unfolding house report same
+unfolding house report storedHouse storedReport same
 spaces-differ = refl
 
 differ : house .space ≡ report .space → ⊥
@@ -103,11 +158,11 @@ spaces-tell l m i j =
     l i
 
 house-root : rowAt house 1 .name ≡ ascii "Document"
-unfolding house rowAt
+unfolding house storedHouse rowsNarrower rowAt
 house-root = refl
 
 report-root : rowAt report 1 .name ≡ ascii "Document"
-unfolding report rowAt
+unfolding report storedReport rowsNarrower rowAt
 report-root = refl
 
 pub roots-alike : (l : Listing) → Among l asked → rowAt l 1 .name ≡ ascii "Document"

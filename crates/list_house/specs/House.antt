@@ -1,20 +1,15 @@
 -- "The house list": its rows, with their numbers at the right, its rule, its namespace. Assumes nothing.
 -- Written by tools/lists/make.
 use mathlib.Core.List.{List, [], _∷_}
-use Prim.Native.Nat.{ℕ, _-_}
+use Prim.Native.Nat.{ℕ}
 use Prim.Native.String.{String}
-use lib.ListN.{set}
 use Rattle.text.specs.Bytes.{ascii}
 use Rattle.list.specs.Listing.{ref, iban, ccy, bool, num, amt, date, dtm, txt, enum, Kind, group, choice, leaf, Count, one, optional, several, any, alternative, Row, both, Listing}
+use Rattle.list.specs.Changed.{changed, altered}
 
 -- "name, parent row, count, kind"
 abbrev row : String → ℕ → Count → Kind → Row
 row n p c k = record { name = ascii n; parent = p; count = c; kind = k }
-
--- rows of which some are others, by their numbers
-abbrev changed : List Row → List (ℕ × Row) → List Row
-changed rs [] = rs
-changed rs (c ∷ cs) = changed (set rs (c .0 - 1) (c .1)) cs
 
 unfoldable rowsListed : List Row
 rowsListed =
@@ -78,11 +73,23 @@ rowsListed =
     []
 
 -- "Rule on row 43 (..): rows 47 and 48 are both present or both absent"
-unfoldable pub house : Listing
+unfoldable pub storedHouse : Listing
 unfolding rowsListed
-house = record { rows = rowsListed; rules = both 43 47 48 ∷ []; space = ascii "urn:iso:std:iso:20022:tech:xsd:camt.053.001.08"; byte = 1 }
+storedHouse = record { rows = rowsListed; rules = both 43 47 48 ∷ []; space = ascii "urn:iso:std:iso:20022:tech:xsd:camt.053.001.08"; byte = 1 }
 
--- camt.052.001.08: the rows of `house`, but for these
+-- what files are asked of some of these rows; no file may have a row without a name
+unfoldable pub rowsNarrower : List (ℕ × Row)
+rowsNarrower =
+    (35, row "Domn" 34 one group) ∷
+    (40, row "" 34 optional group) ∷
+    (41, row "" 40 one (leaf (txt 35))) ∷
+    []
+
+unfoldable pub house : Listing
+unfolding storedHouse rowsNarrower
+house = altered storedHouse rowsNarrower
+
+-- camt.052.001.08: the rows of `rowsListed`, but for these
 unfoldable reportListed : List Row
 unfolding rowsListed
 reportListed =
@@ -96,6 +103,10 @@ reportListed =
     [])
 
 -- "Rule on row 43 (..): rows 47 and 48 are both present or both absent"
-unfoldable pub report : Listing
+unfoldable pub storedReport : Listing
 unfolding reportListed
-report = record { rows = reportListed; rules = both 43 47 48 ∷ []; space = ascii "urn:iso:std:iso:20022:tech:xsd:camt.052.001.08"; byte = 2 }
+storedReport = record { rows = reportListed; rules = both 43 47 48 ∷ []; space = ascii "urn:iso:std:iso:20022:tech:xsd:camt.052.001.08"; byte = 2 }
+
+unfoldable pub report : Listing
+unfolding storedReport rowsNarrower
+report = altered storedReport rowsNarrower

@@ -319,7 +319,33 @@ const REPLACED_IN_EVERY_ROW: &[Replaced] = &[
     &[("<ValDt><Dt>2024-03-01</Dt></ValDt>", "<BookgDt><Dt>2024-03-01</Dt></BookgDt>")],
     &[("<BkTxCd>", "<BkTxCd><Cd>X</Cd>")],
     &[("</Domn>", "</Domn><Domn/>")],
+    // "Files .. with row 40 are now refused with 5 and the parent row": alone, after Domn, before it, twice, whatever it is.
+    &[(DOMAIN, "<Prtry><Cd>X7</Cd></Prtry>")],
+    &[("</Domn>", "</Domn><Prtry><Cd>X7</Cd></Prtry>")],
+    &[("<Domn>", "<Prtry><Cd>X7</Cd></Prtry><Domn>")],
+    &[("</Domn>", "</Domn><Prtry><Cd>X7</Cd></Prtry><Prtry><Cd>X7</Cd></Prtry>")],
+    &[(DOMAIN, " <Prtry/>")],
+    &[("</Domn>", "</Domn><Prtry></Prtry>")],
+    &[("</Domn>", "</Domn><Prtry a=''>x</Prtry>")],
+    &[("</Domn>", "</Domn><prtry/>")],
+    // Elsewhere it was no child before.
+    &[("</Domn>", "<Prtry><Cd>X7</Cd></Prtry></Domn>")],
+    &[("</BkTxCd>", "</BkTxCd><Prtry><Cd>X7</Cd></Prtry>")],
+    // "Domn becomes 1..1": without it 11, or 10, or 5, and never 8.
+    &[(DOMAIN, "")],
+    &[(DOMAIN, "\n ")],
+    &[(DOMAIN, "X7")],
+    &[(DOMAIN, "<Cd>X7</Cd>")],
+    // The first in document order.
+    &[("PMNT", "PMNTS"), ("</Domn>", "</Domn><Prtry><Cd>X7</Cd></Prtry>")],
+    &[("PMNT", "PMNTS"), ("<Domn>", "<Prtry><Cd>X7</Cd></Prtry><Domn>")],
+    &[("<BkTxCd>", "<BkTxCd a=''>"), (DOMAIN, "<Prtry><Cd>X7</Cd></Prtry>")],
+    &[("R 7", "R//7"), (DOMAIN, "<Prtry><Cd>X7</Cd></Prtry>")],
+    &[(DOMAIN, "<Prtry><Cd>X7</Cd></Prtry>"), ("E2E", "E//E")],
 ];
+
+/// The transaction code of the messages with every row.
+const DOMAIN: &str = "<Domn><Cd>PMNT</Cd><Fmly><Cd>RCDT</Cd><SubFmlyCd>ESCT</SubFmlyCd></Fmly></Domn>";
 
 /// Changes to the least report.
 const REPLACED_IN_LEAST_REPORT: &[Replaced] = &[
@@ -381,6 +407,14 @@ const REPLACED_IN_REPORT: &[Replaced] = &[
     // The rule on row 43.
     &[("</Refs><Amt Ccy=\"EUR\">12.50</Amt>", "</Refs>")],
     &[("12.50</Amt><CdtDbtInd>DBIT</CdtDbtInd><RltdPties>", "12.50</Amt><RltdPties>")],
+    // An old transaction code in a report.
+    &[(DOMAIN, "<Prtry><Cd>X7</Cd></Prtry>")],
+    &[("</Domn>", "</Domn><Prtry><Cd>X7</Cd></Prtry>")],
+    &[("<Domn>", "<Prtry><Cd>X7</Cd></Prtry><Domn>")],
+    &[("<Domn><Cd>A</Cd><Fmly><Cd>B</Cd><SubFmlyCd>C</SubFmlyCd></Fmly></Domn>", "<Prtry><Cd>X</Cd></Prtry>")],
+    &[("</Domn>", "</Domn><Prtry/>"), ("E2E", "E//E")],
+    &[("</Domn>", "</Domn><Domn/>")],
+    &[(DOMAIN, "")],
 ];
 
 /// A text with pieces replaced, each of which stands in it.

@@ -9,7 +9,7 @@ pub const WHOLE: &str = concat!(
     "<Dt><Dt>2024-02-29</Dt></Dt></Bal></Stmt></BkToCstmrStmt></Document>",
 );
 
-/// A message with all 57 rows. The first statement has an IBAN and everything that is optional, the second is short and has
+/// A message with every row of files. The first statement has an IBAN and everything that is optional, the second is short and has
 /// the other kind of account.
 pub const EVERY_ROW: &str = concat!(
     "<Document xmlns=\"urn:iso:std:iso:20022:tech:xsd:camt.053.001.08\"><BkToCstmrStmt>",
@@ -22,7 +22,7 @@ pub const EVERY_ROW: &str = concat!(
     "<Dt><Dt>2024-02-29</Dt></Dt></Bal>",
     "<Ntry><Amt Ccy=\"EUR\">750.25</Amt><CdtDbtInd>CRDT</CdtDbtInd><RvslInd>false</RvslInd><Sts><Cd>BOOK</Cd></Sts>",
     "<BookgDt><Dt>2024-02-29</Dt></BookgDt><ValDt><Dt>2024-03-01</Dt></ValDt><AcctSvcrRef>R 7</AcctSvcrRef>",
-    "<BkTxCd><Domn><Cd>PMNT</Cd><Fmly><Cd>RCDT</Cd><SubFmlyCd>ESCT</SubFmlyCd></Fmly></Domn><Prtry><Cd>X7</Cd></Prtry></BkTxCd>",
+    "<BkTxCd><Domn><Cd>PMNT</Cd><Fmly><Cd>RCDT</Cd><SubFmlyCd>ESCT</SubFmlyCd></Fmly></Domn></BkTxCd>",
     "<NtryDtls><TxDtls><Refs><EndToEndId>E2E</EndToEndId><MndtId>MND</MndtId></Refs>",
     "<Amt Ccy=\"EUR\">750.25</Amt><CdtDbtInd>CRDT</CdtDbtInd>",
     "<RltdPties><Dbtr><Pty><Nm>Bäcker &amp; Söhne</Nm></Pty></Dbtr><DbtrAcct><Id><IBAN>DE89370400440532013000</IBAN></Id></DbtrAcct>",
@@ -39,7 +39,7 @@ pub const REPORT_LEAST: &str = concat!(
     "<Rpt><Id>R1</Id><Acct><Id><Othr><Id>9</Id></Othr></Id></Acct></Rpt></BkToCstmrAcctRpt></Document>",
 );
 
-/// A report with all 57 rows, and each word that a statement has not. The first report of three has an IBAN and everything that is
+/// A report with every row of files, and each word that a statement has not. The first report of three has an IBAN and everything that is
 /// optional, the second no balance and an entry that is pending, the third two balances.
 pub const REPORT_EVERY_ROW: &str = concat!(
     "<Document xmlns=\"urn:iso:std:iso:20022:tech:xsd:camt.052.001.08\"><BkToCstmrAcctRpt>",
@@ -50,13 +50,14 @@ pub const REPORT_EVERY_ROW: &str = concat!(
     "<Dt><Dt>2024-03-01</Dt></Dt></Bal>",
     "<Ntry><Amt Ccy=\"EUR\">12.50</Amt><CdtDbtInd>DBIT</CdtDbtInd><RvslInd>true</RvslInd><Sts><Cd>PDNG</Cd></Sts>",
     "<BookgDt><Dt>2024-03-01</Dt></BookgDt><ValDt><Dt>2024-03-02</Dt></ValDt><AcctSvcrRef>R 8</AcctSvcrRef>",
-    "<BkTxCd><Domn><Cd>PMNT</Cd><Fmly><Cd>RCDT</Cd><SubFmlyCd>ESCT</SubFmlyCd></Fmly></Domn><Prtry><Cd>X7</Cd></Prtry></BkTxCd>",
+    "<BkTxCd><Domn><Cd>PMNT</Cd><Fmly><Cd>RCDT</Cd><SubFmlyCd>ESCT</SubFmlyCd></Fmly></Domn></BkTxCd>",
     "<NtryDtls><TxDtls><Refs><EndToEndId>E2E</EndToEndId><MndtId>MND</MndtId></Refs>",
     "<Amt Ccy=\"EUR\">12.50</Amt><CdtDbtInd>DBIT</CdtDbtInd>",
     "<RltdPties><Dbtr><Pty><Nm>Bäcker &amp; Söhne</Nm></Pty></Dbtr><DbtrAcct><Id><IBAN>DE89370400440532013000</IBAN></Id></DbtrAcct>",
     "</RltdPties><RmtInf><Ustrd>Miete März</Ustrd><Ustrd>Top 4</Ustrd></RmtInf></TxDtls></NtryDtls></Ntry></Rpt>",
     "<Rpt><Id>R2</Id><Acct><Id><Othr><Id>9 / 1</Id></Othr></Id></Acct>",
-    "<Ntry><Amt Ccy=\"EUR\">1</Amt><CdtDbtInd>CRDT</CdtDbtInd><Sts><Cd>BOOK</Cd></Sts><BkTxCd><Prtry><Cd>X</Cd></Prtry></BkTxCd></Ntry></Rpt>",
+    "<Ntry><Amt Ccy=\"EUR\">1</Amt><CdtDbtInd>CRDT</CdtDbtInd><Sts><Cd>BOOK</Cd></Sts>",
+    "<BkTxCd><Domn><Cd>A</Cd><Fmly><Cd>B</Cd><SubFmlyCd>C</SubFmlyCd></Fmly></Domn></BkTxCd></Ntry></Rpt>",
     "<Rpt><Id>R3</Id><Acct><Id><Othr><Id>9 / 2</Id></Othr></Id></Acct>",
     "<Bal><Tp><CdOrPrtry><Cd>PRCD</Cd></CdOrPrtry></Tp><Amt Ccy=\"USD\">0</Amt><CdtDbtInd>CRDT</CdtDbtInd>",
     "<Dt><Dt>2024-02-29</Dt></Dt></Bal>",
@@ -80,7 +81,7 @@ mod tests {
     fn has_every_row(message: &str, list: &List) {
         let image = image(message);
         assert_eq!(image.list, list);
-        for row in list.rows {
+        for row in list.file_rows {
             assert!(image.items.iter().any(|item| item.row == row.number), "row {}", row.number);
         }
     }

@@ -11,7 +11,7 @@ use crate::values;
 pub fn damage(draft: &mut Draft, random: &mut Random) {
     let paths = draft.paths();
     let path = &paths[random.below(paths.len())];
-    match random.below(19) {
+    match random.below(20) {
         0 => leave_out(draft, path),
         1 => double(draft, path),
         2 => swap(draft, &paths, random),
@@ -27,6 +27,7 @@ pub fn damage(draft: &mut Draft, random: &mut Random) {
         15 => second_choice(draft, &paths, random),
         16 if random.once_in(2) => root(draft, random),
         17 if random.once_in(2) => other_kind(draft, &paths, random),
+        18 => old_code(draft, &paths, random),
         _ => leave_out_required(draft, &paths, random),
     }
 }
@@ -238,6 +239,20 @@ fn other_kind(draft: &mut Draft, paths: &[Path], random: &mut Random) {
     }
 }
 
+/// Code 5: an old transaction code alone, or before or after the present one.
+fn old_code(draft: &mut Draft, paths: &[Path], random: &mut Random) {
+    let Some(path) = some_path(draft, paths, random, |element| element.name == "BkTxCd") else {
+        return leave_out_required(draft, paths, random);
+    };
+    let code = Draft::leaf("Cd", &values::made::valid(Kind::Txt(35), random));
+    let old = Draft { parts: vec![Part::Child(code)], ..Draft::new("Prtry") };
+    let parts = &mut draft.at(&path).parts;
+    if random.once_in(3) {
+        parts.clear();
+    }
+    parts.insert(random.below(parts.len() + 1), Part::Child(old));
+}
+
 /// One attribute gets this name, if no other has it.
 fn rename_attribute(element: &mut Draft, name: &str, random: &mut Random) {
     if element.attributes.iter().all(|(other, _)| other != name) && !element.attributes.is_empty() {
@@ -289,7 +304,7 @@ fn row_at(draft: &Draft, path: &[usize]) -> Option<&'static Row> {
             return None;
         };
         element = child;
-        row = list.children(row.number).find(|row| row.name == element.name)?;
+        row = list.file_children(row.number).find(|row| row.name == element.name)?;
     }
     Some(row)
 }

@@ -53,7 +53,7 @@ fn element(list: &List, row: &Row, random: &mut Random, size: Size) -> Draft {
 
 /// Every group gets at least one child, a choice exactly one, rows 47 and 48 come together or not at all.
 fn group(list: &List, row: &Row, random: &mut Random, size: Size) -> Draft {
-    let rows: Vec<&Row> = list.children(row.number).collect();
+    let rows: Vec<&Row> = list.file_children(row.number).collect();
     let forced = random.below(rows.len());
     let both = chosen(random, size);
     let mut draft = Draft::new(row.name);

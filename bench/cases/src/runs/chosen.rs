@@ -1,8 +1,8 @@
 //! Hand-chosen runs, and the systematic ones around an image of each version and kind.
 
-use independent::list::{Kind, List};
+use independent::list::{Kind, List, REPORT, STATEMENT};
 
-use super::{former, front_of, image_of, items_of, put_together, take_apart, with_front, FRONTS};
+use super::{every_row, former, front_of, image_of, items_of, put_together, take_apart, with_front, FRONTS};
 use crate::feed::Case;
 use crate::message::chosen::{EVERY_ROW, REPORT_EVERY_ROW, REPORT_LEAST, WHOLE};
 
@@ -15,8 +15,8 @@ pub fn fixed_set() -> Vec<Case> {
 
 /// The runs of the fixed set that are read.
 pub fn reads() -> Vec<Vec<u8>> {
-    let [whole, every_row, report, least] =
-        [WHOLE, EVERY_ROW, REPORT_EVERY_ROW, REPORT_LEAST].map(|file| image_of(file.as_bytes()));
+    let [whole, least] = [WHOLE, REPORT_LEAST].map(|file| image_of(file.as_bytes()));
+    let (every_row, report) = (every_row(&STATEMENT), every_row(&REPORT));
     let mut runs: Vec<Vec<u8>> = [&whole, &former(&whole), &least].into_iter().flat_map(|image| cuts(image)).collect();
     runs.extend([&whole, &least].into_iter().flat_map(|image| heads(image)));
     runs.extend(joined(&whole, &every_row));
@@ -115,7 +115,8 @@ fn items_of_another_kind() -> Vec<Vec<u8>> {
         REPORT_EVERY_ROW.replace("PDNG", "BOOK"),
         EVERY_ROW.to_string(),
     ];
-    let images = messages.map(|message| image_of(message.as_bytes()));
+    let of_files = messages.map(|message| image_of(message.as_bytes()));
+    let images = [&of_files[..], &[every_row(&REPORT), every_row(&STATEMENT)]].concat();
     images.iter().flat_map(|image| FRONTS.map(|(front, _)| with_front(front, image))).collect()
 }
 
@@ -296,13 +297,21 @@ fn odd_times() -> Vec<Vec<u8>> {
 /// Orders of items in one entry's details, written as rows; each begins with a whole statement or report, and entry.
 fn orders(front: &[u8], list: &List) -> Vec<Vec<u8>> {
     let up_to_entry = [1, 2, 3, 4, 5, 6, 7, 9, 10, 11, 15, 16, 17, 18, 19, 20, 21, 22, 23, 24, 25, 27, 28, 34];
-    let details: [&[u8]; 36] = [
+    let details: [&[u8]; 44] = [
         &[],
         &[35],
         &[35, 36],
         &[35, 36, 37],
         &[35, 36, 37, 38],
         &[35, 36, 37, 38, 39],
+        &[35, 36, 37, 38, 39, 35, 36, 37, 38, 39],
+        &[35, 36, 37, 38, 39, 40],
+        &[35, 36, 37, 38, 39, 40, 41],
+        &[35, 36, 37, 38, 39, 40, 41, 41],
+        &[35, 36, 37, 38, 39, 40, 41, 42, 43, 44, 45],
+        &[35, 36, 37, 38, 39, 41],
+        &[35, 36, 37, 40, 41],
+        &[41],
         &[40],
         &[40, 41],
         &[40, 41, 35],
@@ -356,8 +365,8 @@ fn orders(front: &[u8], list: &List) -> Vec<Vec<u8>> {
 
 /// Picks: every row once of each version and kind, rows that are no leaves, later and missing items, and runs that are no images.
 fn picks() -> Vec<Case> {
-    let [whole, every_row, report, least] =
-        [WHOLE, EVERY_ROW, REPORT_EVERY_ROW, REPORT_LEAST].map(|file| image_of(file.as_bytes()));
+    let [whole, least] = [WHOLE, REPORT_LEAST].map(|file| image_of(file.as_bytes()));
+    let (every_row, report) = (every_row(&STATEMENT), every_row(&REPORT));
     let mut cases = Vec::new();
     for image in [&every_row, &former(&every_row), &report] {
         cases.extend((0..=58).map(|row| Case::pick(row, 0, &image[..])));

@@ -6,9 +6,10 @@ mod damage;
 pub use chosen::{fixed_set, reads};
 pub use damage::damaged;
 
-use independent::content::END;
+use independent::content::{value_bytes, END};
 use independent::list::{List, REPORT, STATEMENT};
 use independent::read::first_image;
+use independent::types::Value;
 
 use crate::message::chosen::{EVERY_ROW, REPORT_EVERY_ROW};
 
@@ -56,10 +57,48 @@ pub fn former(image: &[u8]) -> Vec<u8> {
     with_front(FORMER_FRONT, image)
 }
 
-/// An item for each of these rows, as the message of a list with every row has it first.
-pub fn items_of(list: &List, rows: &[u8]) -> Vec<Vec<u8>> {
+/// Where an old transaction code stands.
+#[derive(Clone, Copy, PartialEq, Eq, Debug)]
+pub enum Old {
+    /// In place of the present one.
+    Alone,
+    /// After it.
+    Beside,
+}
+
+/// The image of a file with an old transaction code in its entries, as no file may have one any more: for each entry, by its number,
+/// where it stands and what it says.
+pub fn with_old_codes(image: &[u8], mut code: impl FnMut(usize) -> Option<(Old, String)>) -> Vec<u8> {
+    let mut items = take_apart(image);
+    let groups: Vec<usize> = (0..items.len()).filter(|at| items[*at][0] == TRANSACTION_CODE).collect();
+    let codes: Vec<_> = (0..groups.len()).map(&mut code).collect();
+    // From the last to the first, so that the places before stay.
+    for (group, (old, text)) in groups.into_iter().zip(codes).rev().filter_map(|(group, code)| Some((group, code?))) {
+        let after = group + 1 + PRESENT_CODE_ITEMS;
+        let from = if old == Old::Alone { group + 1 } else { after };
+        let value = value_bytes(&Value::Text(text));
+        items.splice(from..after, [vec![40], [&[41], &value[..]].concat()]);
+    }
+    put_together(front_of(image), &items)
+}
+
+/// The row of BkTxCd, and how many items the present code in it has: Domn and what stands in it.
+const TRANSACTION_CODE: u8 = 34;
+const PRESENT_CODE_ITEMS: usize = 5;
+
+/// The image with every row of a list: that of the message with every row of files, and old transaction codes. The first stands beside
+/// the present one, any other alone.
+pub fn every_row(list: &List) -> Vec<u8> {
     let message = if *list == REPORT { REPORT_EVERY_ROW } else { EVERY_ROW };
-    let every_row = take_apart(&image_of(message.as_bytes()));
+    with_old_codes(&image_of(message.as_bytes()), |number| match number {
+        0 => Some((Old::Beside, "X7".to_string())),
+        _ => Some((Old::Alone, "X".to_string())),
+    })
+}
+
+/// An item for each of these rows, as the image of a list with every row has it first.
+pub fn items_of(list: &List, rows: &[u8]) -> Vec<Vec<u8>> {
+    let every_row = take_apart(&every_row(list));
     rows.iter().map(|row| every_row.iter().find(|item| item[0] == *row).expect("every row").clone()).collect()
 }
 

@@ -95,7 +95,7 @@ fn collect(
     }
     for (index, part) in draft.parts.iter().enumerate() {
         if let Part::Child(child) = part {
-            let row = list.children(row.number).find(|row| row.name == child.name).expect("an undamaged message");
+            let row = list.file_children(row.number).find(|row| row.name == child.name).expect("an undamaged message");
             path.push(index);
             collect(list, child, row, path, wanted, found);
             path.pop();
@@ -109,7 +109,7 @@ fn some(draft: &Draft, random: &mut Random, wanted: impl Fn(&Row, &Draft) -> boo
     found[random.below(found.len())].clone()
 }
 
-/// 5: an element of the schema that the house list has not.
+/// 5: an element of the schema that the house list has not, or files no longer.
 fn strange_child(draft: &mut Draft, random: &mut Random) -> String {
     let strangers = [
         (3, "MsgRcpt", 2),
@@ -117,15 +117,23 @@ fn strange_child(draft: &mut Draft, random: &mut Random) -> String {
         (9, "Svcr", 2),
         (15, "Avlbty", 4),
         (23, "NtryRef", 0),
+        (34, OLD_CODE, 1),
         (43, "AddtlTxInf", 9),
         (44, "InstrId", 0),
     ];
     let (path, row) = some(draft, random, |row, _| strangers.iter().any(|(parent, ..)| *parent == row.number));
     let (_, name, at) = strangers.iter().find(|(parent, ..)| *parent == row.number).expect("one of them");
     let parts = &mut draft.at(&path).parts;
-    parts.insert((*at).min(parts.len()), Part::Child(Draft::leaf(name, "1")));
-    format!("{name} in {}, which the house list has not", row.name)
+    let (stranger, why) = match *name {
+        OLD_CODE => (Draft { parts: vec![Part::Child(Draft::leaf("Cd", "1"))], ..Draft::new(name) }, "is retired"),
+        _ => (Draft::leaf(name, "1"), "the house list has not"),
+    };
+    parts.insert((*at).min(parts.len()), Part::Child(stranger));
+    format!("{name} in {}, which {why}", row.name)
 }
+
+/// "BkTxCd/Prtry was let in for a time"
+const OLD_CODE: &str = "Prtry";
 
 /// 6: two neighbours of different rows, the other way round.
 fn swapped(draft: &mut Draft, random: &mut Random) -> String {
@@ -157,7 +165,7 @@ fn doubled(draft: &mut Draft, random: &mut Random) -> String {
 /// 8: a required element left out of a group that has another.
 fn left_out(draft: &mut Draft, random: &mut Random) -> String {
     let list = list_of(draft);
-    let alone = |row: &Row| list.children(row.parent).filter(|sibling| sibling.count.required).count() < 2;
+    let alone = |row: &Row| list.file_children(row.parent).filter(|sibling| sibling.count.required).count() < 2;
     let (path, row) =
         some(draft, random, |row, _| row.parent > 1 && row.count.required && !row.count.repeats && !alone(row));
     let (parts, index) = draft.around(&path).expect("not the root");

@@ -1,12 +1,15 @@
 //! The fixed set of runs for the writer.
 
-use independent::list::List;
+use independent::list::{List, OLD_CODE};
 use independent::LIMIT;
 
 use super::{image_for_file_of, needed};
 use crate::feed::Case;
 use crate::message::chosen::{EVERY_ROW, REPORT_EVERY_ROW, REPORT_LEAST, WHOLE};
-use crate::runs::{former, image_of, items_of, put_together, reads, with_microseconds, FRONTS};
+use crate::runs::{
+    every_row, former, image_of, items_of, put_together, reads, take_apart, with_front, with_microseconds,
+    with_old_codes, Old, FRONTS,
+};
 use crate::values;
 
 /// Write cases only. The longest are the images of files at the limit.
@@ -23,7 +26,39 @@ pub fn fixed_set() -> Vec<Case> {
     cases.extend(refused().into_iter().zip([0, LIMIT].into_iter().cycle()).map(|(run, room)| Case::write(room, run)));
     cases.extend(at_the_limit());
     cases.extend(finer());
+    cases.extend(old());
     cases
+}
+
+/// "26, before 20, row 40, place of the first such item": alone and beside the present code, in each version and kind, in the first entry, in
+/// a later one and in all; with room and with none; where a date-time is finer too, where the file would be over the limit, and where the
+/// image is cut.
+fn old() -> Vec<Case> {
+    let report = image_of(REPORT_EVERY_ROW.as_bytes());
+    let code = |old: Old| Some((old, "X".to_string()));
+    let mut images = Vec::new();
+    for old in [Old::Alone, Old::Beside] {
+        images.push(with_old_codes(&report, |_| code(old)));
+        images.push(with_old_codes(&report, |number| code(old).filter(|_| number == 1)));
+        images.push(with_old_codes(&image_of(EVERY_ROW.as_bytes()), |_| code(old)));
+    }
+    // A report's words and balances are no statement's.
+    let mut runs: Vec<Vec<u8>> =
+        images.iter().flat_map(|image| FRONTS.map(|(front, _)| with_front(front, image))).collect();
+    runs.extend(FRONTS.map(|(front, list)| with_front(front, &every_row(list))));
+    runs.extend([0, 1, 1000].map(|microseconds| with_microseconds(&images[0], microseconds)));
+    runs.extend([0, 1, 1000].map(|microseconds| with_microseconds(&former(&images[2]), microseconds)));
+    let over = with_old_codes(&image_for_file_of(LIMIT + 1), |_| code(Old::Beside));
+    runs.push(with_microseconds(&over, 1));
+    runs.push(over);
+    runs.extend(followed(&images[1]));
+    runs.push([&image_of(WHOLE.as_bytes())[..], &images[0]].concat());
+    runs.extend((100..images[1].len()).step_by(7).map(|length| images[1][..length].to_vec()));
+    // The chosen runs of the reader that hold one.
+    let holds =
+        |run: &Vec<u8>| independent::read(run).is_accepted() && take_apart(run).iter().any(|item| item[0] == OLD_CODE);
+    runs.extend(reads().into_iter().filter(holds));
+    runs.into_iter().zip([LIMIT, 0].into_iter().cycle()).map(|(run, room)| Case::write(room, run)).collect()
 }
 
 /// "20, before 19": microseconds with each number of digits, with and without zeros at their end; with room and with none, and
@@ -72,19 +107,20 @@ fn at_the_limit() -> Vec<Case> {
 }
 
 /// The rows of a message up to its first transaction, without what can be left out.
-const BEFORE: [u8; 27] =
-    [1, 2, 3, 4, 5, 6, 7, 9, 10, 11, 15, 16, 17, 18, 19, 20, 21, 22, 23, 24, 25, 27, 28, 34, 40, 41, 42];
+const BEFORE: [u8; 30] =
+    [1, 2, 3, 4, 5, 6, 7, 9, 10, 11, 15, 16, 17, 18, 19, 20, 21, 22, 23, 24, 25, 27, 28, 34, 35, 36, 37, 38, 39, 42];
 
-/// A leaf of each kind, and the rows of a piece that holds it and can be repeated; a message, of the kind that it has once.
+/// A leaf of each kind, and the rows of a piece that holds it and can be repeated; a message, of the kind that it has once. What holds
+/// row 41 is read and not written.
 const PIECES: [(u8, &[u8]); 15] = [
     (5, &[1, 2, 3, 4, 5, 6, 7, 9, 10, 11, 15, 16, 17, 18, 19, 20, 21, 22]),
     (8, &[6, 7, 8, 9, 10, 11, 15, 16, 17, 18, 19, 20, 21, 22]),
     (13, &[6, 7, 9, 10, 12, 13, 15, 16, 17, 18, 19, 20, 21, 22]),
     (14, &[6, 7, 9, 10, 11, 14, 15, 16, 17, 18, 19, 20, 21, 22]),
     (18, &[6, 7, 9, 10, 11, 15, 16, 17, 18, 19, 20, 21, 22]),
-    (26, &[23, 24, 25, 26, 27, 28, 34, 40, 41]),
-    (28, &[23, 24, 25, 27, 28, 34, 40, 41]),
-    (30, &[23, 24, 25, 27, 28, 29, 30, 34, 40, 41]),
+    (26, &[23, 24, 25, 26, 27, 28, 34, 35, 36, 37, 38, 39]),
+    (28, &[23, 24, 25, 27, 28, 34, 35, 36, 37, 38, 39]),
+    (30, &[23, 24, 25, 27, 28, 29, 30, 34, 35, 36, 37, 38, 39]),
     (36, &[23, 24, 25, 27, 28, 34, 35, 36, 37, 38, 39]),
     (41, &[23, 24, 25, 27, 28, 34, 40, 41]),
     (45, &[43, 44, 45]),
@@ -125,6 +161,7 @@ fn values_of(list: &List, leaf: u8) -> Vec<Vec<u8>> {
 mod tests {
     use super::*;
     use crate::feed::codes;
+    use independent::Code;
     use std::collections::BTreeSet;
 
     #[test]
@@ -145,5 +182,16 @@ mod tests {
     fn every_code_is_reached() {
         let reached: BTreeSet<u8> = fixed_set().iter().map(|case| case.answer().0.code.number()).collect();
         assert_eq!(reached, codes(3).iter().copied().filter(|code| *code != 1).collect());
+    }
+
+    /// An old transaction code in each version and kind, whatever else is wrong after the reader.
+    #[test]
+    fn old_codes_are_told_before_all_else() {
+        let told: Vec<Vec<u8>> =
+            old().into_iter().filter(|case| case.answer().0.code == Code::OldCode).map(|case| case.bytes).collect();
+        for (front, _) in FRONTS {
+            assert!(told.iter().filter(|run| run.starts_with(front)).count() > 20, "{front:?}");
+        }
+        assert!(told.iter().any(|run| run.len() > 100_000), "19 too");
     }
 }

@@ -4,7 +4,7 @@ use independent::LIMIT;
 
 use crate::feed::Case;
 use crate::random::Random;
-use crate::runs::{filled, front_of, image_of, put_together, take_apart};
+use crate::runs::{filled, front_of, image_of, put_together, take_apart, with_old_codes, Old};
 
 /// What stands before the transactions of the message below, and behind them.
 const BEFORE: &str = concat!(
@@ -14,7 +14,7 @@ const BEFORE: &str = concat!(
     "<Bal><Tp><CdOrPrtry><Cd>CLBD</Cd></CdOrPrtry></Tp><Amt Ccy=\"EUR\">5</Amt><CdtDbtInd>CRDT</CdtDbtInd>",
     "<Dt><Dt>2024-02-29</Dt></Dt></Bal>",
     "<Ntry><Amt Ccy=\"EUR\">5</Amt><CdtDbtInd>CRDT</CdtDbtInd><Sts><Cd>BOOK</Cd></Sts>",
-    "<BkTxCd><Prtry><Cd>X</Cd></Prtry></BkTxCd><NtryDtls>",
+    "<BkTxCd><Domn><Cd>A</Cd><Fmly><Cd>B</Cd><SubFmlyCd>C</SubFmlyCd></Fmly></Domn></BkTxCd><NtryDtls>",
 );
 const BEHIND: &str = "</NtryDtls></Ntry></Stmt></BkToCstmrStmt></Document>";
 
@@ -38,17 +38,22 @@ pub fn image_for_file_of(length: usize) -> Vec<u8> {
 }
 
 /// A run or a file with the limit's length, or one byte less or more, with enough room and with too little; or an image whose
-/// file is far too long.
+/// file is far too long. One of four such images has an old transaction code.
 pub fn at_the_limit(image: Vec<u8>, random: &mut Random) -> Case {
     let about = LIMIT - 1 + random.below(3);
-    match random.below(6) {
-        0 => Case::write(LIMIT, filled(image, about)),
-        1 => Case::write(LIMIT, image_for_file_of(LIMIT)),
-        2 => Case::write(LIMIT - 1, image_for_file_of(LIMIT)),
-        3 => Case::write(LIMIT, image_for_file_of(LIMIT + 1)),
-        4 => Case::write(about - 1 - random.below(2), image_for_file_of(about)),
-        _ => Case::write(random.below(LIMIT), image_for_file_of(about + random.below(LIMIT))),
+    let (room, length) = match random.below(6) {
+        0 => return Case::write(LIMIT, filled(image, about)),
+        1 => (LIMIT, LIMIT),
+        2 => (LIMIT - 1, LIMIT),
+        3 => (LIMIT, LIMIT + 1),
+        4 => (about - 1 - random.below(2), about),
+        _ => (random.below(LIMIT), about + random.below(LIMIT)),
+    };
+    let mut large = image_for_file_of(length);
+    if random.once_in(4) {
+        large = with_old_codes(&large, |_| Some((Old::Beside, "X".to_string())));
     }
+    Case::write(room, large)
 }
 
 #[cfg(test)]

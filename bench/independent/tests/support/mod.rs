@@ -44,11 +44,14 @@ pub fn statement(entries: &str) -> String {
     format!("<Stmt><Id>S1</Id>{ACCOUNT}{BALANCE}{entries}</Stmt>")
 }
 
+/// A transaction code as files have it.
+pub const DOMAIN: &str = "<Domn><Cd>A</Cd><Fmly><Cd>B</Cd><SubFmlyCd>C</SubFmlyCd></Fmly></Domn>";
+
 /// An entry with these details.
 pub fn entry(details: &str) -> String {
     format!(
-        "<Ntry><Amt Ccy=\"EUR\">1.00</Amt><CdtDbtInd>CRDT</CdtDbtInd><Sts><Cd>BOOK</Cd></Sts><BkTxCd><Prtry><Cd>X</Cd>\
-         </Prtry></BkTxCd>{details}</Ntry>"
+        "<Ntry><Amt Ccy=\"EUR\">1.00</Amt><CdtDbtInd>CRDT</CdtDbtInd><Sts><Cd>BOOK</Cd></Sts><BkTxCd>{DOMAIN}</BkTxCd>\
+         {details}</Ntry>"
     )
 }
 

@@ -3,7 +3,7 @@
 use independent::list::List;
 use independent::Code;
 
-const NAMES: [(u8, &str); 21] = [
+const NAMES: [(u8, &str); 22] = [
     (0, "ACCEPTED"),
     (1, "TOO_LONG"),
     (2, "NOT_UTF8"),
@@ -25,6 +25,7 @@ const NAMES: [(u8, &str); 21] = [
     (18, "NO_SUCH_LEAF"),
     (19, "TOO_LARGE"),
     (20, "TOO_FINE"),
+    (26, "RETIRED"),
 ];
 
 /// `BAD_VALUE` of 12.

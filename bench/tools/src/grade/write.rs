@@ -22,7 +22,7 @@ pub fn write_files(unit: &Unit, path: &Path, run: &[u8], folder: &Path, out: &mu
         let image = format!("{}: image {number} at byte {start}", path.display());
         if code != 0 {
             all_written = false;
-            // Where the refusal has a row (20), its place is that of the item in the image; of 19 it is a length.
+            // Where the refusal has a row (26, 20), its place is that of the item in the image; of 19 it is a length.
             let list = first_image(bytes).map_or(&STATEMENT, |found| found.list);
             let why = match row_in_words(list, row) {
                 Some(row) => format!("{row}, byte {}", start + place),

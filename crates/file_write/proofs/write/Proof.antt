@@ -5,8 +5,7 @@ use Rattle.file_write.proofs.write.Tie as tie
 use native.Mathlib.Omega.{arith}
 use mathlib.Core.Path.{refl}
 use Rattle.list.proofs.Laid.{laid-over}
-use Rattle.image_reading.proofs.House.{laid-says}
-use Rattle.file_write.proofs.Writing.{write-unread, write-held, write-there, write-finer, write-long, write-large, write-short, write-whole}
+use Rattle.file_write.proofs.Writing.{laid-asks, write-unread, write-searched, write-there, write-stale, write-held, write-long, write-large, write-short, write-whole}
 
 reading-requires : tie.Need-reading-requires
 reading-requires c κs = search needs
@@ -39,12 +38,15 @@ first-stale-requires c κs =
     let at-rows = at-lay .before .before .before in
     let at-if1 = at-rows .before in
     let at-reading = at-if1 .before .before in
-    write-held _ _ (at-reading .reading .ensures) (omega (arith, at-if1 .if1 .left)) _
-    (laid-says _ _ (laid-over _ _ _ _ (at-rows .rows-of .ensures) refl (at-lay .lay .ensures))) _ (at-pool .pool .ensures)
+    write-searched _ _ (at-reading .reading .ensures) (omega (arith, at-if1 .if1 .left)) _
+    (laid-asks _ _ (laid-over _ _ _ _ (at-rows .rows-of .ensures) refl (at-lay .lay .ensures))) _ (at-pool .pool .ensures)
+
+slice-aggregate-refusal : tie.Need-slice-aggregate-refusal
+slice-aggregate-refusal c = search needs
 
 shared-slice-read-wide : tie.Need-shared-slice-read-wide
 shared-slice-read-wide c =
-    let at-if2 = c .before in
+    let at-if2 = c .before .before .before in
     let at-first-stale = at-if2 .before in
     let at-pool = at-first-stale .before .before .before in
     let at-lay = at-pool .before in
@@ -52,28 +54,28 @@ shared-slice-read-wide c =
     let at-if1 = at-rows .before in
     let at-reading = at-if1 .before .before in
     write-there _ _ (at-reading .reading .ensures) (omega (arith, at-if1 .if1 .left)) _
-    (laid-says _ _ (laid-over _ _ _ _ (at-rows .rows-of .ensures) refl (at-lay .lay .ensures))) _ (at-pool .pool .ensures)
+    (laid-asks _ _ (laid-over _ _ _ _ (at-rows .rows-of .ensures) refl (at-lay .lay .ensures))) _ (at-pool .pool .ensures)
     _ (at-first-stale .first-stale .ensures) (at-if2 .if2 .taken)
 
 wide-requires : tie.Need-wide-requires
 wide-requires c κs = search needs
 
-too-fine-requires : tie.Need-too-fine-requires
-too-fine-requires c κs = search needs
+refusal-requires : tie.Need-refusal-requires
+refusal-requires c κs = search needs
 
 returns-2 : tie.Need-returns-2
 returns-2 c =
     let at-wide = c .before in
-    let at-if2 = at-wide .before .before in
+    let at-if2 = at-wide .before .before .before .before in
     let at-first-stale = at-if2 .before in
     let at-pool = at-first-stale .before .before .before in
     let at-lay = at-pool .before in
     let at-rows = at-lay .before .before .before in
     let at-if1 = at-rows .before in
     let at-reading = at-if1 .before .before in
-    write-finer _ _ (at-reading .reading .ensures) (omega (arith, at-if1 .if1 .left)) _
-    (laid-says _ _ (laid-over _ _ _ _ (at-rows .rows-of .ensures) refl (at-lay .lay .ensures))) _ (at-pool .pool .ensures)
-    _ (at-first-stale .first-stale .ensures) (at-if2 .if2 .taken) _ (at-wide .wide .ensures) _ _ (c .too-fine .ensures)
+    write-stale _ _ (at-reading .reading .ensures) (omega (arith, at-if1 .if1 .left)) _
+    (laid-asks _ _ (laid-over _ _ _ _ (at-rows .rows-of .ensures) refl (at-lay .lay .ensures))) _ (at-pool .pool .ensures)
+    _ (at-first-stale .first-stale .ensures) (at-if2 .if2 .taken) _ (at-wide .wide .ensures) _ _ (c .refusal .ensures)
 
 slice-aggregate-emit : tie.Need-slice-aggregate-emit
 slice-aggregate-emit c = search needs
@@ -83,13 +85,16 @@ slice-aggregate-emit-2 c = search needs
 
 emit-requires : tie.Need-emit-requires
 emit-requires c κs =
-    let at-pool = c .before .before .before .before .before .before .before in
+    let at-if2 = c .before .before .before in
+    let at-first-stale = at-if2 .before in
+    let at-pool = at-first-stale .before .before .before in
     let at-lay = at-pool .before in
     let at-rows = at-lay .before .before .before in
     let at-if1 = at-rows .before in
     let at-reading = at-if1 .before .before in
     write-held _ _ (at-reading .reading .ensures) (omega (arith, at-if1 .if1 .left)) _
-    (laid-says _ _ (laid-over _ _ _ _ (at-rows .rows-of .ensures) refl (at-lay .lay .ensures))) _ (at-pool .pool .ensures)
+    (laid-asks _ _ (laid-over _ _ _ _ (at-rows .rows-of .ensures) refl (at-lay .lay .ensures))) _ (at-pool .pool .ensures)
+    _ (at-first-stale .first-stale .ensures) (at-if2 .if2 .left)
 
 too-large-requires : tie.Need-too-large-requires
 too-large-requires c κs = search needs
@@ -106,7 +111,7 @@ returns-3 c =
     let at-if1 = at-rows .before in
     let at-reading = at-if1 .before .before in
     write-large _ _ (at-reading .reading .ensures) (omega (arith, at-if1 .if1 .left)) _
-    (laid-says _ _ (laid-over _ _ _ _ (at-rows .rows-of .ensures) refl (at-lay .lay .ensures))) _ (at-pool .pool .ensures)
+    (laid-asks _ _ (laid-over _ _ _ _ (at-rows .rows-of .ensures) refl (at-lay .lay .ensures))) _ (at-pool .pool .ensures)
     _ (at-first-stale .first-stale .ensures) (at-if2 .if2 .left) _ _ _ (at-emit .emit .ensures) _ _ (at-if3 .if3 .taken) (c .too-large .ensures)
 
 no-room-requires : tie.Need-no-room-requires
@@ -125,7 +130,7 @@ returns-4 c =
     let at-if1 = at-rows .before in
     let at-reading = at-if1 .before .before in
     write-short _ _ (at-reading .reading .ensures) (omega (arith, at-if1 .if1 .left)) _
-    (laid-says _ _ (laid-over _ _ _ _ (at-rows .rows-of .ensures) refl (at-lay .lay .ensures))) _ (at-pool .pool .ensures)
+    (laid-asks _ _ (laid-over _ _ _ _ (at-rows .rows-of .ensures) refl (at-lay .lay .ensures))) _ (at-pool .pool .ensures)
     _ (at-first-stale .first-stale .ensures) (at-if2 .if2 .left) _ _ _ (at-emit .emit .ensures) _ _ (omega (arith, at-if3 .if3 .left)) (at-if4 .if4 .taken) (c .no-room .ensures)
 
 slice-aggregate-emit-3 : tie.Need-slice-aggregate-emit-3
@@ -133,13 +138,19 @@ slice-aggregate-emit-3 c = search needs
 
 emit-requires-2 : tie.Need-emit-requires-2
 emit-requires-2 c κs =
-    let at-pool = c .before .before .before .before .before .before .before .before .before .before .before .before .before .before in
+    let at-if4 = c .before .before .before in
+    let at-if3 = at-if4 .before in
+    let at-emit = at-if3 .before .before in
+    let at-if2 = at-emit .before .before .before .before in
+    let at-first-stale = at-if2 .before in
+    let at-pool = at-first-stale .before .before .before in
     let at-lay = at-pool .before in
     let at-rows = at-lay .before .before .before in
     let at-if1 = at-rows .before in
     let at-reading = at-if1 .before .before in
     write-held _ _ (at-reading .reading .ensures) (omega (arith, at-if1 .if1 .left)) _
-    (laid-says _ _ (laid-over _ _ _ _ (at-rows .rows-of .ensures) refl (at-lay .lay .ensures))) _ (at-pool .pool .ensures)
+    (laid-asks _ _ (laid-over _ _ _ _ (at-rows .rows-of .ensures) refl (at-lay .lay .ensures))) _ (at-pool .pool .ensures)
+    _ (at-first-stale .first-stale .ensures) (at-if2 .if2 .left)
 
 accepted-requires : tie.Need-accepted-requires
 accepted-requires c κs = search needs
@@ -147,13 +158,19 @@ accepted-requires c κs = search needs
 same-length : tie.Need-same-length
 same-length c =
     let at-emit2 = c .before .before .before in
-    let at-pool = at-emit2 .before .before .before .before .before .before .before .before .before .before .before .before .before .before .before in
+    let at-if4 = at-emit2 .before .before .before .before in
+    let at-if3 = at-if4 .before in
+    let at-emit = at-if3 .before .before in
+    let at-if2 = at-emit .before .before .before .before in
+    let at-first-stale = at-if2 .before in
+    let at-pool = at-first-stale .before .before .before in
     let at-lay = at-pool .before in
     let at-rows = at-lay .before .before .before in
     let at-if1 = at-rows .before in
     let at-reading = at-if1 .before .before in
     write-long _ _ (at-reading .reading .ensures) (omega (arith, at-if1 .if1 .left)) _
-    (laid-says _ _ (laid-over _ _ _ _ (at-rows .rows-of .ensures) refl (at-lay .lay .ensures))) _ (at-pool .pool .ensures) _ _ _
+    (laid-asks _ _ (laid-over _ _ _ _ (at-rows .rows-of .ensures) refl (at-lay .lay .ensures))) _ (at-pool .pool .ensures)
+    _ (at-first-stale .first-stale .ensures) (at-if2 .if2 .left) _ _ _
     (at-emit2 .emit2 .ensures)
 
 returns-5 : tie.Need-returns-5
@@ -170,7 +187,7 @@ returns-5 c =
     let at-if1 = at-rows .before in
     let at-reading = at-if1 .before .before in
     write-whole _ _ (at-reading .reading .ensures) (omega (arith, at-if1 .if1 .left)) _
-    (laid-says _ _ (laid-over _ _ _ _ (at-rows .rows-of .ensures) refl (at-lay .lay .ensures))) _ (at-pool .pool .ensures)
+    (laid-asks _ _ (laid-over _ _ _ _ (at-rows .rows-of .ensures) refl (at-lay .lay .ensures))) _ (at-pool .pool .ensures)
     _ (at-first-stale .first-stale .ensures) (at-if2 .if2 .left) _ _ _ (at-emit .emit .ensures) _ _ (omega (arith, at-if3 .if3 .left))
     (omega (arith, at-if4 .if4 .left)) (c .accepted .ensures) _ _ (at-emit2 .emit2 .ensures)
 
@@ -186,9 +203,10 @@ write-spec =
     pool-requires
     slice-aggregate-first-stale
     first-stale-requires
+    slice-aggregate-refusal
     shared-slice-read-wide
     wide-requires
-    too-fine-requires
+    refusal-requires
     returns-2
     slice-aggregate-emit
     slice-aggregate-emit-2

@@ -17,7 +17,7 @@ module _ (vs : Values) (l m : Listing) (w : Within l m) where
   value-same (leaf k) none = refl
   value-same (leaf k) (some v) = refl
 
-  bytes-within : (is : List (Item vs)) → itemsBytes vs l is ≡ itemsBytes vs m is
+  pub bytes-within : (is : List (Item vs)) → itemsBytes vs l is ≡ itemsBytes vs m is
   bytes-within [] = refl
   bytes-within (i ∷ is) =
       ap₂ (λ (x z : List ℕ). i .0 ∷ (x ++ z))

@@ -1,7 +1,7 @@
 -- Tables that pass the computed test are sound: one law for every row, column and rule. Assumes nothing.
 use mathlib.Core.Path.{_≡_, refl, sym, _∙_, ap, subst}
 use mathlib.Core.Bool.{Bool, true, false, _&&_, _||_, not, true≢false, false≢true}
-use mathlib.Core.Logic.{_≢_, ⊎-elim}
+use mathlib.Core.Logic.{_≢_, _⊎_, ⊎-elim, inl, inr}
 use mathlib.Core.List.{List, [], _∷_}
 use Prim.Native.Nat.{ℕ, zero, suc, _≤_, _<_}
 use native.Mathlib.Omega.{arith}
@@ -19,7 +19,7 @@ use Rattle.list.specs.Table.{listOf}
 use Rattle.list.specs.Sound.{nextChild, Derived, Sound}
 use Rattle.list.specs.Test.{allOf, each, every, begins, among, wordsOk, leafOk, kindOk, isSequence, isAlternative, isOne, isOptional, countFits, isChild, rowTests, ruleTests, rulesOk, listTests, derivedTests, well, derived, sound}
 use Rattle.list.proofs.sound.Tests.{clash, passed}
-use Rattle.list.proofs.rows.Words.{same-of, firstFrom-none}
+use Rattle.list.proofs.rows.Words.{same-eq, same-of, firstFrom-none}
 use Rattle.list.proofs.rows.Next.{next-child}
 
 -- ---- texts
@@ -33,6 +33,11 @@ pub begins-is : (p q : ℕ → Bool) (xs : List ℕ) → begins p q xs ≡ true 
 unfolding begins
 begins-is p q [] e = false≢true e
 begins-is p q (x ∷ xs) e = let w = and-is (p x) (every q xs) e in (w .0, every-is q xs (w .1))
+
+name-is : (n : List ℕ) → (same n [] || begins isNameStart isNamePart n) ≡ true → (n ≡ []) ⊎ Begins isNameStart isNamePart n
+name-is n e =
+    ⊎-elim (λ h. inl (same-eq n [] h)) (λ h. inr (begins-is isNameStart isNamePart n h))
+    (or-is (same n []) (begins isNameStart isNamePart n) e)
 
 fresh-is : (w : List ℕ) (vs : List (List ℕ)) → among w vs ≡ false → Fresh w vs
 unfolding among
@@ -178,7 +183,8 @@ module _ (l : Listing) where
           let k = isGroup (rowAt l r .kind) in
           let h = ⊎-elim (λ n. clash k g (not-true k n)) (ltb-true 0 q) (or-is (not k) (ltb 0 q) (row p r c 4)) in
           (q, next-child l r 0 q refl h .its);
-      names = λ p r c. begins-is isNameStart isNamePart (rowAt l r .name) (row p r c 5);
+      names = λ p r c. name-is (rowAt l r .name) (row p r c 5);
+      rootName = begins-is isNameStart isNamePart (rowAt l 1 .name) (whole 9);
       apart = λ p r q c d n. elim (ℕ-discrete r q) [
         | yes y ↦ y
         | no y ↦

@@ -3,12 +3,12 @@ use mathlib.Core.Bool.{cond}
 use mathlib.Core.List.{List}
 use Prim.Native.Nat.{ℕ}
 use lib.Dec.{eqb}
-use Rattle.list_house.specs.mirror.HouseTable.{houseRows, reportRows}
+use Rattle.list_house.specs.mirror.HouseTable.{houseRows, reportRows, storedHouseRows, storedReportRows}
 
 -- of files
 abbrev pub askedRows : ℕ → List ℕ
 askedRows b = cond (eqb b 2) reportRows houseRows
 
--- of images: the same tables
+-- of images
 abbrev pub keptRows : ℕ → List ℕ
-keptRows b = askedRows b
+keptRows b = cond (eqb b 2) storedReportRows storedHouseRows

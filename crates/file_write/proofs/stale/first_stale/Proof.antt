@@ -1,18 +1,17 @@
 -- `stale::first_stale` meets its contract. Assumes nothing.
-use mathlib.Core.Path.{_≡_}
 use Prim.Native.Nat.{_-_}
 use native.Mathlib.Omega.{arith}
 use lib.ListN.{length}
 use borrow.Author.Needs.{needs}
 use Rattle.file_write.proofs.stale.first_stale.Statement.{statement}
 use Rattle.file_write.proofs.stale.first_stale.Tie as tie
-use Rattle.file_write.proofs.Passing.{PassingOn, stale-start, stale-first, stale-in, stale-clear, stale-group, stale-found, stale-leaf, stale-less}
+use Rattle.file_write.proofs.Passing.{PassingOn, stale-start, stale-first, stale-in, stale-clear, stale-gone, stale-group, stale-leaf, stale-less}
 
 abbrev Inv-loop : tie.InvT-loop
-Inv-loop rows pool run from i₀ i = PassingOn rows pool run from i
+Inv-loop rows pool run from finer₀ i₀ finer i = PassingOn rows pool run from finer i
 
 abbrev μ-loop : tie.MeasureT-loop
-μ-loop rows pool run from i₀ i = length run - i
+μ-loop rows pool run from finer₀ i₀ finer i = length run - i
 
 add-i : tie.Need-add-i Inv-loop μ-loop
 add-i c =
@@ -28,7 +27,7 @@ shared-slice-read-wide : tie.Need-shared-slice-read-wide Inv-loop μ-loop
 shared-slice-read-wide c =
     let at-loop = c .before in
     let start = at-loop .before .before .before in
-    stale-in _ _ _ _ (start .pre) _ (at-loop .loop .inv)
+    stale-in _ _ _ _ (start .pre) _ _ (at-loop .loop .inv)
 
 wide-requires : tie.Need-wide-requires Inv-loop μ-loop
 wide-requires c κs =
@@ -40,7 +39,21 @@ returns c =
     let at-wide = at-if1 .before in
     let at-loop = at-wide .before .before in
     let start = at-loop .before .before .before in
-    stale-clear _ _ _ _ (start .pre) _ (at-loop .loop .inv) _ (at-wide .wide .ensures) (at-if1 .if1 .taken)
+    stale-clear _ _ _ _ (start .pre) _ _ (at-loop .loop .inv) _ (at-wide .wide .ensures) (at-if1 .if1 .taken)
+
+is-gone-requires : tie.Need-is-gone-requires Inv-loop μ-loop
+is-gone-requires c κs =
+    search needs
+
+returns-2 : tie.Need-returns-2 Inv-loop μ-loop
+returns-2 c =
+    let at-if2 = c in
+    let at-is-gone = at-if2 .before in
+    let at-if1 = at-is-gone .before .before in
+    let at-wide = at-if1 .before in
+    let at-loop = at-wide .before .before in
+    let start = at-loop .before .before .before in
+    stale-gone _ _ _ _ (start .pre) _ _ (at-loop .loop .inv) _ (at-wide .wide .ensures) (at-if1 .if1 .left) _ (at-is-gone .is-gone .ensures) (at-if2 .if2 .taken)
 
 cell-requires : tie.Need-cell-requires Inv-loop μ-loop
 cell-requires c κs =
@@ -52,100 +65,82 @@ is-group-requires c κs =
 
 add-i-2 : tie.Need-add-i-2 Inv-loop μ-loop
 add-i-2 c =
-    let at-loop = c .before .before .before .before .before .before .before in
+    let at-loop = c .before .before .before .before .before .before .before .before .before .before in
     let start = at-loop .before .before .before in
-    omega (arith, stale-in _ _ _ _ (start .pre) _ (at-loop .loop .inv), start .pre .within)
+    omega (arith, stale-in _ _ _ _ (start .pre) _ _ (at-loop .loop .inv), start .pre .within)
 
 loop-less : tie.Need-loop-less Inv-loop μ-loop
 loop-less c =
-    let at-loop = c .before .before .before .before .before .before .before in
+    let at-loop = c .before .before .before .before .before .before .before .before .before .before in
     let start = at-loop .before .before .before in
-    omega (arith, stale-in _ _ _ _ (start .pre) _ (at-loop .loop .inv))
+    omega (arith, stale-in _ _ _ _ (start .pre) _ _ (at-loop .loop .inv))
 
 loop-again : tie.Need-loop-again Inv-loop μ-loop
 loop-again c =
-    let at-if2 = c in
-    let at-is-group = at-if2 .before in
-    let at-cell = at-is-group .before in
-    let at-if1 = at-cell .before .before in
-    let at-wide = at-if1 .before in
-    let at-loop = at-wide .before .before in
-    let start = at-loop .before .before .before in
-    stale-group _ _ _ _ (start .pre) _ (at-loop .loop .inv) _ (at-wide .wide .ensures) (at-if1 .if1 .left) _ (at-cell .cell .ensures) _ (at-is-group .is-group .ensures) (at-if2 .if2 .taken)
-
-add-is-finer : tie.Need-add-is-finer Inv-loop μ-loop
-add-is-finer c =
-    let at-loop = c .before .before .before .before .before .before .before in
-    let start = at-loop .before .before .before in
-    omega (arith, stale-in _ _ _ _ (start .pre) _ (at-loop .loop .inv), start .pre .within)
-
-is-finer-requires : tie.Need-is-finer-requires Inv-loop μ-loop
-is-finer-requires c κs =
-    let at-loop = c .before .before .before .before .before .before .before in
-    let start = at-loop .before .before .before in
-    omega (arith, stale-in _ _ _ _ (start .pre) _ (at-loop .loop .inv), start .pre .within)
-
-returns-2 : tie.Need-returns-2 Inv-loop μ-loop
-returns-2 c =
     let at-if3 = c in
-    let at-is-finer = at-if3 .before in
-    let at-if2 = at-is-finer .before in
-    let at-is-group = at-if2 .before in
+    let at-is-group = at-if3 .before in
     let at-cell = at-is-group .before in
-    let at-if1 = at-cell .before .before in
+    let at-if2 = at-cell .before .before in
+    let at-is-gone = at-if2 .before in
+    let at-if1 = at-is-gone .before .before in
     let at-wide = at-if1 .before in
     let at-loop = at-wide .before .before in
     let start = at-loop .before .before .before in
-    stale-found _ _ _ _ (start .pre) _ (at-loop .loop .inv) _ (at-wide .wide .ensures) (at-if1 .if1 .left) _ (at-cell .cell .ensures) _ (at-is-group .is-group .ensures)
-    (at-if2 .if2 .left) _ (at-is-finer .is-finer .ensures) (at-if3 .if3 .taken)
+    stale-group _ _ _ _ (start .pre) _ _ (at-loop .loop .inv) _ (at-wide .wide .ensures) (at-if1 .if1 .left) _ (at-is-gone .is-gone .ensures)
+    (at-if2 .if2 .left) _ (at-cell .cell .ensures) _ (at-is-group .is-group .ensures) (at-if3 .if3 .taken)
+
+noted-requires : tie.Need-noted-requires Inv-loop μ-loop
+noted-requires c κs =
+    let at-loop = c .before .before .before .before .before .before .before .before .before .before in
+    let start = at-loop .before .before .before in
+    omega (arith, stale-in _ _ _ _ (start .pre) _ _ (at-loop .loop .inv), start .pre .within)
 
 add-after : tie.Need-add-after Inv-loop μ-loop
 add-after c =
-    let at-loop = c .before .before .before .before .before .before .before .before .before in
+    let at-loop = c .before .before .before .before .before .before .before .before .before .before .before in
     let start = at-loop .before .before .before in
-    omega (arith, stale-in _ _ _ _ (start .pre) _ (at-loop .loop .inv), start .pre .within)
+    omega (arith, stale-in _ _ _ _ (start .pre) _ _ (at-loop .loop .inv), start .pre .within)
 
 after-requires : tie.Need-after-requires Inv-loop μ-loop
 after-requires c κs =
-    let at-loop = c .before .before .before .before .before .before .before .before .before in
+    let at-loop = c .before .before .before .before .before .before .before .before .before .before .before in
     let start = at-loop .before .before .before in
-    omega (arith, stale-in _ _ _ _ (start .pre) _ (at-loop .loop .inv), start .pre .within)
+    omega (arith, stale-in _ _ _ _ (start .pre) _ _ (at-loop .loop .inv), start .pre .within)
 
 loop-less-2 : tie.Need-loop-less-2 Inv-loop μ-loop
 loop-less-2 c =
     let at-after = c in
-    let at-if3 = at-after .before in
-    let at-is-finer = at-if3 .before in
-    let at-if2 = at-is-finer .before in
-    let at-is-group = at-if2 .before in
+    let at-if3 = at-after .before .before in
+    let at-is-group = at-if3 .before in
     let at-cell = at-is-group .before in
-    let at-if1 = at-cell .before .before in
+    let at-if2 = at-cell .before .before in
+    let at-is-gone = at-if2 .before in
+    let at-if1 = at-is-gone .before .before in
     let at-wide = at-if1 .before in
     let at-loop = at-wide .before .before in
     let start = at-loop .before .before .before in
     omega (
       arith,
-      stale-in _ _ _ _ (start .pre) _ (at-loop .loop .inv),
-      stale-less _ _ _ _ (start .pre) _ (at-loop .loop .inv) _ (at-wide .wide .ensures) (at-if1 .if1 .left) _ (at-cell .cell .ensures) _ (at-is-group .is-group .ensures)
-          (at-if2 .if2 .left) _ (at-is-finer .is-finer .ensures)
-          (at-if3 .if3 .left) _ (at-after .after .ensures),
+      stale-in _ _ _ _ (start .pre) _ _ (at-loop .loop .inv),
+      stale-less _ _ _ _ (start .pre) _ _ (at-loop .loop .inv) _ (at-wide .wide .ensures) (at-if1 .if1 .left) _ (at-is-gone .is-gone .ensures)
+          (at-if2 .if2 .left) _ (at-cell .cell .ensures) _ (at-is-group .is-group .ensures) (at-if3 .if3 .left) _ (at-after .after .ensures),
     )
 
 loop-again-2 : tie.Need-loop-again-2 Inv-loop μ-loop
 loop-again-2 c =
     let at-after = c in
-    let at-if3 = at-after .before in
-    let at-is-finer = at-if3 .before in
-    let at-if2 = at-is-finer .before in
-    let at-is-group = at-if2 .before in
+    let at-noted = at-after .before in
+    let at-if3 = at-noted .before in
+    let at-is-group = at-if3 .before in
     let at-cell = at-is-group .before in
-    let at-if1 = at-cell .before .before in
+    let at-if2 = at-cell .before .before in
+    let at-is-gone = at-if2 .before in
+    let at-if1 = at-is-gone .before .before in
     let at-wide = at-if1 .before in
     let at-loop = at-wide .before .before in
     let start = at-loop .before .before .before in
-    stale-leaf _ _ _ _ (start .pre) _ (at-loop .loop .inv) _ (at-wide .wide .ensures) (at-if1 .if1 .left) _ (at-cell .cell .ensures) _ (at-is-group .is-group .ensures)
-    (at-if2 .if2 .left) _ (at-is-finer .is-finer .ensures)
-    (at-if3 .if3 .left) _ (at-after .after .ensures)
+    stale-leaf _ _ _ _ (start .pre) _ _ (at-loop .loop .inv) _ (at-wide .wide .ensures) (at-if1 .if1 .left) _ (at-is-gone .is-gone .ensures)
+    (at-if2 .if2 .left) _ (at-cell .cell .ensures) _ (at-is-group .is-group .ensures) (at-if3 .if3 .left) _ (at-after .after .ensures) _ (at-noted .noted .ensures)
 
 pub first-stale-spec : {M : Type 1} → statement M
 first-stale-spec =
@@ -158,14 +153,14 @@ first-stale-spec =
     shared-slice-read-wide
     wide-requires
     returns
+    is-gone-requires
+    returns-2
     cell-requires
     is-group-requires
     add-i-2
     loop-less
     loop-again
-    add-is-finer
-    is-finer-requires
-    returns-2
+    noted-requires
     add-after
     after-requires
     loop-less-2

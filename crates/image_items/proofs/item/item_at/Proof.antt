@@ -65,8 +65,8 @@ returns-3 c =
     let at-if3 = at-told .before in
     house-closing (byte (at-if3 .before)) _ _ (at-if3 .if3 .taken) (at-told .told .ensures)
 
-rows-of-requires : tie.Need-rows-of-requires
-rows-of-requires c κs = search needs
+kept-rows-of-requires : tie.Need-kept-rows-of-requires
+kept-rows-of-requires c κs = search needs
 
 slice-aggregate-cell : tie.Need-slice-aggregate-cell
 slice-aggregate-cell c = search needs
@@ -82,9 +82,9 @@ returns-4 c =
     let at-broken3 = c in
     let at-if4 = at-broken3 .before in
     let at-cell = at-if4 .before in
-    let at-rows-of = at-cell .before .before in
-    let at-if3 = at-rows-of .before in
-    house-strange (byte (at-if3 .before)) _ (at-rows-of .rows-of .ensures) (at-if3 .if3 .left) _ _
+    let at-kept-rows-of = at-cell .before .before in
+    let at-if3 = at-kept-rows-of .before in
+    house-strange (byte (at-if3 .before)) _ (at-kept-rows-of .kept-rows-of .ensures) (at-if3 .if3 .left) _ _
     (omega (arith, at-if4 .if4 .taken, at-cell .cell .ensures)) (at-broken3 .broken3 .ensures)
 
 slice-aggregate-item-end : tie.Need-slice-aggregate-item-end
@@ -103,9 +103,9 @@ returns-5 c =
     let at-item-end = at-if5 .before in
     let at-if4 = at-item-end .before .before in
     let at-cell = at-if4 .before in
-    let at-rows-of = at-cell .before .before in
-    let at-if3 = at-rows-of .before in
-    house-unfit (byte (at-if3 .before)) _ (at-rows-of .rows-of .ensures) (at-if3 .if3 .left)
+    let at-kept-rows-of = at-cell .before .before in
+    let at-if3 = at-kept-rows-of .before in
+    house-unfit (byte (at-if3 .before)) _ (at-kept-rows-of .kept-rows-of .ensures) (at-if3 .if3 .left)
     (omega (arith, at-if4 .if4 .left, at-cell .cell .ensures)) _ (at-item-end .item-end .ensures .0) _ _ (at-if5 .if5 .taken) (at-broken4 .broken4 .ensures)
 
 told-requires-2 : tie.Need-told-requires-2
@@ -119,9 +119,9 @@ returns-6 c =
     let at-item-end = at-if5 .before in
     let at-if4 = at-item-end .before .before in
     let at-cell = at-if4 .before in
-    let at-rows-of = at-cell .before .before in
-    let at-if3 = at-rows-of .before in
-    house-simple (byte (at-if3 .before)) _ (at-rows-of .rows-of .ensures) (at-if3 .if3 .left)
+    let at-kept-rows-of = at-cell .before .before in
+    let at-if3 = at-kept-rows-of .before in
+    house-simple (byte (at-if3 .before)) _ (at-kept-rows-of .kept-rows-of .ensures) (at-if3 .if3 .left)
     (omega (arith, at-if4 .if4 .left, at-cell .cell .ensures)) _ (at-item-end .item-end .ensures .0) _ _
     (at-if5 .if5 .left) (at-if6 .if6 .taken) (at-told2 .told2 .ensures)
 
@@ -139,11 +139,11 @@ add-place c =
     let at-item-end = at-if5 .before in
     let at-if4 = at-item-end .before .before in
     let at-cell = at-if4 .before in
-    let at-rows-of = at-cell .before .before in
-    let at-if3 = at-rows-of .before in
+    let at-kept-rows-of = at-cell .before .before in
+    let at-if3 = at-kept-rows-of .before in
     let at-wide = at-if3 .before in
     let at-if1 = at-wide .before .before .before .before .before in
-    omega (arith, at-head .head .ensures, head-small (at-rows-of .rows-of .result) (at-wide .wide .result), at-if1 .if1 .left)
+    omega (arith, at-head .head .ensures, head-small (at-kept-rows-of .kept-rows-of .result) (at-wide .wide .result), at-if1 .if1 .left)
 
 sub-told : tie.Need-sub-told
 sub-told c =
@@ -153,9 +153,9 @@ sub-told c =
     let at-item-end = at-if5 .before in
     let at-if4 = at-item-end .before .before in
     let at-cell = at-if4 .before in
-    let at-rows-of = at-cell .before .before in
-    let at-if3 = at-rows-of .before in
-    let fit = house-fits (byte (at-if3 .before)) (at-rows-of .rows-of .result) (at-rows-of .rows-of .ensures) (at-if3 .if3 .left)
+    let at-kept-rows-of = at-cell .before .before in
+    let at-if3 = at-kept-rows-of .before in
+    let fit = house-fits (byte (at-if3 .before)) (at-kept-rows-of .kept-rows-of .result) (at-kept-rows-of .kept-rows-of .ensures) (at-if3 .if3 .left)
     (omega (arith, at-if4 .if4 .left, at-cell .cell .ensures)) (at-item-end .item-end .result) (at-item-end .item-end .ensures .0)
     (at-if5 .if5 .left) (at-if6 .if6 .left) in
     omega (arith, at-head .head .ensures, fit)
@@ -172,9 +172,9 @@ returns-7 c =
     let at-item-end = at-if5 .before in
     let at-if4 = at-item-end .before .before in
     let at-cell = at-if4 .before in
-    let at-rows-of = at-cell .before .before in
-    let at-if3 = at-rows-of .before in
-    house-valued (byte (at-if3 .before)) _ (at-rows-of .rows-of .ensures) (at-if3 .if3 .left)
+    let at-kept-rows-of = at-cell .before .before in
+    let at-if3 = at-kept-rows-of .before in
+    house-valued (byte (at-if3 .before)) _ (at-kept-rows-of .kept-rows-of .ensures) (at-if3 .if3 .left)
     (omega (arith, at-if4 .if4 .left, at-cell .cell .ensures)) _ (at-item-end .item-end .ensures .0)
     (at-if5 .if5 .left) (at-if6 .if6 .left) _ _ _ (at-head .head .ensures) (at-told3 .told3 .ensures)
 
@@ -192,7 +192,7 @@ item-at-spec =
     add-at
     told-requires
     returns-3
-    rows-of-requires
+    kept-rows-of-requires
     slice-aggregate-cell
     cell-requires
     broken-requires-3

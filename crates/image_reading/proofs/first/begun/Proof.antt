@@ -14,8 +14,8 @@ returns c =
     let o = begins-none _ _ (c .before .before .front .ensures) (c .if1 .taken) in
     (o .0, (λ z. absurd (o .1 z)))
 
-rows-of-requires : tie.Need-rows-of-requires
-rows-of-requires c κs = search needs
+kept-rows-of-requires : tie.Need-kept-rows-of-requires
+kept-rows-of-requires c κs = search needs
 
 slice-aggregate-lay : tie.Need-slice-aggregate-lay
 slice-aggregate-lay c = search needs
@@ -31,13 +31,13 @@ refused-requires c κs = search needs
 
 returns-2 : tie.Need-returns-2
 returns-2 c =
-    let e = laid-over _ _ _ _ (c .before .before .before .before .before .before .before .before .rows-of .ensures) (c .before .before .before .before .before .before .before .before .before .before .before .before .before .pre) (c .before .before .before .before .before .lay .ensures) in
+    let e = laid-over _ _ _ _ (c .before .before .before .before .before .before .before .before .kept-rows-of .ensures) (c .before .before .before .before .before .before .before .before .before .before .before .before .before .pre) (c .before .before .before .before .before .lay .ensures) in
     let o = begins-not _ _ (c .before .before .before .before .before .before .before .before .before .before .before .front .ensures) (c .before .before .before .before .before .before .before .before .before .if1 .left) _ (laid-says _ _ e) _ (c .before .before .before .body .ensures .0) (c .before .if2 .taken) _ (c .refused .ensures) in
     (o .0, (λ z. absurd (o .1 z)))
 
 returns-3 : tie.Need-returns-3
 returns-3 c =
-    let e = laid-over _ _ _ _ (c .before .before .before .before .before .before .before .rows-of .ensures) (c .before .before .before .before .before .before .before .before .before .before .before .before .pre) (c .before .before .before .before .lay .ensures) in
+    let e = laid-over _ _ _ _ (c .before .before .before .before .before .before .before .kept-rows-of .ensures) (c .before .before .before .before .before .before .before .before .before .before .before .before .pre) (c .before .before .before .before .lay .ensures) in
     let o = begins-with _ _ (c .before .before .before .before .before .before .before .before .before .before .front .ensures) (c .before .before .before .before .before .before .before .before .if1 .left) _ (laid-says _ _ e) _ (c .before .before .body .ensures .0) (omega (arith, c .if2 .left)) in
     (o, (λ z. e))
 
@@ -47,7 +47,7 @@ begun-spec =
     (tie.spec
     front-requires
     returns
-    rows-of-requires
+    kept-rows-of-requires
     slice-aggregate-lay
     lay-requires
     body-requires
