@@ -1,9 +1,10 @@
 /* kto.h: the reconciliation unit for C.
  *
  * A statement file (camt.053.001.08) or an intraday report (camt.052.001.08), Austrian subset, is checked and its record image written
- * (kto_check), or only measured (kto_size); a run of bytes is read as an image (kto_read); a value is picked from an image (kto_pick); an
- * image is gone over item by item (kto_items, kto_item); the file of an image is written (kto_write). What an image's bytes say is
- * docs/IMAGE.md, what the codes say docs/CODES.md, the rows docs/LIST.md; examples/c/entries.c prints the entries of a statement or a report.
+ * (kto_check), or only measured (kto_size); a run of bytes is read as an image (kto_read), and its items are counted (kto_count); a value is
+ * picked from an image (kto_pick); an image is gone over item by item (kto_items, kto_item); the file of an image is written (kto_write). What an
+ * image's bytes say is docs/IMAGE.md, what the codes say docs/CODES.md, the rows docs/LIST.md; examples/c/entries.c prints the entries of a
+ * statement or a report.
  * Link with libunit.a, which `rt staticlib unit` makes (x86-64 Linux); it needs the C library and nothing else.
  *
  * Every call takes any bytes and any numbers. There is nothing to set up, no memory is allocated, nothing is kept between calls, and
@@ -218,6 +219,13 @@ uint64_t kto_size(const uint8_t *in, uint64_t in_len, uint64_t *row, uint64_t *p
  * Any other code is 1, 15, 16 or 17, and *place says where.
  */
 uint64_t kto_read(const uint8_t *run, uint64_t run_len, uint64_t *place);
+
+/* The same answer, with the number of items that the reader took.
+ *
+ * KTO_ACCEPTED: *count is how many items the image has, the closing byte among them; at most its length less four. KTO_BROKEN_IMAGE: how many
+ * whole items stand before *place. Any other code: 0.
+ */
+uint64_t kto_count(const uint8_t *run, uint64_t run_len, uint64_t *place, uint64_t *count);
 
 /* Picks the value of the n-th leaf, counted from 0, of a row in the image that run[0 .. run_len) begins with.
  *

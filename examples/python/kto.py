@@ -3,6 +3,7 @@
     import kto
     image = kto.check(open('statement.xml', 'rb').read())   # bytes, or kto.Refused is raised
     kto.read(image)                                          # how long the image is that a run begins with
+    kto.count(image)                                         # how many items it has, the closing byte among them
     kto.kind(image)                                          # 'statement' (camt.053) or 'report' (camt.052)
     kto.pick(image, kto.ROW['Document/BkToCstmrStmt/GrpHdr/MsgId'])
     for item in kto.items(image):
@@ -231,6 +232,14 @@ def read(run: bytes) -> int:
     return place
 
 
+def count(run: bytes) -> int:
+    """How many items the image has that a run begins with, the closing byte among them."""
+    code, place, taken = _unit().count(bytes(run[:LIMIT]))
+    if code:
+        raise Refused(code, 0, place)
+    return taken
+
+
 def kind(run: bytes) -> str:
     """What the image is that a run begins with: 'statement' or 'report'."""
     return KINDS[_unit().items(bytes(run[:read(run)]))[1]]
@@ -317,7 +326,7 @@ class Library:
 
     def __init__(self, path):
         self.calls = ctypes.CDLL(str(path))
-        for name in ('kto_check', 'kto_size', 'kto_read', 'kto_pick', 'kto_items', 'kto_item'):
+        for name in ('kto_check', 'kto_size', 'kto_read', 'kto_count', 'kto_pick', 'kto_items', 'kto_item'):
             getattr(self.calls, name).restype = ctypes.c_uint64
 
     def ask(self, name, lent, *numbers, out=3):
@@ -337,6 +346,9 @@ class Library:
 
     def read(self, run):
         return self.ask('kto_read', [run], out=1)
+
+    def count(self, run):
+        return self.ask('kto_count', [run], out=2)
 
     def pick(self, run, row, n):
         code, place, size = self.ask('kto_pick', [run], row, n, out=2)
@@ -367,6 +379,10 @@ class Program:
     def read(self, run):
         code, _, place, _ = self.ask(1, 0, 0, run)
         return code, place
+
+    def count(self, run):
+        code, _, place, taken = self.ask(6, 0, 0, run)
+        return code, place, int.from_bytes(taken, 'big')
 
     def pick(self, run, row, n):
         most = 2 ** 32 - 1

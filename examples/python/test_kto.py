@@ -75,7 +75,7 @@ class Kto(unittest.TestCase):
     def test_the_example_of_document_01(self):
         self.assertEqual(kto.check(WHOLE), IMAGE)
         for image, more in ((FORMER, 0), (IMAGE, 1)):
-            self.assertEqual((kto.read(image), kto.kind(image)), (67 + more, 'statement'))
+            self.assertEqual((kto.read(image), kto.count(image), kto.kind(image)), (67 + more, 20, 'statement'))
             self.assertEqual(kto.pick(image, kto.ROW['Document/BkToCstmrStmt/GrpHdr/MsgId']), 'M1')
             self.assertEqual(kto.pick(image, kto.ROW[f'{STMT}/Bal/Amt']), kto.Amount(decimal.Decimal(5), 'EUR'))
             self.assertEqual(kto.pick(image, kto.ROW[f'{STMT}/Bal/Tp/CdOrPrtry/Cd']), 'CLBD')
@@ -107,6 +107,7 @@ class Kto(unittest.TestCase):
         for image in images:
             expected = list(elements(xml.etree.ElementTree.fromstring(image.with_suffix('.xml').read_bytes())))
             self.assertEqual([(item.path, item.value) for item in kto.items(image.read_bytes())], expected, image.name)
+            self.assertEqual(kto.count(image.read_bytes()), len(expected) + 1, image.name)
 
     def test_stored_images_with_old_transaction_codes_are_read(self):
         images = sorted((EXAMPLES / 'stored').glob('*.kto'))
@@ -162,7 +163,7 @@ class Kto(unittest.TestCase):
             (b'KTO\0\2\3', 17, 5), (b'KTO\0\2\2', 17, 6), (b'KTO\0\1', 17, 5), (IMAGE[:67], 17, 67), (FORMER[:66], 17, 66),
         )
         for run, code, place in runs:
-            for call in (kto.read, kto.kind, lambda run: list(kto.items(run)), lambda run: kto.pick(run, 4)):
+            for call in (kto.read, kto.count, kto.kind, lambda run: list(kto.items(run)), lambda run: kto.pick(run, 4)):
                 refused = self.refused(call, run)
                 self.assertEqual((refused.code, refused.row, refused.place, refused.line), (code, 0, place, None))
         for row, n in ((4, 1), (6, 0), (0, 0), (58, 0), (2 ** 40, 2 ** 40)):

@@ -222,6 +222,31 @@ static void read_all(void) {
     read_fronts();
 }
 
+/* The reader's answer with the number of items that it took. */
+static void counts(const char *what, const uint8_t *run, uint64_t length, uint64_t code, uint64_t place, uint64_t count) {
+    uint64_t p = 77, n = 77;
+    printf("c: count of %s\n", what);
+    same("the code", kto_count(run, length, &p, &n), code);
+    same("the place", p, place);
+    same("the count", n, count);
+}
+
+/* "the closing 0 among them"; "on code 17 .. the number of whole items before the place, on other refusals 0" */
+static void count_all(void) {
+    counts("the image", image, sizeof image, KTO_ACCEPTED, 68, 20);
+    counts("its former version", former, sizeof former, KTO_ACCEPTED, 67, 20);
+    counts("the report's", report_image, sizeof report_image, KTO_ACCEPTED, 68, 20);
+    counts("all but its last byte", image, 67, KTO_BROKEN_IMAGE, 67, 19);
+    counts("all but the last byte of version 1", former, 66, KTO_BROKEN_IMAGE, 66, 19);
+    counts("forty bytes of it", image, 40, KTO_BROKEN_IMAGE, 37, 10);
+    counts("its header", image, 6, KTO_BROKEN_IMAGE, 6, 0);
+    counts("its header without the kind", image, 5, KTO_BROKEN_IMAGE, 5, 0);
+    counts("four bytes of it", image, 4, KTO_NO_HEADER, 0, 0);
+    counts("a run that is too long", large, sizeof large, KTO_TOO_LONG, KTO_LIMIT, 0);
+    static const uint8_t third[] = {0x4B, 0x54, 0x4F, 0x00, 0x03, 0x01, ITEMS};
+    counts("version 3", third, sizeof third, KTO_WRONG_VERSION, 3, 0);
+}
+
 static void pick_all(void) {
     picks(image, sizeof image, KTO_ROW_GRPHDR_MSGID, 0, KTO_ACCEPTED, 12, 2);
     picks(image, sizeof image, KTO_ROW_STMT_BAL_AMT, 0, KTO_ACCEPTED, 47, 12);
@@ -322,6 +347,7 @@ int main(void) {
     uint64_t length = sizeof whole - 1;
     check_all(length);
     read_all();
+    count_all();
     pick_all();
     write_all(length);
     item_all();

@@ -33,11 +33,14 @@ pub enum Class {
     WriteTightRoom,
     WriteFromDamaged,
     WriteAtTheLimit,
+    Count,
+    CountFromDamaged,
+    CountAtTheLimit,
 }
 
 impl Class {
     /// All classes, each with how often it comes: the shares of checks, reads and picks add up to a thousand.
-    pub const ALL: [(Class, usize); 19] = [
+    pub const ALL: [(Class, usize); 22] = [
         (Class::ValidMessage, 80),
         (Class::TightRoom, 60),
         (Class::OneFault, 170),
@@ -57,6 +60,9 @@ impl Class {
         (Class::WriteTightRoom, 50),
         (Class::WriteFromDamaged, 60),
         (Class::WriteAtTheLimit, 1),
+        (Class::Count, 20),
+        (Class::CountFromDamaged, 60),
+        (Class::CountAtTheLimit, 1),
     ];
 
     /// The ops that its cases ask for.
@@ -66,6 +72,7 @@ impl Class {
             Class::Run | Class::JoinedRun | Class::DamagedRun => &[1],
             Class::Pick | Class::PickFromDamaged => &[2],
             Class::Write | Class::WriteTightRoom | Class::WriteFromDamaged | Class::WriteAtTheLimit => &[3],
+            Class::Count | Class::CountFromDamaged | Class::CountAtTheLimit => &[6],
             _ => &[0],
         }
     }
@@ -91,6 +98,9 @@ impl Class {
             Class::WriteTightRoom => "write of an image, tight room",
             Class::WriteFromDamaged => "write of a damaged image",
             Class::WriteAtTheLimit => "write at the size limit",
+            Class::Count => "count of an image",
+            Class::CountFromDamaged => "count of a damaged image",
+            Class::CountAtTheLimit => "count at the size limit",
         }
     }
 }
@@ -165,6 +175,12 @@ fn make(class: Class, random: &mut Random) -> Case {
         }
         Class::WriteFromDamaged => Case::write(any_room(random), damaged(&image(random), random)),
         Class::WriteAtTheLimit => writes::at_the_limit(image(random), random),
+        Class::Count => Case::count(if random.once_in(3) { joined(random) } else { image(random) }),
+        Class::CountFromDamaged => Case::count(damaged(&image(random), random)),
+        Class::CountAtTheLimit => {
+            let length = LIMIT - 1 + random.below(3);
+            Case::count(filled(image(random), length))
+        }
     }
 }
 

@@ -1,11 +1,12 @@
 //! The feed that `replay` takes, and the line it writes for each case.
 //!
-//! A case is one byte op (0 check, 1 read, 2 pick, 3 write), three 32-bit little-endian numbers (room, of a pick the row; n,
-//! of a pick; length), and that many bytes. Its line is `CODE ROW PLACE HEX`: HEX is the image of an accepted check, the part
-//! of an accepted pick or the file of an accepted write, else nothing behind the third blank. A feed that breaks off, names
-//! another op or a length over 1,048,577 ends with `feed broken at case N`.
+//! A case is one byte op (0 check, 1 read, 2 pick, 3 write, 6 read with its count), three 32-bit little-endian numbers (room, of
+//! a pick the row; n, of a pick; length), and that many bytes. Its line is `CODE ROW PLACE HEX`: HEX is the image of an accepted
+//! check, the part of an accepted pick, the file of an accepted write, or of op 6 the number of items in four bytes, whatever the
+//! code, else nothing behind the third blank. A feed that breaks off, names another op or a length over 1,048,577 ends with `feed
+//! broken at case N`.
 
-use independent::{check, pick, read, write, Answer, LIMIT};
+use independent::{check, pick, read, reading, write, Answer, LIMIT};
 
 /// One question to the unit.
 #[derive(Clone, PartialEq, Eq, Debug)]
@@ -20,6 +21,7 @@ pub enum Op {
     Read,
     Pick { row: u32, n: u32 },
     Write { room: u32 },
+    Count,
 }
 
 impl Op {
@@ -30,18 +32,19 @@ impl Op {
             Op::Read => 1,
             Op::Pick { .. } => 2,
             Op::Write { .. } => 3,
+            Op::Count => 6,
         }
     }
 }
 
 /// The ops that the independent program answers. A proved `replay` may know fewer.
-pub const ALL_OPS: [u8; 4] = [0, 1, 2, 3];
+pub const ALL_OPS: [u8; 5] = [0, 1, 2, 3, 6];
 
 /// The codes that an op answers with.
 pub fn codes(op: u8) -> &'static [u8] {
     match op {
         0 => &[0, 1, 2, 3, 4, 5, 6, 7, 8, 9, 10, 11, 12, 13, 14],
-        1 => &[0, 1, 15, 16, 17],
+        1 | 6 => &[0, 1, 15, 16, 17],
         2 => &[0, 1, 15, 16, 17, 18],
         3 => &[0, 1, 14, 15, 16, 17, 19, 20, 26],
         _ => &[],
@@ -68,11 +71,15 @@ impl Case {
         Case { op: Op::Write { room: room as u32 }, bytes: bytes.into() }
     }
 
+    pub fn count(bytes: impl Into<Vec<u8>>) -> Case {
+        Case { op: Op::Count, bytes: bytes.into() }
+    }
+
     /// The case's bytes in a feed.
     pub fn feed(&self) -> Vec<u8> {
         let (first, second) = match self.op {
             Op::Check { room } | Op::Write { room } => (room, 0),
-            Op::Read => (0, 0),
+            Op::Read | Op::Count => (0, 0),
             Op::Pick { row, n } => (row, n),
         };
         let length = u32::try_from(self.bytes.len()).expect("a case of at most 1,048,577 bytes");
@@ -80,7 +87,7 @@ impl Case {
         [&[self.op.number()], &numbers[..], &self.bytes].concat()
     }
 
-    /// What the independent program answers, with the image, the part or the file.
+    /// What the independent program answers, with the image, the part, the file or the count.
     pub fn answer(&self) -> (Answer, Vec<u8>) {
         match self.op {
             Op::Check { room } => filled(room, |out| check(&self.bytes, out)),
@@ -89,6 +96,10 @@ impl Case {
             Op::Pick { row, n } => {
                 let (answer, part) = pick(&self.bytes, row.into(), n.into());
                 (answer, part.to_vec())
+            }
+            Op::Count => {
+                let (answer, items) = reading(&self.bytes);
+                (answer, u32::try_from(items).expect("at most one item for each byte").to_be_bytes().to_vec())
             }
         }
     }
@@ -125,6 +136,7 @@ pub fn next_case(feed: &[u8]) -> Option<(Case, &[u8])> {
         1 => Op::Read,
         2 => Op::Pick { row: first, n: second },
         3 => Op::Write { room: first },
+        6 => Op::Count,
         _ => return None,
     };
     let length = length as usize;
@@ -169,14 +181,21 @@ mod tests {
             Case::read("KTO\0\u{1}").feed(),
             Case::pick(4, 0, "KTX\0\u{1}").feed(),
             Case::write(100, "KTO\0\u{3}").feed(),
+            Case::count("KTO\0\u{1}\u{1}\u{2}").feed(),
         ];
-        assert_eq!(answers(&feed.concat()), "3 0 5 \n17 0 5 \n15 0 0 \n16 0 3 \n");
+        assert_eq!(answers(&feed.concat()), "3 0 5 \n17 0 5 \n15 0 0 \n16 0 3 \n17 0 7 00000002\n");
         assert_eq!(answers(b""), "");
     }
 
     #[test]
     fn cases_come_back_from_their_feed() {
-        let cases = [Case::check(7, "x"), Case::read(""), Case::pick(300, 4_000_000_000, "yz"), Case::write(9, "KTO")];
+        let cases = [
+            Case::check(7, "x"),
+            Case::read(""),
+            Case::pick(300, 4_000_000_000, "yz"),
+            Case::write(9, "KTO"),
+            Case::count("K"),
+        ];
         assert_eq!(cases.each_ref().map(|case| case.op.number()), ALL_OPS);
         for case in cases {
             let feed = [case.feed(), b"rest".to_vec()].concat();
@@ -190,9 +209,11 @@ mod tests {
         for cut in 1..whole.len() {
             assert_eq!(answers(&[&whole[..], &whole[..cut]].concat()), "15 0 0 \nfeed broken at case 1\n");
         }
-        let mut other_op = whole.clone();
-        other_op[0] = ALL_OPS.len() as u8;
-        assert_eq!(answers(&[other_op, whole.clone()].concat()), "feed broken at case 0\n");
+        for other in (0..=255).filter(|op| !ALL_OPS.contains(op)) {
+            let mut other_op = whole.clone();
+            other_op[0] = other;
+            assert_eq!(answers(&[other_op, whole.clone()].concat()), "feed broken at case 0\n");
+        }
         let mut long = Case::read(vec![0; MOST_BYTES]).feed();
         assert_eq!(answers(&long), "1 0 1048576 \n");
         long[9..13].copy_from_slice(&(MOST_BYTES as u32 + 1).to_le_bytes());

@@ -144,6 +144,7 @@ fn full_of(image: &[u8]) -> Vec<u8> {
 #[cfg(test)]
 mod tests {
     use super::*;
+    use crate::runs::take_apart;
 
     fn lines(said: &Said) -> Vec<&str> {
         std::str::from_utf8(&said.1).unwrap().lines().collect()
@@ -185,8 +186,9 @@ mod tests {
     #[test]
     fn a_full_run_is_divided_to_its_end_and_a_longer_one_is_not() {
         let said = images();
-        let report = every_row(&REPORT).len();
-        let three = ["0 67".to_string(), format!("67 {report}"), format!("{} 68", 67 + report)];
+        let report = every_row(&REPORT);
+        let (report, items) = (report.len(), take_apart(&report).len() + 1);
+        let three = ["0 67 20".to_string(), format!("67 {report} {items}"), format!("{} 68 20", 67 + report)];
         assert_eq!(lines(&said[0])[..3], three);
         assert!(lines(&said[0])[3].starts_with("refused 17 0 "));
         assert_eq!(said[1].1, b"");

@@ -5,7 +5,7 @@
 //! where they were joined.
 
 use cases::any::{Class, Source};
-use cases::runs::{FORMER_FRONT, REPORT_FRONT, STATEMENT_FRONT};
+use cases::runs::{take_apart, FORMER_FRONT, REPORT_FRONT, STATEMENT_FRONT};
 use independent::program::images_program;
 use independent::{pick, read, write, Code, LIMIT};
 
@@ -84,7 +84,7 @@ fn joined_images_are_divided_where_they_were_joined() {
         let mut place = 0;
         let mut expected = String::new();
         for image in joined {
-            expected += &format!("{place} {}\n", image.len());
+            expected += &format!("{place} {} {}\n", image.len(), take_apart(image).len() + 1);
             place += image.len();
         }
         assert_eq!(String::from_utf8(images_program(&joined.concat())).unwrap(), expected);

@@ -1,4 +1,4 @@
-//! Document 01, and sections 1, 2, 3, 5 and 9 of document 02, as a plain program, written from the documents and the settled readings
+//! Document 01, and sections 1, 2, 3, 5, 9 and 10 of document 02, as a plain program, written from the documents and the settled readings
 //! of them.
 //!
 //! The unit in `crates/` is compared with this program. The two share no code, no table and no generated file, so
@@ -24,7 +24,7 @@
 //! | [`check`](mod@check) | the checker |
 //! | [`bytes`] | the values in an image, read back |
 //! | [`order`] | which items can follow which in an image |
-//! | [`read`](mod@read) | the reader, the picker, and the reader that holds its place |
+//! | [`read`](mod@read) | the reader with its count of items, the picker, and the reader that holds its place |
 //! | [`write`](mod@write) | the writer: from image to file |
 //! | [`program`](mod@program) | the programs over standard input |
 
@@ -44,7 +44,7 @@ pub mod write;
 pub use answer::{Answer, Code};
 pub use check::check;
 pub use program::program;
-pub use read::{pick, read, Held};
+pub use read::{pick, read, reading, Held};
 pub use write::write;
 
 /// "input over 1,048,576 bytes": the longest input and the longest run that are judged.

@@ -2,7 +2,7 @@
 
 use crate::answer::{Answer, Code};
 use crate::check::check;
-use crate::read::Held;
+use crate::read::{reading, Held};
 use crate::write::write;
 use crate::LIMIT;
 
@@ -31,9 +31,9 @@ pub fn write_program(input: &[u8]) -> Vec<u8> {
     said(LIMIT, |room| write(run, room))
 }
 
-/// The program `images`: divides a run with the reader that holds its place. For each image a line, where it begins and how
-/// long it is; then nothing at the run's end, else the reader's answer to what is left, "places counted from the start of
-/// that rest".
+/// The program `images`: divides a run with the reader that holds its place. For each image a line, where it begins, how long it is
+/// and how many items the reader took, "the closing 0 among them"; then nothing at the run's end, else the reader's answer to what is
+/// left, "places counted from the start of that rest".
 pub fn images_program(input: &[u8]) -> Vec<u8> {
     let run = &input[..input.len().min(MOST_OF_A_RUN)];
     let mut held = Held::new(run, 0);
@@ -45,7 +45,8 @@ pub fn images_program(input: &[u8]) -> Vec<u8> {
             lines.extend(refused(answer));
             break;
         }
-        lines.extend(format!("{start} {}\n", answer.place).into_bytes());
+        let (_, items) = reading(&run[start..]);
+        lines.extend(format!("{start} {} {items}\n", answer.place).into_bytes());
     }
     lines
 }

@@ -43,15 +43,49 @@ pub fn first_image(run: &[u8]) -> Result<Image, Answer> {
     if run.len() > LIMIT {
         return Err(Answer::new(Code::TooLong, 0, LIMIT));
     }
-    let (version, list, mut at) = front(run)?;
+    let (version, list, start) = front(run)?;
+    let Taken { items, at, ended } = take_items(list, run, start);
+    match ended {
+        true => Ok(Image { version, list, items, length: at + 1 }),
+        // "17 .. place 5 plus the bytes of the most whole items that begin some image", and "item places in version 2 count from 6"
+        false => Err(Answer::new(Code::NoWholeImage, 0, at)),
+    }
+}
+
+/// Section 10 of document 02: "The reader returns the number of items it took, the closing 0 among them ..; on code 17 it is the number of
+/// whole items before the place, on other refusals 0."
+pub fn reading(run: &[u8]) -> (Answer, usize) {
+    let answer = read(run);
+    let count = match (answer.code, front(run)) {
+        (Code::Accepted, Ok((_, list, start))) => take_items(list, run, start).items.len() + 1,
+        (Code::NoWholeImage, Ok((_, list, start))) => take_items(list, run, start).items.len(),
+        // No item stands before a kind byte that is missing or bad.
+        _ => 0,
+    };
+    (answer, count)
+}
+
+/// What is taken of a run from where its items begin.
+struct Taken {
+    items: Vec<Item>,
+    /// Where the items end.
+    at: usize,
+    /// Whether the closing 0 stands there, and may.
+    ended: bool,
+}
+
+/// "the most whole items that begin some image"
+fn take_items(list: &'static List, run: &[u8], start: usize) -> Taken {
     let mut items = Vec::new();
+    let mut at = start;
     let mut order = Order::start(list);
     loop {
         if run.get(at) == Some(&END) && order.may_end() {
-            return Ok(Image { version, list, items, length: at + 1 });
+            return Taken { items, at, ended: true };
         }
-        // "17 .. place 5 plus the bytes of the most whole items that begin some image", and "item places in version 2 count from 6"
-        let (item, length) = next_item(list, run, at, &mut order).ok_or(Answer::new(Code::NoWholeImage, 0, at))?;
+        let Some((item, length)) = next_item(list, run, at, &mut order) else {
+            return Taken { items, at, ended: false };
+        };
         items.push(item);
         at += length;
     }

@@ -127,15 +127,15 @@ fn the_program_that_divides_a_run() {
     let other = image(message_id("M12"));
     let said = |run: &[&[u8]]| String::from_utf8(images_program(&run.concat())).unwrap();
     assert_eq!(said(&[]), "");
-    assert_eq!(said(&[&whole]), "0 68\n");
-    assert_eq!(said(&[&whole, &other, &whole]), "0 68\n68 69\n137 68\n");
-    assert_eq!(said(&[&former_image(), &whole, &former_image()]), "0 67\n67 68\n135 67\n");
-    assert_eq!(said(&[&whole, &other, b"x"]), "0 68\n68 69\nrefused 15 0 0\n");
-    assert_eq!(said(&[&other, &whole[..67]]), "0 69\nrefused 17 0 67\n");
-    assert_eq!(said(&[&whole, b"KTO\x00\x03", &whole[5..]]), "0 68\nrefused 16 0 3\n");
+    assert_eq!(said(&[&whole]), "0 68 20\n");
+    assert_eq!(said(&[&whole, &other, &whole]), "0 68 20\n68 69 20\n137 68 20\n");
+    assert_eq!(said(&[&former_image(), &whole, &former_image()]), "0 67 20\n67 68 20\n135 67 20\n");
+    assert_eq!(said(&[&whole, &other, b"x"]), "0 68 20\n68 69 20\nrefused 15 0 0\n");
+    assert_eq!(said(&[&other, &whole[..67]]), "0 69 20\nrefused 17 0 67\n");
+    assert_eq!(said(&[&whole, b"KTO\x00\x03", &whole[5..]]), "0 68 20\nrefused 16 0 3\n");
     assert_eq!(said(&[b"garbage"]), "refused 15 0 0\n");
     // "1 for a run over the same limit": judged on what is left, which is never more than at the start.
-    assert_eq!(said(&[&whole, &vec![0; LIMIT - 68]]), "0 68\nrefused 15 0 0\n");
+    assert_eq!(said(&[&whole, &vec![0; LIMIT - 68]]), "0 68 20\nrefused 15 0 0\n");
     assert_eq!(said(&[&whole, &vec![0; LIMIT - 67]]), "refused 1 0 1048576\n");
     assert_eq!(said(&[&whole, &vec![0; 2 * LIMIT]]), "refused 1 0 1048576\n");
 }

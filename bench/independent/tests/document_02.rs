@@ -1,11 +1,11 @@
-//! Sections 1, 2, 3, 5 and 9 of document 02, "Write the statement file", "Files with schema hints", "The retired six digits", "Intraday
-//! reports" and "Old transaction codes retired", sentence by sentence. What must be written or answered stands here as a person reads it
-//! from the document; nothing of it is computed.
+//! Sections 1, 2, 3, 5, 9 and 10 of document 02, "Write the statement file", "Files with schema hints", "The retired six digits", "Intraday
+//! reports", "Old transaction codes retired" and "How far does it look?", sentence by sentence. What must be written or answered stands here
+//! as a person reads it from the document; nothing of it is computed.
 
 mod support;
 
 use independent::program::{images_program, program, write_program};
-use independent::{check, pick, read, write, Held, LIMIT};
+use independent::{check, pick, read, reading, write, Held, LIMIT};
 use support::*;
 
 /// The file that is written for an image, with room for any.
@@ -793,9 +793,9 @@ fn picked_from_either_version_and_kind() {
 #[test]
 fn mixed_runs() {
     let run = [former_image(), report_image(), whole_image(), least_image(), former_image()].concat();
-    assert_eq!(images_program(&run), b"0 67\n67 68\n135 68\n203 42\n245 67\n");
+    assert_eq!(images_program(&run), b"0 67 20\n67 68 20\n135 68 20\n203 42 12\n245 67 20\n");
     let behind = images_program(&[&run[..], b"KTO\x00\x02\x03"].concat());
-    assert_eq!(behind, b"0 67\n67 68\n135 68\n203 42\n245 67\nrefused 17 0 5\n");
+    assert_eq!(behind, b"0 67 20\n67 68 20\n135 68 20\n203 42 12\n245 67 20\nrefused 17 0 5\n");
     let mut held = Held::new(&run, 135);
     assert_eq!((numbers(held.read()), held.place()), ((0, 0, 68), 203));
     assert_eq!(held.pick(22, 0).0.code.number(), 18, "the report without a balance is next");
@@ -902,7 +902,10 @@ fn images_with_an_old_code() {
     for beside in [true, false] {
         for (run, at) in old_images(beside) {
             let length = at + 6;
+            // The example's 19 elements, the entry's up to its BkTxCd, Domn's five where it is there, the code's two, the closing 0.
+            let items = 19 + 6 + if beside { 5 } else { 0 } + 2 + 1;
             assert_eq!(run.len(), length);
+            assert_eq!(counted(&run).1, items);
             assert_eq!(numbers(read(&run)), (0, 0, length));
             assert_eq!((numbers(pick(&run, 41, 0).0), pick(&run, 41, 0).1), ((0, 41, at + 4), &b"X"[..]));
             assert_eq!(numbers(pick(&run, 40, 0).0), (18, 0, 0), "a group");
@@ -911,7 +914,7 @@ fn images_with_an_old_code() {
             assert_eq!(pick(&run, 4, 0).1, b"M1");
             assert_eq!(
                 images_program(&[&run[..], &run].concat()),
-                format!("0 {length}\n{length} {length}\n").into_bytes()
+                format!("0 {length} {items}\n{length} {length} {items}\n").into_bytes()
             );
             let double = [&run[..], &run].concat();
             let mut held = Held::new(&double, length);
@@ -980,4 +983,120 @@ fn old_codes_are_not_written() {
     assert_eq!(numbers(write(&several, &mut [])), (26, 40, *at));
     let second = [&image(coded(DOMAIN))[..101], entry].concat();
     assert_eq!(numbers(write(&second, &mut [])), (26, 40, 101 + 20));
+}
+
+// ---- Section 10.
+
+/// What the reader answers, and how many items it took.
+fn counted(run: &[u8]) -> ((u8, u8, usize), usize) {
+    let (answer, items) = reading(run);
+    assert_eq!(answer, read(run), "the answer is the reader's");
+    (numbers(answer), items)
+}
+
+/// "The reader returns the number of items it took, the closing 0 among them": document 01's example has 19 elements, the least report 11.
+#[test]
+fn items_are_counted() {
+    assert_eq!(counted(&former_image()), ((0, 0, 67), 20));
+    assert_eq!(counted(&whole_image()), ((0, 0, 68), 20));
+    assert_eq!(counted(&report_image()), ((0, 0, 68), 20));
+    assert_eq!(counted(&least_image()), ((0, 0, 42), 12));
+    // An element more is an item more, whatever its value; and so is a group.
+    assert_eq!(counted(&image(message_id("A much longer identification"))).1, 20);
+    assert_eq!(counted(&image(amount("1250.50"))).1, 20);
+    let numbered = whole_example().replace("<Acct>", "<ElctrncSeqNb>7</ElctrncSeqNb><Acct>");
+    assert_eq!(counted(&image(numbered)).1, 21);
+    let balances = whole_example().replace(BALANCE, &BALANCE.repeat(3));
+    assert_eq!(counted(&image(balances)).1, 20 + 2 * 8, "a balance has eight elements");
+    // "bytes after the first image don't matter"
+    for behind in [&b"\x00"[..], b"KTO", &whole_image(), &[0xff; 100]] {
+        assert_eq!(counted(&[&whole_image()[..], behind].concat()), ((0, 0, 68), 20));
+    }
+}
+
+/// "on code 17 it is the number of whole items before the place": every cut of an image of each version and kind, by the places at which
+/// items begin in version 2.
+#[test]
+fn items_of_each_cut() {
+    let places = [6, 7, 8, 9, 14, 28, 29, 34, 35, 36, 37, 41, 42, 43, 44, 46, 59, 61, 62, 67];
+    for (image, earlier) in [(former_image(), 1), (whole_image(), 0), (report_image(), 0)] {
+        for length in 6 - earlier..68 - earlier {
+            let (whole, place) =
+                places.iter().enumerate().rev().find(|(_, place)| **place <= length + earlier).unwrap();
+            assert_eq!(counted(&image[..length]), ((17, 0, place - earlier), whole), "{length}");
+            // What stands there in its place is no item that can follow.
+            for other in [b"\xff", b"\x3a"] {
+                let run = [&image[..place - earlier], other].concat();
+                assert_eq!(counted(&run), ((17, 0, place - earlier), whole), "{length}");
+            }
+        }
+    }
+}
+
+/// An early 0 is no closing one, and a broken item is none: neither is counted.
+#[test]
+fn early_ends_and_broken_items() {
+    let whole = whole_image();
+    for (at, items) in [(6, 0), (7, 1), (8, 2), (9, 3), (14, 4), (28, 5), (29, 6), (41, 11), (62, 18)] {
+        assert_eq!(counted(&[&whole[..at], b"\x00"].concat()), ((17, 0, at), items), "{at}");
+        assert_eq!(counted(&[&whole[..at], b"\x00", &whole[at..]].concat()), ((17, 0, at), items), "{at}");
+    }
+    // A reference without a character, a word that is none, an amount with a digit to spare, a day that no calendar has.
+    for (at, bytes, items) in
+        [(9, &b"\x04\x00\x00"[..], 3), (44, b"\x12\x04", 14), (46, b"\x13EUR\x01\x00\x00\x00\x00\x00\x00\x00\x0a", 15)]
+    {
+        assert_eq!(counted(&[&whole[..at], bytes, &whole[at + bytes.len()..]].concat()), ((17, 0, at), items), "{at}");
+    }
+    let mut february = whole.clone();
+    february[66] = 30;
+    assert_eq!(counted(&february), ((17, 0, 62), 18));
+    // The closing 0 alone is missing: all nineteen elements stand before the place.
+    assert_eq!(counted(&whole[..67]), ((17, 0, 67), 19));
+}
+
+/// "on other refusals 0": 1, 15 and 16; and no item stands before the place of a kind byte that is missing or bad.
+#[test]
+fn no_items_on_other_refusals() {
+    let items = &former_image()[5..];
+    for run in [&b""[..], b"K", b"KTO", b"KTO\x00", b"KTX\x00\x02\x01"] {
+        assert_eq!(counted(run), ((15, 0, 0), 0));
+    }
+    assert_eq!(counted(&[b"KTo\x00\x01", items].concat()), ((15, 0, 0), 0));
+    for version in [0, 3, 256, 258] {
+        for rest in [items, &[&[1], items].concat()] {
+            let run = [b"KTO", &u16::to_be_bytes(version)[..], rest].concat();
+            assert_eq!(counted(&run), ((16, 0, 3), 0), "{version}");
+        }
+    }
+    for kind in [&b""[..], b"\x00", b"\x03", b"\xff"] {
+        let run = if kind.is_empty() { b"KTO\x00\x02".to_vec() } else { [b"KTO\x00\x02", kind, items].concat() };
+        assert_eq!(counted(&run), ((17, 0, 5), 0), "{kind:?}");
+    }
+    // 17 at 5 in version 1 is at its first item, and none stands before it either.
+    assert_eq!(counted(b"KTO\x00\x01"), ((17, 0, 5), 0));
+    let over = [&whole_image()[..], &vec![0; LIMIT]].concat();
+    assert_eq!(counted(&over), ((1, 0, LIMIT), 0));
+    assert_eq!(counted(&over[..LIMIT]), ((0, 0, 68), 20));
+}
+
+/// "On acceptance it is at most the image's length less four": the header has five bytes or six, and each item one at least.
+#[test]
+fn items_are_bounded() {
+    for (image, header) in [(former_image(), 5), (whole_image(), 6), (report_image(), 6), (least_image(), 6)] {
+        let ((code, _, length), items) = counted(&image);
+        assert!(code == 0 && items <= length - header && items <= length - 4);
+    }
+}
+
+/// "And a result buffer as long as the accepted file never gives 14."
+#[test]
+fn a_buffer_as_long_as_the_file_is_enough() {
+    for file in
+        [whole_example(), whole_report(), least_report(), debtor(&"€".repeat(140)), amount("5"), message_id("M")]
+    {
+        let mut room = vec![0; file.len()];
+        assert_eq!(check(file.as_bytes(), &mut room).code.number(), 0);
+        let short = rewritten(&file);
+        assert_eq!(check(short.as_bytes(), &mut vec![0; short.len()]).code.number(), 0);
+    }
 }

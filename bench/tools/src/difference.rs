@@ -63,6 +63,7 @@ fn question(case: &Case) -> String {
         Op::Read => format!("read of {length} bytes"),
         Op::Pick { row, n } => format!("pick of row {row}, n {n}, from {length} bytes"),
         Op::Write { room } => format!("write of {length} bytes, room {room}"),
+        Op::Count => format!("read with its count of {length} bytes"),
     }
 }
 

@@ -12,7 +12,7 @@ use crate::output::named;
 
 /// The ops that the proved `replay` answers; any other breaks its feed. What it learns is put in here: the comparison and the
 /// stored feed then have it too.
-pub const KNOWN_OPS: &[u8] = &[0, 1, 2, 3];
+pub const KNOWN_OPS: &[u8] = &[0, 1, 2, 3, 6];
 
 /// Who answers.
 #[derive(Clone, Debug)]
@@ -88,7 +88,7 @@ pub struct Line {
     pub code: u8,
     pub row: u8,
     pub place: usize,
-    /// The image, the part or the file that is handed back.
+    /// The image, the part, the file or the count that is handed back.
     pub bytes: Vec<u8>,
 }
 

@@ -70,7 +70,7 @@ fn images_are_kept_and_shown() {
     let (status, tree) = grade(&["show", kept[0].to_str().unwrap()]);
     assert_eq!(status, Some(0));
     for line in [
-        "image 1 at byte 0, 3931 bytes, version 2, statement (camt.053.001.08)",
+        "image 1 at byte 0, 3931 bytes, 649 items, version 2, statement (camt.053.001.08)",
         "      ElctrncSeqNb: 3",
         "                  Nm: Müller & Söhne OG",
     ] {
@@ -82,12 +82,15 @@ fn images_are_kept_and_shown() {
     fs::write(&joined, images.concat()).unwrap();
     let (status, tree) = grade(&["show", joined.to_str().unwrap()]);
     assert_eq!(status, Some(0));
-    assert!(tree.contains("image 2 at byte 3931, 1183 bytes"), "{tree}");
+    assert!(tree.contains("image 2 at byte 3931, 1183 bytes, 229 items, version 2"), "{tree}");
 
     fs::write(&joined, [&images[0][..], &images[1][..500]].concat()).unwrap();
     let (status, tree) = grade(&["show", joined.to_str().unwrap()]);
     assert_eq!(status, Some(1));
-    assert!(tree.contains("image 2 at byte 3931: refused 17 BROKEN_IMAGE, no whole image"), "{tree}");
+    assert!(
+        tree.contains("image 2 at byte 3931: refused 17 BROKEN_IMAGE, no whole image, byte 4431, after 94 items"),
+        "{tree}"
+    );
 }
 
 #[test]

@@ -156,8 +156,8 @@ const FAULTS: &[Fault] = &[
     // Item places from 5 in version 2.
     (
         "read.rs",
-        "ok_or(Answer::new(Code::NoWholeImage, 0, at))",
-        "ok_or(Answer::new(Code::NoWholeImage, 0, at - usize::from(version == VERSION)))",
+        "false => Err(Answer::new(Code::NoWholeImage, 0, at)),",
+        "false => Err(Answer::new(Code::NoWholeImage, 0, at - usize::from(version == VERSION))),",
     ),
     // Version 1 written.
     ("content.rs", "&VERSION.to_be_bytes()", "&FORMER_VERSION.to_be_bytes()"),
@@ -217,6 +217,32 @@ const FAULTS: &[Fault] = &[
     ("write.rs", "Answer::new(Code::OldCode, OLD_CODE, item.at)", "Answer::new(Code::OldCode, OLD_CODE, item.at + 1)"),
     // The order of a report's words.
     ("list.rs", "\"PRCD\", \"ITBD\"]", "\"ITBD\", \"PRCD\"]"),
+    // The closing 0 not counted.
+    ("read.rs", "take_items(list, run, start).items.len() + 1,", "take_items(list, run, start).items.len(),"),
+    // A broken item counted, where one begins.
+    (
+        "read.rs",
+        "(Code::NoWholeImage, Ok((_, list, start))) => take_items(list, run, start).items.len(),",
+        "(Code::NoWholeImage, Ok((_, list, start))) => {
+            take_items(list, run, start).items.len() + usize::from(run.len() > answer.place)
+        }",
+    ),
+    // No count where the image is broken.
+    ("read.rs", "(Code::NoWholeImage, Ok((_, list, start))) =>", "(Code::RuleBroken, Ok((_, list, start))) =>"),
+    // A count with 16, and with a bad kind byte.
+    (
+        "read.rs",
+        "        _ => 0,\n    };\n    (answer, count)",
+        "        _ => answer.place,\n    };\n    (answer, count)",
+    ),
+    // The image's length for its count.
+    ("read.rs", "    (answer, count)\n", "    (answer, if answer.is_accepted() { answer.place - 6 } else { count })\n"),
+    // Leaves alone.
+    (
+        "read.rs",
+        "take_items(list, run, start).items.len() + 1,",
+        "take_items(list, run, start).items.iter().filter(|item| item.leaf.is_some()).count() + 1,",
+    ),
 ];
 
 #[test]

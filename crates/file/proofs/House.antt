@@ -1,13 +1,13 @@
 -- What holds of `check`'s answers with document 01's types and the list that a file chooses. Assumes nothing.
 use mathlib.Core.Path.{_≡_, refl, sym, _∙_, ap, ap₂, subst}
 use mathlib.Core.Bool.{Bool, true, false, _||_, not, false≢true}
-use mathlib.Core.Logic.{_≢_, _↔_}
+use mathlib.Core.Logic.{_≢_, _↔_, inl, inr}
 use mathlib.Core.List.{List, [], _++_, append-nil}
 use Prim.Native.Nat.{ℕ, zero, suc, _+_, _≤_}
 use native.Mathlib.Omega.{arith}
 use native.Mathlib.Decide.{decLt}
 use lib.Dec.{leb}
-use lib.ListN.{length, take, drop, take-append-drop}
+use lib.ListN.{length, take, drop, length-append, take-append-drop}
 use borrow.Author.Tests.{leb-true, not-false}
 use Rattle.answer.specs.declared.Answer.{Answer}
 use Rattle.answer.specs.Table.{accepted, limit}
@@ -29,12 +29,13 @@ use Rattle.file_walk.specs.Types.{Judge, Decides, Spelling}
 use Rattle.file_walk.specs.First.{First}
 use Rattle.file_walk.specs.mirror.Machine.{judgeOf, spellerOf, Computes}
 use Rattle.file_walk.proofs.violation.Judges.{computes-decides}
-use Rattle.image.specs.Place.{Apart}
-use Rattle.image.proofs.answers.Heads.{apart}
+use Rattle.image.specs.Image.{header, body, image}
+use Rattle.image.specs.Place.{Apart, Front}
+use Rattle.image.proofs.answers.Heads.{apart, header-length, front-five, front-size}
 use Rattle.image.proofs.types.Lawful.{lawful}
 use Rattle.image_reading.specs.Reads.{HouseAccepts, HouseReads}
 use Rattle.image_reading.proofs.House.{house-accepts-one, house-list-one}
-use Rattle.file.specs.Instance.{houseTypes, houseKinds}
+use Rattle.file.specs.Instance.{houseTypes, houseKinds, valuesOf}
 use Rattle.file.specs.File.{Whole, messageIn, File, imageOf}
 use Rattle.file.specs.Checks.{Checks, Filed, Finds}
 use Rattle.file.specs.Hints.{HintsAlone}
@@ -108,6 +109,15 @@ names-tested = each-asked Tested house-tested report-tested
 pub image-no-longer : (s : List ℕ) (l : Listing) (c : Content Value) → Filed s l c → length (imageOf houseKinds l c) ≤ length s
 image-no-longer s l c f = image-short houseKinds spelling l (asked-well l (f .among)) (num-names l (names-tested l (f .among))) (value-laws .short) s c (f .file)
 
+-- nor is one in another version, as it may have been stored
+pub stored-no-longer : (s : List ℕ) (l : Listing) (c : Content Value) → Filed s l c → (h : List ℕ) → Front l h → length (h ++ body (valuesOf houseKinds) l c) ≤ length s
+unfolding image
+stored-no-longer s l c f h w =
+    let b = body (valuesOf houseKinds) l c in
+    let n : length (header l ++ b) ≤ length s = image-no-longer s l c f in
+    let m : length h ≤ 6 = elim (front-five l h w []) [ inl e ↦ omega (arith, front-size l h w [] .1 e) | inr e ↦ omega (arith, front-size l h w [] .2 e) ] in
+    omega (arith, n, m, length-append h b, length-append (header l) b, header-length l)
+
 -- a file has one list and one content
 pub one-content : (s : List ℕ) (l m : Listing) (c e : Content Value) → Filed s l c → Filed s m e → (l ≡ m) × (c ≡ e)
 one-content s l m c e f g =
@@ -173,7 +183,7 @@ module _ (s d : List ℕ) (a : Answer) (d′ : List ℕ) (p : Checks s d a d′)
       let o = one-content s (p .list) l (t .content) c (taken-filed t) f in
       general.written houseKinds (p .list) s d a d′ t ∙ ap₂ (λ (x : Listing) (y : Content Value). imageOf houseKinds x y) (o .0) (o .1)
 
-  -- a buffer as long as the file is long enough: 14 is never the answer then
+  -- "And a result buffer as long as the accepted file never gives 14": whatever its kind
   pub room-enough : length s ≤ length d → a .code ≢ 14
   room-enough = general.room-enough houseKinds (p .list) s d a d′ (λ u c f. image-no-longer u (p .list) c (record { among = p .among; file = f })) (p .answers)
 

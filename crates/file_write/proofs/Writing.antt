@@ -112,8 +112,8 @@ module _ (run : List ℕ) (x : Reading) (b : Begun run x) where
     from : x .from ≡ length (image .head)
 
   opening : Begun run x → x .answer .code ≡ 0 → Opening
-  opening (refuses h n f g) z = absurd (n z)
-  opening (accepts lim n w e f g) z = record { lim = lim; long = n; image = w; kind = f; from = g }
+  opening (refuses h n f g u) z = absurd (n z)
+  opening (accepts lim n w e f g u) z = record { lim = lim; long = n; image = w; kind = f; from = g }
 
   -- over the table of the list of files of its kind
   module _ (z : x .answer .code ≡ 0) (t : List ℕ) (y : Asks t (x .kind)) (p : List ℕ) (ep : p ≡ housePool) where

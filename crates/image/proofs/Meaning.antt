@@ -18,6 +18,7 @@ use Rattle.value.specs.Value.{Value, IsValue, bytes}
 use Rattle.image.specs.Image.{valueBytes}
 use Rattle.image.specs.Kinds.{lengthBytes, values}
 use Rattle.image.specs.Place.{Holds, Tells}
+use Rattle.image.specs.Count.{Taken}
 use Rattle.image.specs.Pick.{Selects}
 use Rattle.image.specs.Means.{ItemEnds, Told, SelectsAnswer, SelectsPart}
 use Rattle.image.specs.mirror.Follow.{OfKind, ItemOk}
@@ -130,12 +131,12 @@ module _ (t pool : List ℕ) (so : Sound t pool) (s : List ℕ) where
       )
 
   -- the reader's promise, in sound tables
-  pub body-means : (from : ℕ) (a : Answer) → Behind t (itemEnd t s) s from a → Tells values l (drop from s) from a
-  body-means from a h = behind-tells t (itemEnd t s) s values lawful l (so .well) (lines t pool so) ending from a h
+  pub body-means : (from : ℕ) (a : Answer) (n : ℕ) → Behind t (itemEnd t s) s from a n → Tells values l (drop from s) from a × Taken values l (drop from s) a n
+  body-means from a n h = behind-tells t (itemEnd t s) s values lawful l (so .well) (lines t pool so) ending from a n h
 
   -- some answer fits
   pub body-some : (from : ℕ) → (a : Answer) × Tells values l (drop from s) from a
-  body-some from = let o = behind-some t (itemEnd t s) s values lawful l (so .well) (lines t pool so) ending from in (o .0, body-means from (o .0) (o .1))
+  body-some from = let o = behind-some t (itemEnd t s) s values lawful l (so .well) (lines t pool so) ending from in (o .0, body-means from (o .0) (o .1) (o .2) .0)
 
   pub head-is : (r : ℕ) (f : Leaf) → 0 < r → r ≤ size l → rowAt l r .kind ≡ leaf f → headOf t r ≡ lengthBytes f
   unfolding headOf
@@ -151,8 +152,8 @@ module _ (t s : List ℕ) where
   pub item-means : (x i e : ℕ) → e ≡ itemEnd t s x i → (e ≡ itemEnd t s x i) × ItemEnds t s x i e
   item-means x i e h = (h, (λ pool so a b. rw h (item-ends t pool so s x i a b)))
 
-  pub read-means : (from : ℕ) (a : Answer) → Behind t (itemEnd t s) s from a → Behind t (itemEnd t s) s from a × Told t s from a
-  read-means from a h = (h, (λ pool so. body-means t pool so s from a h))
+  pub read-means : (from : ℕ) (a : Answer) (n : ℕ) → Behind t (itemEnd t s) s from a n → Behind t (itemEnd t s) s from a n × Told t s from a n
+  read-means from a n h = (h, (λ pool so. body-means t pool so s from a n h))
 
   pub answer-means : (from r n : ℕ) (a : Answer) → Answered t (itemEnd t s) s from r n a → Answered t (itemEnd t s) s from r n a × SelectsAnswer t s from r n a
   answer-means from r n a h = (h, (λ pool so k w. (h .part, pick-means t pool so s from k w r n a (h .part) (h .chooses))))

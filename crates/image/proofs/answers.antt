@@ -3,6 +3,8 @@
 pub mod One
 -- what is not missing is found
 pub mod Some
+-- how many items are counted
+pub mod Count
 -- where a picked part stands
 pub mod There
 -- how images begin

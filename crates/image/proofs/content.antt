@@ -17,3 +17,5 @@ pub mod Images
 pub mod Within
 -- what the reader answers item by item is what is defined
 pub mod Stops
+-- how many items are taken
+pub mod Taken

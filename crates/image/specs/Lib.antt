@@ -5,6 +5,8 @@ pub mod Image
 pub mod Kinds
 -- what the reader answers
 pub mod Place
+-- how many items the reader takes
+pub mod Count
 -- what the picker answers and hands back
 pub mod Pick
 -- what both answer over tables that say a well-formed list

@@ -11,6 +11,7 @@ use Rattle.list.specs.Sound.{Sound}
 use Rattle.value_from_bytes.specs.Stands.{Ends}
 use Rattle.image.specs.Kinds.{values}
 use Rattle.image.specs.Place.{Holds, Tells}
+use Rattle.image.specs.Count.{Taken}
 use Rattle.image.specs.Pick.{Selects}
 
 -- t is the first table of the two
@@ -21,9 +22,9 @@ module _ (t s : List ℕ) where
       (pool : List ℕ) → Sound t pool → 0 < x → x ≤ size (listOf t pool) →
       (isGroup (rowAt (listOf t pool) x .kind) ≡ true → e ≡ i) × ((f : Leaf) → rowAt (listOf t pool) x .kind ≡ leaf f → Ends f s i e)
 
-  -- what is answered for the items from a place on
-  abbrev pub Told : ℕ → Answer → Type 0
-  Told from a = (pool : List ℕ) → Sound t pool → Tells values (listOf t pool) (drop from s) from a
+  -- what is answered for the items from a place on, and how many are taken
+  abbrev pub Told : ℕ → Answer → ℕ → Type 0
+  Told from a n = (pool : List ℕ) → Sound t pool → Tells values (listOf t pool) (drop from s) from a × Taken values (listOf t pool) (drop from s) a n
 
   -- what is answered, and what is handed back, for a content whose items begin at a place
   abbrev pub SelectsAnswer : ℕ → ℕ → ℕ → Answer → Type 0

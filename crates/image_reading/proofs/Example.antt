@@ -24,14 +24,14 @@ use Rattle.value_from_bytes.specs.mirror.Judges.{isReference, textFrom, isWriti
 use Rattle.value_from_bytes.specs.mirror.Ends.{head, width, isValue, begins, valueEnd}
 use Rattle.image.specs.mirror.Step.{isLeaf, again, owed, before, mated, inOrder, beside, inside, climbs, follows, rests, ended}
 use Rattle.image.specs.mirror.Ends.{itemEnd}
-use Rattle.image.specs.mirror.Run.{Turn, stop, next, Comes, halts, moves, headOf, turn, Behind, rooted, hunt, leaves, found}
+use Rattle.image.specs.mirror.Run.{Turn, stop, next, Comes, halts, moves, steps, closing, headOf, turn, Behind, rooted, hunt, leaves, found}
 use Rattle.image.specs.Example.{printedBody, printed, written}
-use Rattle.image_reading.specs.Reads.{HouseReads, HousePicks}
+use Rattle.image_reading.specs.Reads.{HouseReads, HouseCounts, HousePicks}
 use Rattle.image_reading.specs.Forms.{Begun}
 use Rattle.image_reading.specs.mirror.Front.{versionOf, Starts, Fronts}
 use Rattle.image_reading.specs.declared.front.Reading.{Reading}
 use Rattle.image_reading.proofs.Heads.{good-kind}
-use Rattle.image_reading.proofs.House.{Says, starts-former, starts-current, front-starts, begins-with, begins-not, begun-reads, begun-picks}
+use Rattle.image_reading.proofs.House.{Says, starts-former, starts-current, front-starts, begins-with, begins-not, begun-reads, begun-counts, begun-picks}
 
 -- at most k turns, computed
 abbrev on : {A : Type 0} → (ℕ → ℕ → Option A) → Turn A → Option A
@@ -52,17 +52,32 @@ turns-come {A} f (suc k) q i a e = go (f q i) refl e (λ x j. turns-come f k x j
     go (stop b) d e h = let z : b ≡ a = cc in halts (d ∙ ap stop z)
     go (next x j) d e h = moves x j d (h x j e)
 
+-- how many of them go on
+abbrev further : {A : Type 0} → (ℕ → ℕ → ℕ) → Turn A → ℕ
+further f (stop a) = 0
+further f (next x j) = suc (f x j)
+
+paces : {A : Type 0} → (ℕ → ℕ → Turn A) → ℕ → ℕ → ℕ → ℕ
+paces f zero q i = 0
+paces f (suc k) q i = further (paces f k) (f q i)
+
+paces-steps : {A : Type 0} (f : ℕ → ℕ → Turn A) (k q i : ℕ) (a : A) → turns f k q i ≡ some a → (g : Comes f a q i) → steps g ≡ paces f k q i
+unfolding turns paces
+paces-steps f zero q i a e g = let z : _≡_ {A = ℕ} 0 1 = cc in absurd (omega arith)
+paces-steps f (suc k) q i a e (halts d) = sym (ap (further (paces f k)) d)
+paces-steps f (suc k) q i a e (moves x j d g) = ap suc (paces-steps f k x j a (sym (ap (on (turns f k)) d) ∙ e) g) ∙ sym (ap (further (paces f k)) d)
+
 -- the reader over the example, and over all of it but its last byte: from after the root's item
-abbrev Read : List ℕ → ℕ → Answer → Type 0
-Read s i a = turns (turn storedHouseRows (itemEnd storedHouseRows s) s) 30 1 i ≡ some a
+abbrev Read : List ℕ → ℕ → Answer → ℕ → Type 0
+Read s i a n = (turns (turn storedHouseRows (itemEnd storedHouseRows s) s) 30 1 i ≡ some a) × (paces (turn storedHouseRows (itemEnd storedHouseRows s) s) 30 1 i ≡ n)
 
-printed-turns : Read printed 6 (accepted 67) × Read (take 66 printed) 6 (brokenImage 66)
-unfolding printedBody printed turn hunt headOf follows ended isLeaf again owed before mated inOrder beside inside climbs rests cell storedHouseRows itemEnd valueEnd begins isValue width head isReference textFrom isWriting isCurrency isPlace isAmount isReal isDay isMoment charsFrom isByte every any slashes turns numberFrom isRef isTxt decoded isCapital
-printed-turns = (refl, refl)
+printed-turns : Read printed 6 (accepted 67) 18 × Read (take 66 printed) 6 (brokenImage 66) 18
+unfolding printedBody printed turn hunt headOf follows ended isLeaf again owed before mated inOrder beside inside climbs rests cell storedHouseRows itemEnd valueEnd begins isValue width head isReference textFrom isWriting isCurrency isPlace isAmount isReal isDay isMoment charsFrom isByte every any slashes turns paces numberFrom isRef isTxt decoded isCapital
+printed-turns = ((refl, refl), (refl, refl))
 
-written-turns : Read written 7 (accepted 68) × Read (take 67 written) 7 (brokenImage 67)
-unfolding printedBody written turn hunt headOf follows ended isLeaf again owed before mated inOrder beside inside climbs rests cell storedHouseRows itemEnd valueEnd begins isValue width head isReference textFrom isWriting isCurrency isPlace isAmount isReal isDay isMoment charsFrom isByte every any slashes turns numberFrom isRef isTxt decoded isCapital
-written-turns = (refl, refl)
+written-turns : Read written 7 (accepted 68) 18 × Read (take 67 written) 7 (brokenImage 67) 18
+unfolding printedBody written turn hunt headOf follows ended isLeaf again owed before mated inOrder beside inside climbs rests cell storedHouseRows itemEnd valueEnd begins isValue width head isReference textFrom isWriting isCurrency isPlace isAmount isReal isDay isMoment charsFrom isByte every any slashes turns paces numberFrom isRef isTxt decoded isCapital
+written-turns = ((refl, refl), (refl, refl))
 
 -- the picker, over items from a place on: where the value of the n-th leaf of row r stands, and its part
 record Found (s : List ℕ) (from r n p : ℕ) (a : Answer) (part : List ℕ) : Type 0 where
@@ -80,14 +95,14 @@ abbrev balance : List ℕ
 balance = 0x45 ∷ 0x55 ∷ 0x52 ∷ 0x00 ∷ 0x00 ∷ 0x00 ∷ 0x00 ∷ 0x00 ∷ 0x00 ∷ 0x00 ∷ 0x00 ∷ 0x05 ∷ []
 
 printed-found : Found printed 5 4 0 9 (picked 4 11) identified × Found printed 5 19 0 46 (picked 19 46) balance
-unfolding printedBody printed turn hunt headOf follows ended isLeaf again owed before mated inOrder beside inside climbs rests cell storedHouseRows itemEnd valueEnd begins isValue width head isReference textFrom isWriting isCurrency isPlace isAmount isReal isDay isMoment charsFrom isByte every any slashes turns numberFrom isRef isTxt decoded isCapital
+unfolding printedBody printed turn hunt headOf follows ended isLeaf again owed before mated inOrder beside inside climbs rests cell storedHouseRows itemEnd valueEnd begins isValue width head isReference textFrom isWriting isCurrency isPlace isAmount isReal isDay isMoment charsFrom isByte every any slashes turns paces numberFrom isRef isTxt decoded isCapital
 printed-found = (
   record { leafy = refl; hunts = refl; some′ = omega arith; says = refl; holds = refl },
   record { leafy = refl; hunts = refl; some′ = omega arith; says = refl; holds = refl },
 )
 
 written-found : Found written 6 4 0 10 (picked 4 12) identified × Found written 6 19 0 47 (picked 19 47) balance
-unfolding printedBody written turn hunt headOf follows ended isLeaf again owed before mated inOrder beside inside climbs rests cell storedHouseRows itemEnd valueEnd begins isValue width head isReference textFrom isWriting isCurrency isPlace isAmount isReal isDay isMoment charsFrom isByte every any slashes turns numberFrom isRef isTxt decoded isCapital
+unfolding printedBody written turn hunt headOf follows ended isLeaf again owed before mated inOrder beside inside climbs rests cell storedHouseRows itemEnd valueEnd begins isValue width head isReference textFrom isWriting isCurrency isPlace isAmount isReal isDay isMoment charsFrom isByte every any slashes turns paces numberFrom isRef isTxt decoded isCapital
 written-found = (
   record { leafy = refl; hunts = refl; some′ = omega arith; says = refl; holds = refl },
   record { leafy = refl; hunts = refl; some′ = omega arith; says = refl; holds = refl },
@@ -115,61 +130,74 @@ written-kind = (refl, refl)
 says : Says storedHouseRows 1
 says = record { sound = storedHouse-sound; is = λ l i b. ap (λ (k : ℕ). listOf (keptRows k) housePool) b ∙ stored-is l i }
 
-abbrev begun : ℕ → ℕ → Reading
-begun n from = record { answer = accepted n; kind = 1; from = from }
+abbrev begun : ℕ → ℕ → ℕ → Reading
+begun n from count = record { answer = accepted n; kind = 1; from = from; count = count }
 
-fronted-former : (s : List ℕ) (n : ℕ) → Shaped s n 1 5 → 5 < n → n ≤ 67 → Fronts s (begun 5 5)
-fronted-former s n h l u = front-starts s (begun 5 5) (omega (arith, h .long)) (starts-former s (begun 5 5) (omega (arith, h .long), h .named) (h .versioned) refl refl)
+fronted-former : (s : List ℕ) (n : ℕ) → Shaped s n 1 5 → 5 < n → n ≤ 67 → Fronts s (begun 5 5 0)
+fronted-former s n h l u = front-starts s (begun 5 5 0) (omega (arith, h .long)) (starts-former s (begun 5 5 0) (omega (arith, h .long), h .named) (h .versioned) refl refl)
 
-fronted-current : (s : List ℕ) (n : ℕ) → Shaped s n 2 6 → getD s 5 0 ≡ 1 → 6 < n → n ≤ 68 → Fronts s (begun 6 6)
+fronted-current : (s : List ℕ) (n : ℕ) → Shaped s n 2 6 → getD s 5 0 ≡ 1 → 6 < n → n ≤ 68 → Fronts s (begun 6 6 0)
 fronted-current s n h b l u =
-    front-starts s (begun 6 6) (omega (arith, h .long))
-    (starts-current s (begun 6 6) (omega (arith, h .long), h .named) (h .versioned) 1 (good-kind s 1 (sym b) (omega arith)) (λ z. omega arith) refl refl)
+    front-starts s (begun 6 6 0) (omega (arith, h .long))
+    (starts-current s (begun 6 6 0) (omega (arith, h .long), h .named) (h .versioned) 1 (good-kind s 1 (sym b) (omega arith)) (λ z. omega arith) refl refl)
 
 -- read as n bytes, or broken off at a place
-module _ (s : List ℕ) (n v from : ℕ) (h : Shaped s n v from) (l : from < n) (f : Fronts s (begun from from)) where
-  ran : (a : Answer) → Read s (from + 1) a → Behind storedHouseRows (itemEnd storedHouseRows s) s from a
-  ran a e = rooted (omega (arith, h .long)) (h .root) (turns-come (turn storedHouseRows (itemEnd storedHouseRows s) s) 30 1 (from + 1) a e)
+module _ (s : List ℕ) (n v from : ℕ) (h : Shaped s n v from) (l : from < n) (f : Fronts s (begun from from 0)) where
+  ran : (a : Answer) (m : ℕ) → Read s (from + 1) a m → Behind storedHouseRows (itemEnd storedHouseRows s) s from a (suc m + closing a)
+  ran a m e =
+      let g = turns-come (turn storedHouseRows (itemEnd storedHouseRows s) s) 30 1 (from + 1) a (e .0) in
+      let k = paces-steps (turn storedHouseRows (itemEnd storedHouseRows s) s) 30 1 (from + 1) a (e .0) g ∙ e .1 in
+      rooted (omega (arith, h .long)) (h .root) (record { goes = g; many = ap (λ (x : ℕ). suc x + closing a) (sym k) })
 
-  runs : (k : ℕ) → Read s (from + 1) (accepted k) → Begun s (begun k from)
-  runs k e = begins-with s (begun from from) f (λ z. omega arith) storedHouseRows says (accepted k) (ran (accepted k) e) refl
+  runs : (k m : ℕ) → Read s (from + 1) (accepted k) m → Begun s (begun k from (suc m + 1))
+  unfolding closing
+  runs k m e = begins-with s (begun from from 0) f (λ z. omega arith) storedHouseRows says (accepted k) (suc m + 1) (ran (accepted k) m e) refl
 
-  breaks : (k : ℕ) → Read s (from + 1) (brokenImage k) → HouseReads s (brokenImage k)
-  breaks k e =
-      begun-reads s off (begins-not s (begun from from) f (λ z. omega arith) storedHouseRows says (brokenImage k) (ran (brokenImage k) e) (λ z. omega arith) off (refl, refl, refl) .0)
+  breaks : (k m : ℕ) → Read s (from + 1) (brokenImage k) m → HouseReads s (brokenImage k) × HouseCounts s (brokenImage k) (suc m + 0)
+  unfolding closing
+  breaks k m e =
+      let b = begins-not s (begun from from 0) f (λ z. omega arith) storedHouseRows says (brokenImage k) (suc m + 0) (ran (brokenImage k) m e) (λ z. omega arith) off (refl, refl, refl, refl) .0 in
+      (begun-reads s off b, begun-counts s off b)
     where
       off : Reading
-      off = record { answer = brokenImage k; kind = 0; from = 0 }
+      off = record { answer = brokenImage k; kind = 0; from = 0; count = suc m + 0 }
 
-printed-runs : Begun printed (begun 67 5)
-printed-runs = let h = printed-shaped .0 in runs printed 67 1 5 h (omega arith) (fronted-former printed 67 h (omega arith) (omega arith)) 67 (printed-turns .0)
+printed-runs : Begun printed (begun 67 5 20)
+printed-runs = let h = printed-shaped .0 in runs printed 67 1 5 h (omega arith) (fronted-former printed 67 h (omega arith) (omega arith)) 67 18 (printed-turns .0)
 
-written-runs : Begun written (begun 68 6)
-written-runs = let h = written-shaped .0 in runs written 68 2 6 h (omega arith) (fronted-current written 68 h (written-kind .0) (omega arith) (omega arith)) 68 (written-turns .0)
+written-runs : Begun written (begun 68 6 20)
+written-runs = let h = written-shaped .0 in runs written 68 2 6 h (omega arith) (fronted-current written 68 h (written-kind .0) (omega arith) (omega arith)) 68 18 (written-turns .0)
 
--- "its 67 bytes are still read"; one less is no image, and all its items begin one
+-- "its 67 bytes are still read", 19 items and the closing 0
 pub example-reads : HouseReads printed (accepted 67)
-example-reads = begun-reads printed (begun 67 5) printed-runs
+example-reads = begun-reads printed (begun 67 5 20) printed-runs
 
-pub example-cut : HouseReads (take 66 printed) (brokenImage 66)
-example-cut = let h = printed-shaped .1 in breaks (take 66 printed) 66 1 5 h (omega arith) (fronted-former (take 66 printed) 66 h (omega arith) (omega arith)) 66 (printed-turns .1)
+pub example-counts : HouseCounts printed (accepted 67) 20
+example-counts = begun-counts printed (begun 67 5 20) printed-runs
+
+-- one less is no image, and all its items begin one
+pub example-cut : HouseReads (take 66 printed) (brokenImage 66) × HouseCounts (take 66 printed) (brokenImage 66) 19
+example-cut = let h = printed-shaped .1 in breaks (take 66 printed) 66 1 5 h (omega arith) (fronted-former (take 66 printed) 66 h (omega arith) (omega arith)) 66 18 (printed-turns .1)
 
 -- so are the 68 bytes, "version 2 and kind byte 1"
 pub example-reads-now : HouseReads written (accepted 68)
-example-reads-now = begun-reads written (begun 68 6) written-runs
+example-reads-now = begun-reads written (begun 68 6 20) written-runs
 
-pub example-cut-now : HouseReads (take 67 written) (brokenImage 67)
+pub example-counts-now : HouseCounts written (accepted 68) 20
+example-counts-now = begun-counts written (begun 68 6 20) written-runs
+
+pub example-cut-now : HouseReads (take 67 written) (brokenImage 67) × HouseCounts (take 67 written) (brokenImage 67) 19
 example-cut-now =
-    let h = written-shaped .1 in breaks (take 67 written) 67 2 6 h (omega arith) (fronted-current (take 67 written) 67 h (written-kind .1) (omega arith) (omega arith)) 67 (written-turns .1)
+    let h = written-shaped .1 in breaks (take 67 written) 67 2 6 h (omega arith) (fronted-current (take 67 written) 67 h (written-kind .1) (omega arith) (omega arith)) 67 18 (written-turns .1)
 
-module _ (s : List ℕ) (k from : ℕ) (b : Begun s (begun k from)) where
+module _ (s : List ℕ) (k from count : ℕ) (b : Begun s (begun k from count)) where
   picks : (r n p : ℕ) (a : Answer) (part : List ℕ) → Found s from r n p a part → HousePicks s r n a part
   picks r n p a part f =
-      begun-picks s storedHouseRows (begun k from) says b refl r n a part
+      begun-picks s storedHouseRows (begun k from count) says b refl r n a part
       (found p (f .some′) (leaves (f .leafy) (turns-come (hunt storedHouseRows (itemEnd storedHouseRows s) s r) 30 n from p (f .hunts))) (f .says) (f .holds))
 
 pub example-picks : HousePicks printed 4 0 (picked 4 11) identified × HousePicks printed 19 0 (picked 19 46) balance
-example-picks = let p = picks printed 67 5 printed-runs in (p 4 0 9 (picked 4 11) _ (printed-found .0), p 19 0 46 (picked 19 46) _ (printed-found .1))
+example-picks = let p = picks printed 67 5 20 printed-runs in (p 4 0 9 (picked 4 11) _ (printed-found .0), p 19 0 46 (picked 19 46) _ (printed-found .1))
 
 pub example-picks-now : HousePicks written 4 0 (picked 4 12) identified × HousePicks written 19 0 (picked 19 47) balance
-example-picks-now = let p = picks written 68 6 written-runs in (p 4 0 10 (picked 4 12) _ (written-found .0), p 19 0 47 (picked 19 47) _ (written-found .1))
+example-picks-now = let p = picks written 68 6 20 written-runs in (p 4 0 10 (picked 4 12) _ (written-found .0), p 19 0 47 (picked 19 47) _ (written-found .1))

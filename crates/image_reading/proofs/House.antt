@@ -26,15 +26,17 @@ use Rattle.value.specs.Value.{Value, IsValue}
 use Rattle.image.specs.Image.{versioned, header, body}
 use Rattle.image.specs.Kinds.{values}
 use Rattle.image.specs.Place.{Holds, Tells, held, broke, Front, current, earlier, Among, Apart, over, foreign, version, kindless, broken, wholeImage}
+use Rattle.image.specs.Count.{Taken, counted, headless, uncounted}
 use Rattle.image.specs.Pick.{Selects, none-such, one-such, refused, missing, found}
 use Rattle.image.specs.mirror.Ends.{itemEnd}
 use Rattle.image.specs.mirror.Run.{Behind, Chooses, Answered, Handed}
 use Rattle.image.proofs.answers.Heads.{header-length, apart}
 use Rattle.image.proofs.answers.One.{not-headed, not-version, not-kindless, accepts-one, accepts-list, accepts-head, accepts-content, reads-one, reads-exactly, picks-one, answers-one, hands-one}
+use Rattle.image.proofs.answers.Count.{counts-one, counts-some, few-items}
 use Rattle.image.proofs.types.Lawful.{lawful}
 use Rattle.image.proofs.Meaning.{body-means, body-some, pick-means}
 use Rattle.image.proofs.answers.Some.{picks-some}
-use Rattle.image_reading.specs.Reads.{stored, HouseAccepts, HouseReads, HousePicks, HouseAnswers, HouseHands}
+use Rattle.image_reading.specs.Reads.{stored, HouseAccepts, HouseReads, HouseCounts, HousePicks, HouseAnswers, HouseHands}
 use Rattle.image_reading.specs.Forms.{Headed, bare, leads, Begun, refuses, accepts}
 use Rattle.image_reading.specs.mirror.Front.{Kto, Named, versionOf, KindByte, Starts, Fronts, nothing, headed}
 use Rattle.image_reading.specs.declared.front.Reading.{Reading}
@@ -45,24 +47,29 @@ lists-apart = apart stored bytes-tell
 
 -- ---- how a run begins
 
--- a reading that refuses
-abbrev pub Refused : Reading → Answer → Type 0
-Refused x a = (x .answer ≡ a) × (x .kind ≡ 0) × (x .from ≡ 0)
+-- a reading that refuses, after n items
+abbrev pub Refused : Reading → Answer → ℕ → Type 0
+Refused x a n = (x .answer ≡ a) × (x .kind ≡ 0) × (x .from ≡ 0) × (x .count ≡ n)
 
 module _ (run : List ℕ) where
   -- as no image does
   abbrev Bare : Type 0
   Bare = (l : Listing) → Among l stored → (h s : List ℕ) → Front l h → run ≡ h ++ s → ⊥
 
-  module _ (x : Reading) (a : Answer) (t : Refused x a) where
+  module _ (x : Reading) (a : Answer) (n : ℕ) (t : Refused x a n) where
     refused-reads : HouseReads run a → HouseReads run (x .answer)
     refused-reads h = subst (λ (z : Answer). HouseReads run z) (sym (t .0)) h
+
+    refused-counts : HouseCounts run a n → HouseCounts run (x .answer) (x .count)
+    refused-counts h = subst (λ (z : Answer). HouseCounts run z (x .count)) (sym (t .0)) (subst (HouseCounts run a) (sym (t .3)) h)
 
     refused-code : a .code ≢ 0 → x .answer .code ≢ 0
     refused-code n z = n (sym (ap (λ (y : Answer). y .code) (t .0)) ∙ z)
 
+  -- before any item
+  module _ (x : Reading) (a : Answer) (t : Refused x a 0) where
     no-start : Bare → (length run ≤ limit → HouseReads run a) → a .code ≢ 0 → Starts run x
-    no-start b h n = record { head = bare b (t .1) (t .2); why = λ z. (refused-code n, (λ l. refused-reads (h l))) }
+    no-start b h n = record { head = bare b (t .1) (t .2); why = λ z. (refused-code x a 0 t n, (λ l. refused-reads x a 0 t (h l)), headless b (t .3)) }
 
     pub starts-foreign : (length run < 5) ⊎ (take 3 run ≢ ascii "KTO") → a ≡ noHeader → Starts run x
     starts-foreign k e =
@@ -81,7 +88,9 @@ module _ (run : List ℕ) where
         no-start (λ l i h s f at. not-kindless run l h s f at v′ (n l i)) (λ lim. kindless lim v′ n e) (λ z. omega (arith, ap (λ (y : Answer). y .code) e))
 
     pub front-long : limit < length run → a ≡ tooLong → Fronts run x
-    front-long h e = nothing (refused-reads (over h e)) (refused-code (λ z. omega (arith, ap (λ (y : Answer). y .code) e))) (t .1) (t .2)
+    front-long h e =
+        let c = ap (λ (y : Answer). y .code) e in
+        nothing (refused-reads x a 0 t (over h e)) (refused-code x a 0 t (λ z. omega (arith, c))) (t .1) (t .2) (refused-counts x a 0 t (uncounted (λ z. omega (arith, c)) (λ z. omega (arith, c)) refl))
 
   -- as one does
   module _ (x : Reading) where
@@ -104,7 +113,7 @@ module _ (run : List ℕ) where
     front-starts lim s = go (s .head)
       where
         go : Headed run (x .kind) (x .from) → Fronts run x
-        go (bare n k f) = let w = s .why k in nothing (w .1 lim) (w .0) k f
+        go (bare n k f) = let w = s .why k in nothing (w .1 lim) (w .0) k f (w .2)
         go (leads l i h u f at k e) = headed lim l i h u f at k e
 
   -- every run begins somehow
@@ -113,25 +122,25 @@ module _ (run : List ℕ) where
     where
       of-kind : Kto run → versionOf run ≡ 2 → (b : ℕ) → KindByte run b → Dec (b ≡ 0) → (x : Reading) × Starts run x
       of-kind k v b j (yes z) =
-          let x : Reading = record { answer = brokenImage 5; kind = 0; from = 0 } in
-          (x, starts-kindless x (brokenImage 5) (refl, refl, refl) k v (subst (KindByte run) z j) refl)
+          let x : Reading = record { answer = brokenImage 5; kind = 0; from = 0; count = 0 } in
+          (x, starts-kindless x (brokenImage 5) (refl, refl, refl, refl) k v (subst (KindByte run) z j) refl)
       of-kind k v b j (no z) =
-          let x : Reading = record { answer = accepted 6; kind = b; from = 6 } in
+          let x : Reading = record { answer = accepted 6; kind = b; from = 6; count = 0 } in
           (x, starts-current x k v b j z refl refl)
 
       of-version : Kto run → Dec (versionOf run ≡ 1) → Dec (versionOf run ≡ 2) → (x : Reading) × Starts run x
       of-version k (yes v) d =
-          let x : Reading = record { answer = accepted 5; kind = 1; from = 5 } in
+          let x : Reading = record { answer = accepted 5; kind = 1; from = 5; count = 0 } in
           (x, starts-former x k v refl refl)
       of-version k (no u) (yes v) = let b = kind-told run in of-kind k v (b .0) (b .1) (ℕ-discrete (b .0) 0)
       of-version k (no u) (no v) =
-          let x : Reading = record { answer = wrongVersion; kind = 0; from = 0 } in
-          (x, starts-version x wrongVersion (refl, refl, refl) k u v refl)
+          let x : Reading = record { answer = wrongVersion; kind = 0; from = 0; count = 0 } in
+          (x, starts-version x wrongVersion (refl, refl, refl, refl) k u v refl)
 
       named : (b : Bool) → Named run b → (x : Reading) × Starts run x
       named false n =
-          let x : Reading = record { answer = noHeader; kind = 0; from = 0 } in
-          (x, starts-foreign x noHeader (refl, refl, refl) (n .no′ refl) refl)
+          let x : Reading = record { answer = noHeader; kind = 0; from = 0; count = 0 } in
+          (x, starts-foreign x noHeader (refl, refl, refl, refl) (n .no′ refl) refl)
       named true n = of-version (n .yes′ refl) (ℕ-discrete (versionOf run) 1) (ℕ-discrete (versionOf run) 2)
 
   -- in one way only
@@ -167,17 +176,17 @@ module _ (run : List ℕ) where
   module _ (lim : length run ≤ limit) (l : Listing) (i : Among l stored) (h s : List ℕ) (f : Front l h) (at : run ≡ h ++ s) where
     -- what the items are told to be, by a table of the list
     module _ (t : List ℕ) (k : ℕ) (y : Says t k) (b : k ≡ l .byte) (from : ℕ) (e : from ≡ length h) where
-      home : (a : Answer) → Tells values (listOf t housePool) (drop from run) from a → Tells values l s (length h) a
-      home a w =
-          subst (λ (u : List ℕ). Tells values l u (length h) a) (ap (drop (length h)) at ∙ drop-at h s (length h) refl)
-          (subst (λ (n : ℕ). Tells values l (drop n run) n a) e
-          (subst (λ (m : Listing). Tells values m (drop from run) from a) (y .is l i b) w))
+      home : (P : Listing → List ℕ → ℕ → Type 0) → P (listOf t housePool) (drop from run) from → P l s (length h)
+      home P w =
+          subst (λ (u : List ℕ). P l u (length h)) (ap (drop (length h)) at ∙ drop-at h s (length h) refl)
+          (subst (λ (n : ℕ). P l (drop n run) n) e
+          (subst (λ (m : Listing). P m (drop from run) from) (y .is l i b) w))
 
-      behind-tells : (a : Answer) → Behind t (itemEnd t run) run from a → Tells values l s (length h) a
-      behind-tells a w = home a (body-means t housePool (y .sound) run from a w)
+      behind-tells : (a : Answer) (n : ℕ) → Behind t (itemEnd t run) run from a n → Tells values l s (length h) a × Taken values l s a n
+      behind-tells a n w = home (λ m u from. Tells values m u from a × Taken values m u a n) (body-means t housePool (y .sound) run from a n w)
 
       behind-some : (a : Answer) × Tells values l s (length h) a
-      behind-some = let o = body-some t housePool (y .sound) run from in (o .0, home (o .0) (o .1))
+      behind-some = let o = body-some t housePool (y .sound) run from in (o .0, home (λ m u from. Tells values m u from (o .0)) (o .1))
 
     accepting-here : (n : ℕ) → Holds values l s n → HouseAccepts run (length h + n)
     accepting-here n w = record { list = l; among = i; head = h; front = f; behind = s; at = at; size = n; holds = w; long = refl }
@@ -186,45 +195,59 @@ module _ (run : List ℕ) where
     tells-reads a (held n w d) = wholeImage lim (length h + n) (accepting-here n w) d
     tells-reads a (broke n w d) = broken lim l i h f s at n w d
 
-    tells-begun : (a : Answer) (k from : ℕ) → k ≡ l .byte → from ≡ length h → Tells values l s (length h) a → a .code ≡ 0 → Begun run (record { answer = a; kind = k; from = from })
+    taken-counts : (a : Answer) (n : ℕ) → Taken values l s a n → HouseCounts run a n
+    taken-counts a n u = counted l i h s f at u
+
+    tells-begun : (a : Answer) (k from c : ℕ) → k ≡ l .byte → from ≡ length h → Tells values l s (length h) a → Taken values l s a c → a .code ≡ 0 → Begun run (record { answer = a; kind = k; from = from; count = c })
     unfolding accepting-here
-    tells-begun a k from b e (held n w d) z = accepts lim (length h + n) (accepting-here n w) d b e
-    tells-begun a k from b e (broke n w d) z = absurd (omega (arith, ap (λ (y : Answer). y .code) d))
+    tells-begun a k from c b e (held n w d) u z = accepts lim (length h + n) (accepting-here n w) d b e (taken-counts a c u)
+    tells-begun a k from c b e (broke n w d) u z = absurd (omega (arith, ap (λ (y : Answer). y .code) d))
 
   -- where no image begins
   pub begins-none : (x : Reading) → Fronts run x → x .kind ≡ 0 → Begun run x × (x .answer .code ≢ 0)
-  begins-none x (nothing h n f g) z = (refuses h n f g, n)
+  begins-none x (nothing h n f g c) z = (refuses h n f g c, n)
   begins-none x (headed lim l i h s f at k e) z = absurd (omega (arith, k, z, kept-well l i .byte .0))
 
   -- where one may, by what its items say
   module _ (x : Reading) (g : Fronts run x) (z : x .kind ≢ 0) (t : List ℕ) (y : Says t (x .kind)) where
-    module _ (a : Answer) (b : Behind t (itemEnd t run) run (x .from) a) where
-      pub begins-with : a .code ≡ 0 → Begun run (record { answer = a; kind = x .kind; from = x .from })
+    module _ (a : Answer) (m : ℕ) (b : Behind t (itemEnd t run) run (x .from) a m) where
+      pub begins-with : a .code ≡ 0 → Begun run (record { answer = a; kind = x .kind; from = x .from; count = m })
       begins-with c = go g
         where
-          go : Fronts run x → Begun run (record { answer = a; kind = x .kind; from = x .from })
-          go (nothing h n f e) = absurd (z f)
-          go (headed lim l i h s f at k e) = tells-begun lim l i h s f at a (x .kind) (x .from) k e (behind-tells lim l i h s f at t (x .kind) y k (x .from) e a b) c
+          go : Fronts run x → Begun run (record { answer = a; kind = x .kind; from = x .from; count = m })
+          go (nothing h n f e u) = absurd (z f)
+          go (headed lim l i h s f at k e) =
+              let o = behind-tells lim l i h s f at t (x .kind) y k (x .from) e a m b in
+              tells-begun lim l i h s f at a (x .kind) (x .from) m k e (o .0) (o .1) c
 
-      pub begins-not : a .code ≢ 0 → (v : Reading) → Refused v a → Begun run v × (v .answer .code ≢ 0)
-      begins-not c v r = let n = refused-code run v a r c in (refuses (refused-reads run v a r (go g)) n (r .1) (r .2), n)
+      pub begins-not : a .code ≢ 0 → (v : Reading) → Refused v a m → Begun run v × (v .answer .code ≢ 0)
+      begins-not c v r =
+          let n = refused-code run v a m r c in
+          let o = go g in
+          (refuses (refused-reads run v a m r (o .0)) n (r .1) (r .2) (refused-counts run v a m r (o .1)), n)
         where
-          go : Fronts run x → HouseReads run a
-          go (nothing h n f e) = absurd (z f)
-          go (headed lim l i h s f at k e) = tells-reads lim l i h s f at a (behind-tells lim l i h s f at t (x .kind) y k (x .from) e a b)
+          go : Fronts run x → HouseReads run a × HouseCounts run a m
+          go (nothing h n f e u) = absurd (z f)
+          go (headed lim l i h s f at k e) =
+              let o = behind-tells lim l i h s f at t (x .kind) y k (x .from) e a m b in
+              (tells-reads lim l i h s f at a (o .0), taken-counts lim l i h s f at a m (o .1))
 
     begins-some : (a : Answer) × HouseReads run a
     begins-some = go g
       where
         go : Fronts run x → (a : Answer) × HouseReads run a
-        go (nothing h n f e) = absurd (z f)
+        go (nothing h n f e u) = absurd (z f)
         go (headed lim l i h s f at k e) =
             let o = behind-some lim l i h s f at t (x .kind) y k (x .from) e in
             (o .0, tells-reads lim l i h s f at (o .0) (o .1))
 
   pub begun-reads : (x : Reading) → Begun run x → HouseReads run (x .answer)
-  begun-reads x (refuses h n f g) = h
-  begun-reads x (accepts lim n w e f g) = wholeImage lim n w e
+  begun-reads x (refuses h n f g c) = h
+  begun-reads x (accepts lim n w e f g c) = wholeImage lim n w e
+
+  pub begun-counts : (x : Reading) → Begun run x → HouseCounts run (x .answer) (x .count)
+  begun-counts x (refuses h n f g c) = c
+  begun-counts x (accepts lim n w e f g c) = c
 
 -- ---- picking
 
@@ -258,8 +281,8 @@ module _ (run t : List ℕ) (k : ℕ) (y : Says t k) where
 module _ (run t : List ℕ) (x : Reading) (y : Says t (x .kind)) where
   -- what is chosen after what was begun
   pub begun-picks : Begun run x → x .answer .code ≡ 0 → (r n : ℕ) (a : Answer) (part : List ℕ) → Chooses t (itemEnd t run) run (x .from) r n a part → HousePicks run r n a part
-  begun-picks (refuses h c f g) z r n a part k = absurd (c z)
-  begun-picks (accepts lim m w e f g) z r n a part k = selects-picks run t (x .kind) y (x .from) m w f g lim r n a part k
+  begun-picks (refuses h c f g u) z r n a part k = absurd (c z)
+  begun-picks (accepts lim m w e f g u) z r n a part k = selects-picks run t (x .kind) y (x .from) m w f g lim r n a part k
 
   module _ (b : Begun run x) (r n : ℕ) where
     pub begun-answers : x .answer .code ≡ 0 → (a : Answer) → Answered t (itemEnd t run) run (x .from) r n a → HouseAnswers run r n a
@@ -274,8 +297,8 @@ module _ (run : List ℕ) where
 
   -- a row whose kind is no leaf's has no value
   pub begun-group : (x : Reading) → Begun run x → (r n : ℕ) → x .answer .code ≡ 0 → houseKind r < 2 → HousePicks run r n noSuchLeaf []
-  begun-group x (refuses k c f g) r n z h = absurd (c z)
-  begun-group x (accepts lim m w e f g) r n z h =
+  begun-group x (refuses k c f g u) r n z h = absurd (c z)
+  begun-group x (accepts lim m w e f g u) r n z h =
       missing lim m w (inl (low-group (rowAt (w .list) r .kind) (omega (arith, stored-kind (w .list) (w .among) r, h)))) refl refl
 
   -- the first image has one length and one content
@@ -325,21 +348,35 @@ module _ (run : List ℕ) where
       let d : 18 ≡ a .code = ap (λ (y : Answer). y .code) (house-answers-one r n noSuchLeaf a (record { part = []; picks = begun-group x b r n z k }) h) in
       omega (arith, d, e)
 
+  -- nor a second count; some fits; and of an image that is accepted, it is at most the image's length less four
+  pub house-counts-one : (a : Answer) (m n : ℕ) → HouseCounts run a m → HouseCounts run a n → m ≡ n
+  house-counts-one = counts-one values stored lawful kept-well lists-apart run
+
+  pub house-counts-some : (a : Answer) → HouseReads run a → (n : ℕ) × HouseCounts run a n
+  house-counts-some = counts-some values stored run
+
+  pub house-few-items : (a : Answer) (n : ℕ) → HouseReads run a → HouseCounts run a n → a .code ≡ 0
+      → (n + 4 ≤ a .place) × (take 5 run ≡ versioned 1 → n + 5 ≤ a .place) × (take 5 run ≡ versioned 2 → n + 6 ≤ a .place)
+  house-few-items = few-items values stored lawful kept-well lists-apart run
+
   -- nor a second kind byte, or a second place of the items
   pub begun-one : (x y : Reading) → Begun run x → Begun run y → x ≡ y
   begun-one x y b c = go (house-reads-one (x .answer) (y .answer) (begun-reads run x b) (begun-reads run y c)) b c
     where
       alike : x .answer ≡ y .answer → x .kind ≡ y .kind → x .from ≡ y .from → x ≡ y
-      alike e f g = λ i. record { answer = e i; kind = f i; from = g i }
+      alike e f g = λ i. record { answer = e i; kind = f i; from = g i; count = many i }
+        where
+          many : x .count ≡ y .count
+          many = house-counts-one (y .answer) (x .count) (y .count) (subst (λ (a : Answer). HouseCounts run a (x .count)) e (begun-counts run x b)) (begun-counts run y c)
 
       code : (n : ℕ) (a b : Answer) → a ≡ b → a .code ≢ 0 → b ≡ accepted n → ⊥
       code n a b e z d = z (ap (λ (u : Answer). u .code) (e ∙ d))
 
       go : x .answer ≡ y .answer → Begun run x → Begun run y → x ≡ y
-      go e (refuses h n f g) (refuses h′ n′ f′ g′) = alike e (f ∙ sym f′) (g ∙ sym g′)
-      go e (refuses h n f g) (accepts l k w d f′ g′) = absurd (code k (x .answer) (y .answer) e n d)
-      go e (accepts l k w d f g) (refuses h n f′ g′) = absurd (code k (y .answer) (x .answer) (sym e) n d)
-      go e (accepts l k w d f g) (accepts l′ k′ w′ d′ f′ g′) =
+      go e (refuses h n f g u) (refuses h′ n′ f′ g′ u′) = alike e (f ∙ sym f′) (g ∙ sym g′)
+      go e (refuses h n f g u) (accepts l k w d f′ g′ u′) = absurd (code k (x .answer) (y .answer) e n d)
+      go e (accepts l k w d f g u) (refuses h n f′ g′ u′) = absurd (code k (y .answer) (x .answer) (sym e) n d)
+      go e (accepts l k w d f g u) (accepts l′ k′ w′ d′ f′ g′ u′) =
           alike e (f ∙ ap (λ (m : Listing). m .byte) (house-list-one k k′ w w′) ∙ sym f′) (g ∙ ap length (house-head-one k k′ w w′) ∙ sym g′)
 
   -- some answer fits: how the run begins tells it, or what stands after its header

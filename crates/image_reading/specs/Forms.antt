@@ -7,7 +7,7 @@ use lib.ListN.{length}
 use Rattle.answer.specs.Table.{accepted, limit}
 use Rattle.list.specs.Listing.{Listing}
 use Rattle.image.specs.Place.{Among, Front}
-use Rattle.image_reading.specs.Reads.{stored, HouseAccepts, HouseReads}
+use Rattle.image_reading.specs.Reads.{stored, HouseAccepts, HouseReads, HouseCounts}
 use Rattle.image_reading.specs.declared.front.Reading.{Reading}
 
 -- the run begins as an image of a list of this kind byte does, whose items begin at a place; or as none, which is 0 and 0
@@ -15,7 +15,8 @@ pub data Headed (run : List ℕ) (kind from : ℕ) : Type 0 where
   bare : ((l : Listing) → Among l stored → (h s : List ℕ) → Front l h → run ≡ h ++ s → ⊥) → kind ≡ 0 → from ≡ 0 → Headed run kind from
   leads : (l : Listing) → Among l stored → (h s : List ℕ) → Front l h → run ≡ h ++ s → kind ≡ l .byte → from ≡ length h → Headed run kind from
 
--- the reader's answer; of an image that it accepts, the kind byte of its list and where its items begin; of a refusal 0 and 0
+-- the reader's answer and its count; of an image that it accepts, the kind byte of its list and where its items begin; of a refusal 0 and 0
 pub data Begun (run : List ℕ) (r : Reading) : Type 0 where
-  refuses : HouseReads run (r .answer) → r .answer .code ≢ 0 → r .kind ≡ 0 → r .from ≡ 0 → Begun run r
-  accepts : length run ≤ limit → (n : ℕ) (w : HouseAccepts run n) → r .answer ≡ accepted n → r .kind ≡ w .list .byte → r .from ≡ length (w .head) → Begun run r
+  refuses : HouseReads run (r .answer) → r .answer .code ≢ 0 → r .kind ≡ 0 → r .from ≡ 0 → HouseCounts run (r .answer) (r .count) → Begun run r
+  accepts : length run ≤ limit → (n : ℕ) (w : HouseAccepts run n) → r .answer ≡ accepted n → r .kind ≡ w .list .byte → r .from ≡ length (w .head)
+      → HouseCounts run (r .answer) (r .count) → Begun run r

@@ -7,6 +7,7 @@ use Rattle.answer.specs.declared.Answer.{Answer}
 pub use Rattle.list_house.specs.Lists.{stored}
 use Rattle.image.specs.Kinds.{values}
 use Rattle.image.specs.Place.{Accepts, Reads}
+use Rattle.image.specs.Count.{CountsItems}
 use Rattle.image.specs.Pick.{Lies, Picks, PickAnswers, Hands}
 
 -- the run begins with an image, n bytes long
@@ -16,6 +17,10 @@ HouseAccepts run n = Accepts values stored run n
 -- what reading answers
 abbrev pub HouseReads : List ℕ → Answer → Type 0
 HouseReads run a = Reads values stored run a
+
+-- how many items it counts, where a is answered
+abbrev pub HouseCounts : List ℕ → Answer → ℕ → Type 0
+HouseCounts run a n = CountsItems values stored run a n
 
 -- what picking answers and hands back: both together, the answer, the part
 abbrev pub HousePicks : List ℕ → ℕ → ℕ → Answer → List ℕ → Type 0

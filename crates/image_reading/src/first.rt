@@ -28,18 +28,21 @@ fn begun(run: &[u8], table: &mut [u16; 4096]) -> Reading
     }
     let rows = kept_rows_of(front.kind);
     lay(&rows, table);
-    let answer = body(table, run, front.from);
+    let items = body(table, run, front.from);
+    let answer = items.answer;
     if answer.code != Answer::ACCEPTED {
-        return refused(answer);
+        return refused(answer, items.count);
     }
     Reading {
         answer,
         kind: front.kind,
         from: front.from,
+        count: items.count,
     }
 }
 
-// The answer for a run, the kind byte of the list of the image that it begins with, and where the items of that image begin.
+// The answer for a run, the kind byte of the list of the image that it begins with, where the items of that image begin, and how many
+// were taken, the closing 0 among them.
 pub fn reading(run: &[u8]) -> Reading
     ensures { λ r. ⌜ Begun (now (run .entry)) r ⌝ }
 {

@@ -8,15 +8,16 @@ ghost use Rattle.answer.specs.Table.{accepted};
 ghost use Rattle.image_reading.specs.Forms.{Headed};
 ghost use Rattle.image_reading.specs.mirror.Front.{Named, versionOf, KindByte, Starts, Fronts};
 
-// What is told of the image that a run begins with: the answer, the kind byte of its list and where its items begin; 0 and 0 where none
-// begins there.
+// What is told of the image that a run begins with: the answer, the kind byte of its list and where its items begin, 0 and 0 where none
+// begins there; and how many items were taken.
 pub struct Reading {
     pub answer: Answer,
     pub kind: usize,
     pub from: usize,
+    pub count: usize,
 }
 
-// The last two of these, which are told without reading an item.
+// The middle two of these, which are told without reading an item.
 pub struct Head {
     pub kind: usize,
     pub from: usize,
@@ -25,13 +26,14 @@ pub struct Head {
 // The kind byte of a statement, which version 1 leaves out.
 const STATEMENT: usize = 1;
 
-pub(crate) fn refused(answer: Answer) -> Reading
-    ensures { λ r. ⌜ (r .answer ≡ answer) × (r .kind ≡ 0) × (r .from ≡ 0) ⌝ }
+pub(crate) fn refused(answer: Answer, count: usize) -> Reading
+    ensures { λ r. ⌜ (r .answer ≡ answer) × (r .kind ≡ 0) × (r .from ≡ 0) × (r .count ≡ count) ⌝ }
 {
     Reading {
         answer,
         kind: 0,
         from: 0,
+        count,
     }
 }
 
@@ -84,7 +86,7 @@ fn start(run: &[u8]) -> Reading
     ensures { λ r. ⌜ Starts (now (run .entry)) r ⌝ }
 {
     if !named(run) {
-        return refused(Answer::no_header());
+        return refused(Answer::no_header(), 0);
     }
     let version = version(run);
     if version == 1 {
@@ -92,19 +94,21 @@ fn start(run: &[u8]) -> Reading
             answer: Answer::accepted(5),
             kind: STATEMENT,
             from: 5,
+            count: 0,
         };
     }
     if version != 2 {
-        return refused(Answer::wrong_version());
+        return refused(Answer::wrong_version(), 0);
     }
     let kind = kind_byte(run);
     if kind == 0 {
-        return refused(Answer::broken_image(5));
+        return refused(Answer::broken_image(5), 0);
     }
     Reading {
         answer: Answer::accepted(6),
         kind,
         from: 6,
+        count: 0,
     }
 }
 
@@ -124,7 +128,7 @@ pub(crate) fn front(run: &[u8]) -> Reading
     ensures { λ r. ⌜ Fronts (now (run .entry)) r ⌝ }
 {
     if Answer::LIMIT < run.len() {
-        return refused(Answer::too_long());
+        return refused(Answer::too_long(), 0);
     }
     start(run)
 }

@@ -7,17 +7,18 @@ use lib.ListN.{length, drop}
 use Rattle.text.specs.Digits.{inDigits}
 use Rattle.answer.specs.declared.Answer.{Answer}
 use Rattle.program_line.specs.Line.{refusal}
-use Rattle.image_reading.specs.Reads.{HouseReads}
+use Rattle.image_reading.specs.Reads.{HouseReads, HouseCounts}
 
--- "one line for each image, `PLACE LENGTH`"
-unfoldable pub imageLine : ℕ → ℕ → List ℕ
-imageLine place size = inDigits place ++ (32 ∷ (inDigits size ++ (10 ∷ [])))
+-- "one line for each image, `PLACE LENGTH ITEMS`"
+unfoldable pub imageLine : ℕ → ℕ → ℕ → List ℕ
+imageLine place size count = inDigits place ++ (32 ∷ (inDigits size ++ (32 ∷ (inDigits count ++ (10 ∷ [])))))
 
 -- what is written for the rest of a run from a place on: "it answers as they do on the rest of the run", places of refusals counted from its start
 pub data Divides (run : List ℕ) : ℕ → List ℕ → Type 0 where
   -- "nothing at the run's end"
   atEnd : {at : ℕ} → length run ≤ at → Divides run at []
-  -- an image, and what stands after it
-  another : {at : ℕ} {said : List ℕ} → at < length run → (a : Answer) → HouseReads (drop at run) a → a .code ≡ 0 → Divides run (at + a .place) said → Divides run at (imageLine at (a .place) ++ said)
+  -- an image with the items that it has, the closing 0 among them, and what stands after it
+  another : {at : ℕ} {said : List ℕ} → at < length run → (a : Answer) → HouseReads (drop at run) a → a .code ≡ 0 → (n : ℕ) → HouseCounts (drop at run) a n
+      → Divides run (at + a .place) said → Divides run at (imageLine at (a .place) n ++ said)
   -- "at the end the reader's own answer for what is left"
   leftOver : {at : ℕ} → at < length run → (a : Answer) → HouseReads (drop at run) a → a .code ≢ 0 → Divides run at (refusal a)

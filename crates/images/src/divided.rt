@@ -1,6 +1,7 @@
 // What the program writes: a run divided with the reader that holds its place.
 use answer::Answer;
 use image_hold::held::next_at;
+use image_reading::first::reading;
 use program_line::answer_line::put_refusal;
 use text::decimal::put;
 use text::number::copy;
@@ -11,23 +12,25 @@ ghost use Rattle.io.specs.Counts.{Counts};
 ghost use Rattle.text.specs.Pasting.{pasted};
 ghost use Rattle.images.specs.Divides.{imageLine, Divides};
 
-// Writes an image's line at a place, its two numbers of at most twenty digits each; the place after it.
-fn put_image(out: &mut [u8], to: usize, place: usize, size: usize) -> usize
-    requires { ⌜ to + 42 ≤ length (now out) ⌝ }
-    ensures { λ r. ⌜ (r ≡ to + length (imageLine place size)) × (now (out .exit) ≡ pasted (now (out .entry)) to (imageLine place size)) ⌝ }
+// Writes an image's line at a place, its three numbers of at most twenty digits each; the place after it.
+fn put_image(out: &mut [u8], to: usize, place: usize, size: usize, count: usize) -> usize
+    requires { ⌜ to + 63 ≤ length (now out) ⌝ }
+    ensures { λ r. ⌜ (r ≡ to + length (imageLine place size count)) × (now (out .exit) ≡ pasted (now (out .entry)) to (imageLine place size count)) ⌝ }
 {
     let blank = to + put(out, to, place as u64);
     copy(b" ", 0, 1, out, blank);
-    let end = blank + 1 + put(out, blank + 1, size as u64);
+    let second = blank + 1 + put(out, blank + 1, size as u64);
+    copy(b" ", 0, 1, out, second);
+    let end = second + 1 + put(out, second + 1, count as u64);
     copy(b"\n", 0, 1, out, end);
     end + 1
 }
 
 // Puts what is written for a run to the start of a buffer, and answers how many bytes it is. A run with an image in it has at most 1,048,576
-// bytes, no image is shorter than six and no line of one longer than 16: so the buffer has room for every line, and for that of a refusal,
+// bytes, no image is shorter than six and no line of one longer than 24: so the buffer has room for every line, and for that of a refusal,
 // of at most 71 bytes, after them.
 pub(crate) fn divided(run: &[u8], out: &mut [u8]) -> usize
-    requires { ⌜ length (now out) ≡ 2796276 ⌝ }
+    requires { ⌜ length (now out) ≡ 4194375 ⌝ }
     ensures is { λ r. ⌜ Divides (now (run .entry)) 0 (take r (now (out .exit))) ⌝ }
     ensures within { λ r. ⌜ Counts r (now (out .exit)) ⌝ }
 {
@@ -38,7 +41,8 @@ pub(crate) fn divided(run: &[u8], out: &mut [u8]) -> usize
         if step.answer.code != Answer::ACCEPTED {
             return n + put_refusal(out, n, step.answer);
         }
-        n = put_image(out, n, at, step.answer.place);
+        let told = reading(&run[at..]);
+        n = put_image(out, n, at, step.answer.place, told.count);
         at = step.at;
     }
     n

@@ -11,7 +11,7 @@ use lib.Seq.{drop-cons}
 use borrow.Author.Tests.{lt-ltb, le-ltb, ltb-false, eq-eqb, ne-eqb}
 use Rattle.answer.specs.Table.{limit}
 use Rattle.program_feed.specs.declared.case.Case.{Case}
-use Rattle.program_feed.specs.declared.case.Case.the-variants.{Check, Read, Pick, Write, Broken}
+use Rattle.program_feed.specs.declared.case.Case.the-variants.{Check, Read, Pick, Write, Count, Broken}
 use Rattle.program_feed.specs.Cases.{little, numberAt, longest, caseBy, caseOf, sizeOf, caseIn}
 
 -- ---- four bytes
@@ -70,10 +70,16 @@ module _ (s : List ℕ) (size : ℕ) (h : 13 ≤ length s) (e : size ≡ numberA
           case-write room f z =
               sym (case-is ∙ rw (le-ltb longest size k, ne-eqb (getD s 0 0) 0 n0, ne-eqb (getD s 0 0) 1 n1, ne-eqb (getD s 0 0) 2 n2, eq-eqb (getD s 0 0) 3 z, f))
 
-          pub case-other : (getD s 0 0 ≡ 3 → ⊥) → Broken ≡ caseOf s
-          unfolding caseBy
-          case-other n3 =
-              sym (case-is ∙ rw (le-ltb longest size k, ne-eqb (getD s 0 0) 0 n0, ne-eqb (getD s 0 0) 1 n1, ne-eqb (getD s 0 0) 2 n2, ne-eqb (getD s 0 0) 3 n3))
+          module _ (n3 : getD s 0 0 ≡ 3 → ⊥) where
+            pub case-count : getD s 0 0 ≡ 6 → Count size ≡ caseOf s
+            unfolding caseBy
+            case-count z =
+                sym (case-is ∙ rw (le-ltb longest size k, ne-eqb (getD s 0 0) 0 n0, ne-eqb (getD s 0 0) 1 n1, ne-eqb (getD s 0 0) 2 n2, ne-eqb (getD s 0 0) 3 n3, eq-eqb (getD s 0 0) 6 z))
+
+            pub case-other : (getD s 0 0 ≡ 6 → ⊥) → Broken ≡ caseOf s
+            unfolding caseBy
+            case-other n6 =
+                sym (case-is ∙ rw (le-ltb longest size k, ne-eqb (getD s 0 0) 0 n0, ne-eqb (getD s 0 0) 1 n1, ne-eqb (getD s 0 0) 2 n2, ne-eqb (getD s 0 0) 3 n3, ne-eqb (getD s 0 0) 6 n6))
 
 -- ---- the case that a feed begins with
 
@@ -102,20 +108,22 @@ roomOf (Check room size) = room
 roomOf (Read size) = 0
 roomOf (Pick row n size) = 0
 roomOf (Write room size) = room
+roomOf (Count size) = 0
 roomOf Broken = 0
 
 -- no case is longer than the longest, or asks for more room than there is
 abbrev pub Kept : Case → Type 0
 Kept c = (sizeOf c ≤ longest) × (roomOf c ≤ limit)
 
-by-tests : (t u v w x : Bool) (room n size : ℕ) → (t ≡ false → size ≤ longest) →
-    Kept (cond t Broken (cond u (Check (min room limit) size) (cond v (Read size) (cond w (Pick room n size) (cond x (Write (min room limit) size) Broken)))))
-by-tests true u v w x room n size h = (zero-le, zero-le)
-by-tests false true v w x room n size h = (h refl, omega arith)
-by-tests false false true w x room n size h = (h refl, zero-le)
-by-tests false false false true x room n size h = (h refl, zero-le)
-by-tests false false false false true room n size h = (h refl, omega arith)
-by-tests false false false false false room n size h = (zero-le, zero-le)
+by-tests : (t u v w x y : Bool) (room n size : ℕ) → (t ≡ false → size ≤ longest) →
+    Kept (cond t Broken (cond u (Check (min room limit) size) (cond v (Read size) (cond w (Pick room n size) (cond x (Write (min room limit) size) (cond y (Count size) Broken))))))
+by-tests true u v w x y room n size h = (zero-le, zero-le)
+by-tests false true v w x y room n size h = (h refl, omega arith)
+by-tests false false true w x y room n size h = (h refl, zero-le)
+by-tests false false false true x y room n size h = (h refl, zero-le)
+by-tests false false false false true y room n size h = (h refl, omega arith)
+by-tests false false false false false true room n size h = (h refl, zero-le)
+by-tests false false false false false false room n size h = (zero-le, zero-le)
 
 pub kept : (s : List ℕ) → Kept (caseOf s)
 unfolding caseOf caseBy
@@ -123,4 +131,4 @@ kept s = go (ltb (length s) 13)
   where
     go : (b : Bool) → Kept (cond b Broken (caseBy (getD s 0 0) (numberAt 1 s) (numberAt 5 s) (numberAt 9 s)))
     go true = (zero-le, zero-le)
-    go false = by-tests (ltb longest (numberAt 9 s)) (eqb (getD s 0 0) 0) (eqb (getD s 0 0) 1) (eqb (getD s 0 0) 2) (eqb (getD s 0 0) 3) (numberAt 1 s) (numberAt 5 s) (numberAt 9 s) (ltb-false longest (numberAt 9 s))
+    go false = by-tests (ltb longest (numberAt 9 s)) (eqb (getD s 0 0) 0) (eqb (getD s 0 0) 1) (eqb (getD s 0 0) 2) (eqb (getD s 0 0) 3) (eqb (getD s 0 0) 6) (numberAt 1 s) (numberAt 5 s) (numberAt 9 s) (ltb-false longest (numberAt 9 s))

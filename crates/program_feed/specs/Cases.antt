@@ -1,4 +1,4 @@
--- A case's head: "one byte op (0 check, 1 read, 2 pick, 3 write), then three 32-bit little-endian numbers". Assumes nothing.
+-- A case's head: "one byte op (0 check, 1 read, 2 pick, 3 write, 6 count), then three 32-bit little-endian numbers". Assumes nothing.
 use mathlib.Core.Bool.{cond}
 use mathlib.Core.List.{List, [], _∷_}
 use Prim.Native.Nat.{ℕ, _+_, _*_, min}
@@ -6,7 +6,7 @@ use lib.Dec.{ltb, eqb}
 use lib.ListN.{length, getD, take, drop}
 use Rattle.answer.specs.Table.{limit}
 use Rattle.program_feed.specs.declared.case.Case.{Case}
-use Rattle.program_feed.specs.declared.case.Case.the-variants.{Check, Read, Pick, Write, Broken}
+use Rattle.program_feed.specs.declared.case.Case.the-variants.{Check, Read, Pick, Write, Count, Broken}
 
 -- the number that bytes write, the least significant first
 unfoldable pub little : List ℕ → ℕ
@@ -30,7 +30,8 @@ caseBy op room n size =
     (cond (eqb op 1) (Read size)
     (cond (eqb op 2) (Pick room n size)
     (cond (eqb op 3) (Write (min room limit) size)
-    Broken))))
+    (cond (eqb op 6) (Count size)
+    Broken)))))
 
 -- "A feed that breaks off": fewer than 13 bytes are no head
 unfoldable pub caseOf : List ℕ → Case
@@ -42,6 +43,7 @@ sizeOf (Check room size) = size
 sizeOf (Read size) = size
 sizeOf (Pick row n size) = size
 sizeOf (Write room size) = size
+sizeOf (Count size) = size
 sizeOf Broken = 0
 
 -- the case that a feed begins with: its head, "then that many bytes"; broken where the feed "breaks off" before they end

@@ -16,6 +16,8 @@ pub enum Case {
     Pick { row: usize, nth: usize, size: usize },
     // A run of `size` bytes that is to be written as a file, for a buffer of `room`.
     Write { room: usize, size: usize },
+    // A run of `size` bytes, whose items are to be counted.
+    Count { size: usize },
     // No case: the head breaks off, or names another op or a length over the longest.
     Broken,
 }
@@ -82,6 +84,9 @@ pub fn case_of(head: &[u8]) -> Case
             size: size,
         };
     }
+    if op == 6 {
+        return Case::Count { size: size };
+    }
     Case::Broken
 }
 
@@ -98,6 +103,7 @@ pub fn size_of(c: Case) -> usize
             size,
         } => size,
         Case::Write { room: _, size } => size,
+        Case::Count { size } => size,
         Case::Broken => 0,
     }
 }

@@ -6,21 +6,29 @@ use mathlib.Core.List.{List, []}
 use Prim.Native.Nat.{ℕ, _+_, _≤_}
 use native.Mathlib.Omega.{arith}
 use lib.Dec.{eqb}
-use lib.ListN.{length, take, drop, length-take}
+use lib.ListN.{length, take, drop, replicate, length-take}
+use lib.Seq.{slice}
 use borrow.Author.Tests.{le-leb, eq-eqb, ne-eqb, eqb-true}
+use Rattle.io.specs.Counts.{Counts}
+use Rattle.text.specs.Numbers.{bigEndian}
+use Rattle.text.specs.Pasting.{pasted}
+use Rattle.text.proofs.Pasting.{length-pasted}
 use Rattle.answer.specs.declared.Answer.{Answer}
 use Rattle.answer.specs.Table.{limit}
-use Rattle.image_reading.proofs.House.{house-reads-one, house-picks-one}
+use Rattle.image_reading.proofs.House.{house-reads-one, house-counts-one, house-picks-one}
+use Rattle.image_reading.specs.Reads.{HouseReads, HouseCounts}
 use Rattle.file.specs.Checks.{Checks}
 use Rattle.file_letter.specs.Writes.{Writes}
 use Rattle.file_letter.proofs.Rooms.{written-alike}
 use Rattle.unit.proofs.Programs.{rooms-alike}
 use Rattle.program_feed.specs.declared.case.Case.{Case}
-use Rattle.program_feed.specs.declared.case.Case.the-variants.{Check, Read, Pick, Write, Broken}
+use Rattle.program_feed.specs.declared.case.Case.the-variants.{Check, Read, Pick, Write, Count, Broken}
 use Rattle.program_feed.specs.Cases.{longest, caseOf, sizeOf, caseIn, bytesIn}
 use Rattle.program_feed.specs.Reply.{answerLine, brokenLine, Put}
 use Rattle.program_feed.proofs.Heads.{whole, Kept, kept}
-use Rattle.replay.specs.Replies.{heldBy, Filled, Checked, Measured, Picked, Written, Replies, checked, measured, picked, written, broken}
+use Rattle.program_feed.proofs.Replies.{put-taken}
+use Rattle.program_line.proofs.Lines.{counts}
+use Rattle.replay.specs.Replies.{heldBy, Filled, Checked, Measured, Tallied, Picked, Written, Replies, checked, measured, tallied, picked, written, broken}
 
 -- ---- what a buffer holds
 
@@ -46,6 +54,9 @@ module _ (s : List ℕ) where
   pub in-read : (size : ℕ) → Read size ≡ caseIn s → (13 + size ≤ length s) × (size ≤ longest)
   in-read size e = let w = of-case (Read size) e (λ n. let z : _≡_ {A = ℕ} 0 1 = cc in omega arith) in (w .0, w .1 .0)
 
+  pub in-count : (size : ℕ) → Count size ≡ caseIn s → 13 + size ≤ length s
+  in-count size e = of-case (Count size) e (λ n. let z : _≡_ {A = ℕ} 0 1 = cc in omega arith) .0
+
   pub in-pick : (row n size : ℕ) → Pick row n size ≡ caseIn s → (13 + size ≤ length s) × (size ≤ longest)
   in-pick row n size e = let w = of-case (Pick row n size) e (λ m. let z : _≡_ {A = ℕ} 0 1 = cc in omega arith) in (w .0, w .1 .0)
 
@@ -58,10 +69,34 @@ bytes-most s b size e h = omega (arith, ap length e, length-take size (drop 13 s
 pub take-most : (n : ℕ) (xs : List ℕ) (k : ℕ) → n ≤ k → length (take n xs) ≤ k
 take-most n xs k h = omega (arith, length-take n xs)
 
+-- ---- a number in eight bytes, of which the last four are taken
+
+eight : (n : ℕ) → slice 4 8 (pasted (replicate 8 0) 0 (bigEndian 8 n)) ≡ bigEndian 4 n
+unfolding bigEndian pasted
+eight n = refl
+
+four-long : (n : ℕ) → length (bigEndian 4 n) ≡ 4
+unfolding bigEndian
+four-long n = refl
+
+pub last-four : (e : List ℕ) (n : ℕ) → e ≡ pasted (replicate 8 0) 0 (bigEndian 8 n) → slice 4 8 e ≡ bigEndian 4 n
+last-four e n f = ap (slice 4 8) f ∙ eight n
+
 -- ---- a line that fits
 
 pub put-long : (l d : List ℕ) (r : ℕ) (after : List ℕ) → length l ≤ length d → Put l d r after → r ≤ length d
 put-long l d r after h p = omega (arith, p .length′ ∙ ap (λ (b : Bool). cond b (length l) 0) (le-leb (length l) (length d) h))
+
+-- a read with its count: the answer's line with four bytes
+pub put-tallied : (s : List ℕ) (a : Answer) (n : ℕ) → HouseReads s a → HouseCounts s a n → (e d : List ℕ) (r : ℕ) (after : List ℕ) → e ≡ pasted (replicate 8 0) 0 (bigEndian 8 n) → 2097218 ≤ length d
+    → length (answerLine a (slice 4 8 e)) ≤ 64 + (length (slice 4 8 e) + length (slice 4 8 e)) → Put (answerLine a (slice 4 8 e)) d r after → Tallied s (take r after) × Counts r after
+put-tallied s a n h k e d r after f m w p =
+    let l = answerLine a (slice 4 8 e) in
+    let b = last-four e n f in
+    let g : length l ≤ length d = omega (arith, w, m, ap length b, four-long n) in (
+      record { answer = a; reads = h; count = n; counts = k; line = put-taken l d r after g p ∙ ap (answerLine a) b },
+      counts r after (omega (arith, put-long l d r after g p, ap length (p .buffer), length-pasted d 0 l)),
+    )
 
 -- a check, for a buffer that begins another
 pub put-check : (s : List ℕ) (k room size : ℕ) (b d d′ l : List ℕ) → Check room size ≡ caseIn s → b ≡ bytesIn size s → length d ≡ room → Checked b d d′ l → Replies s k l
@@ -72,6 +107,9 @@ put-write s k room size b d d′ l e f n p = written room size (sym e) d d′ n 
 
 pub put-read : (s : List ℕ) (k size : ℕ) (b l : List ℕ) → Read size ≡ caseIn s → b ≡ bytesIn size s → Measured b l → Replies s k l
 put-read s k size b l e f p = measured size (sym e) (subst (λ (x : List ℕ). Measured x l) f p)
+
+pub put-count : (s : List ℕ) (k size : ℕ) (b l : List ℕ) → Count size ≡ caseIn s → b ≡ bytesIn size s → Tallied b l → Replies s k l
+put-count s k size b l e f p = tallied size (sym e) (subst (λ (x : List ℕ). Tallied x l) f p)
 
 pub put-pick : (s : List ℕ) (k row n size : ℕ) (b l : List ℕ) → Pick row n size ≡ caseIn s → b ≡ bytesIn size s → Picked b row n l → Replies s k l
 put-pick s k row n size b l e f p = picked row n size (sym e) (subst (λ (x : List ℕ). Picked x row n l) f p)
@@ -102,6 +140,12 @@ module _ (s : List ℕ) where
   read-one l m p q =
       p .line ∙ ap (λ (x : Answer). answerLine x []) (house-reads-one s (p .answer) (q .answer) (p .reads) (q .reads)) ∙ sym (q .line)
 
+  count-one : (l m : List ℕ) → Tallied s l → Tallied s m → l ≡ m
+  count-one l m p q =
+      let e = house-reads-one s (p .answer) (q .answer) (p .reads) (q .reads) in
+      let n = house-counts-one s (q .answer) (p .count) (q .count) (subst (λ (a : Answer). HouseCounts s a (p .count)) e (p .counts)) (q .counts) in
+      p .line ∙ ap₂ (λ (x : Answer) (k : ℕ). answerLine x (bigEndian 4 k)) e n ∙ sym (q .line)
+
   pick-one : (row n : ℕ) (l m : List ℕ) → Picked s row n l → Picked s row n m → l ≡ m
   pick-one row n l m p q =
       let o = house-picks-one s row n (p .answer) (q .answer) (p .part) (q .part) (p .picks) (q .picks) in
@@ -113,6 +157,7 @@ Asks s k l (Check room size) = (d : List ℕ) × (d′ : List ℕ) × (length d 
 Asks s k l (Read size) = Measured (bytesIn size s) l
 Asks s k l (Pick row n size) = Picked (bytesIn size s) row n l
 Asks s k l (Write room size) = (d : List ℕ) × (d′ : List ℕ) × (length d ≡ room) × Written (bytesIn size s) d d′ l
+Asks s k l (Count size) = Tallied (bytesIn size s) l
 Asks s k l Broken = l ≡ brokenLine k
 
 asks : (s : List ℕ) (k : ℕ) (l : List ℕ) → Replies s k l → Asks s k l (caseIn s)
@@ -120,6 +165,7 @@ asks s k l (checked r z e d d′ n p) = subst (Asks s k l) (sym e) (d, d′, n, 
 asks s k l (measured z e p) = subst (Asks s k l) (sym e) p
 asks s k l (picked w n z e p) = subst (Asks s k l) (sym e) p
 asks s k l (written r z e d d′ n p) = subst (Asks s k l) (sym e) (d, d′, n, p)
+asks s k l (tallied z e p) = subst (Asks s k l) (sym e) p
 asks s k l (broken e q) = subst (Asks s k l) (sym e) q
 
 asks-one : (s : List ℕ) (k : ℕ) (l m : List ℕ) (c : Case) → Asks s k l c → Asks s k m c → l ≡ m
@@ -129,6 +175,7 @@ asks-one s k l m (Read z) p q = read-one (bytesIn z s) l m p q
 asks-one s k l m (Pick w n z) p q = pick-one (bytesIn z s) w n l m p q
 asks-one s k l m (Write r z) (d, d′, n, p) (e, e′, i, q) =
     filled-one (Writes (bytesIn z s) d) (Writes (bytesIn z s) e) d′ e′ l m (λ a b. written-alike d e (n ∙ sym i) (bytesIn z s) a b d′ e′) p q
+asks-one s k l m (Count z) p q = count-one (bytesIn z s) l m p q
 asks-one s k l m Broken p q = p ∙ sym q
 
 pub replies-one : (s : List ℕ) (k : ℕ) (l m : List ℕ) → Replies s k l → Replies s k m → l ≡ m

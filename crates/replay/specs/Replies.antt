@@ -6,11 +6,12 @@ use Prim.Native.Nat.{ℕ}
 use lib.Dec.{eqb}
 use lib.ListN.{length, take}
 use Rattle.answer.specs.declared.Answer.{Answer}
-use Rattle.image_reading.specs.Reads.{HouseReads, HousePicks}
+use Rattle.text.specs.Numbers.{bigEndian}
+use Rattle.image_reading.specs.Reads.{HouseReads, HouseCounts, HousePicks}
 use Rattle.file.specs.Checks.{Checks}
 use Rattle.file_letter.specs.Writes.{Writes}
 use Rattle.program_feed.specs.declared.case.Case.{Case}
-use Rattle.program_feed.specs.declared.case.Case.the-variants.{Check, Read, Pick, Write, Broken}
+use Rattle.program_feed.specs.declared.case.Case.the-variants.{Check, Read, Pick, Write, Count, Broken}
 use Rattle.program_feed.specs.Cases.{caseIn, bytesIn}
 use Rattle.program_feed.specs.Reply.{answerLine, brokenLine}
 
@@ -38,6 +39,14 @@ pub record Measured (s l : List ℕ) : Type 0 where
   pub reads : HouseReads s answer
   pub line : l ≡ answerLine answer []
 
+-- "6 read with its count": "the number of items, 4 bytes big-endian, on every answer"
+pub record Tallied (s l : List ℕ) : Type 0 where
+  pub answer : Answer
+  pub reads : HouseReads s answer
+  pub count : ℕ
+  pub counts : HouseCounts s answer count
+  pub line : l ≡ answerLine answer (bigEndian 4 count)
+
 -- "2 pick": "the part of an accepted pick", of a refused one the empty part
 pub record Picked (s : List ℕ) (row n : ℕ) (l : List ℕ) : Type 0 where
   pub answer : Answer
@@ -53,6 +62,7 @@ pub data Replies (s : List ℕ) (k : ℕ) (l : List ℕ) : Type 0 where
   picked : (row n size : ℕ) → caseIn s ≡ Pick row n size → Picked (bytesIn size s) row n l → Replies s k l
   -- for a buffer of so much room
   written : (room size : ℕ) → caseIn s ≡ Write room size → (d d′ : List ℕ) → length d ≡ room → Written (bytesIn size s) d d′ l → Replies s k l
+  tallied : (size : ℕ) → caseIn s ≡ Count size → Tallied (bytesIn size s) l → Replies s k l
   -- "A feed that breaks off, names another op or a greater length ends with the line `feed broken at case N` (N from 0)"
   broken : caseIn s ≡ Broken → l ≡ brokenLine k → Replies s k l
 
@@ -62,4 +72,5 @@ goesOn (Check room size) = true
 goesOn (Read size) = true
 goesOn (Pick row n size) = true
 goesOn (Write room size) = true
+goesOn (Count size) = true
 goesOn Broken = false

@@ -27,6 +27,7 @@ fn goes_on(c: Case) -> bool
             size: _,
         } => true,
         Case::Write { room: _, size: _ } => true,
+        Case::Count { size: _ } => true,
         Case::Broken => false,
     }
 }

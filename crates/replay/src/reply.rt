@@ -5,10 +5,12 @@ use program_feed::case::HEAD;
 use program_feed::case::case_in;
 use program_feed::reply::put_answer;
 use program_feed::reply::put_broken;
+use text::number::put64;
 use unit::check::check;
 use unit::pick::pick;
 use unit::pick::picked;
 use unit::read::read;
+use unit::read::reading;
 use unit::write::write;
 ghost use mathlib.Core.Path.{_≡_};
 ghost use Prim.Native.Nat.{_+_, _≤_};
@@ -16,7 +18,7 @@ ghost use lib.ListN.{length, take};
 ghost use Rattle.io.specs.Counts.{Counts};
 ghost use Rattle.program_feed.specs.Cases.{bytesIn};
 ghost use Rattle.program_feed.specs.Reply.{answerLine};
-ghost use Rattle.replay.specs.Replies.{heldBy, Checked, Measured, Picked, Written, Replies};
+ghost use Rattle.replay.specs.Replies.{heldBy, Checked, Measured, Tallied, Picked, Written, Replies};
 
 // The line of an answer and the first n bytes of s, put to the start of a buffer that holds any such; how many bytes it is.
 fn put_line(a: Answer, s: &[u8], n: usize, line: &mut [u8]) -> usize
@@ -69,6 +71,19 @@ fn measured(run: &[u8], line: &mut [u8]) -> usize
     put_line(read(run), run, 0, line)
 }
 
+// A read, with the number of items in four bytes.
+fn tallied(run: &[u8], line: &mut [u8]) -> usize
+    requires { ⌜ 2097218 ≤ length (now line) ⌝ }
+    ensures is { λ r. ⌜ Tallied (now (run .entry)) (take r (now (line .exit))) ⌝ }
+    ensures within { λ r. ⌜ Counts r (now (line .exit)) ⌝ }
+{
+    let told = reading(run);
+    let answer = told.answer;
+    let mut bytes = [0u8; 8];
+    put64(&mut bytes, 0, told.count as u64);
+    put_answer(answer, &bytes, 4, 8, line)
+}
+
 // A pick, with its part.
 fn part_picked(run: &[u8], row: usize, nth: usize, line: &mut [u8]) -> usize
     requires { ⌜ (length (now run) ≤ 1048577) × (2097218 ≤ length (now line)) ⌝ }
@@ -101,6 +116,7 @@ pub(crate) fn reply(feed: &[u8], number: u64, buffer: &mut [u8], line: &mut [u8]
         Case::Read { size } => measured(bytes_behind(feed, size), line),
         Case::Pick { row, nth, size } => part_picked(bytes_behind(feed, size), row, nth, line),
         Case::Write { room, size } => written(bytes_behind(feed, size), &mut buffer[..room], line),
+        Case::Count { size } => tallied(bytes_behind(feed, size), line),
         Case::Broken => put_broken(number, line),
     }
 }

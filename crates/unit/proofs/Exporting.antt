@@ -21,6 +21,10 @@ read-row run a (kindless h k b e) = ap (λ (z : Answer). z .row) e
 read-row run a (broken h l i k f s q n r e) = ap (λ (z : Answer). z .row) e
 read-row run a (wholeImage h n w e) = ap (λ (z : Answer). z .row) e
 
+-- so what is said of the answer is said of its code and place
+pub without-row : (P : Answer → Type 0) (run : List ℕ) (a : Answer) → HouseReads run a → P a → P (answer (a .code) 0 (a .place))
+without-row P run a h = subst (λ (r : ℕ). P (answer (a .code) r (a .place))) (read-row run a h)
+
 module _ (run : List ℕ) (r n : ℕ) where
   pub picks-at : (a : Answer) (part : List ℕ) → HouseAnswers run r n a → HouseHands run r n part → PicksAt run r n (a .code) (a .place) (length part)
   picks-at a part w h =

@@ -3,10 +3,11 @@ use crate::check::check;
 use crate::pick::pick;
 use crate::pick::picked;
 use crate::read::read;
+use crate::read::reading;
 use crate::write::write;
 use answer::Answer;
 ghost use Rattle.answer.specs.Table.{answer};
-ghost use Rattle.image_reading.specs.Reads.{HouseReads};
+ghost use Rattle.image_reading.specs.Reads.{HouseReads, HouseCounts};
 ghost use Rattle.file.specs.Checks.{Checks};
 ghost use Rattle.file_letter.specs.Writes.{Writes};
 ghost use Rattle.unit.specs.Exports.{PicksAt};
@@ -28,6 +29,17 @@ pub extern "C" fn kto_read(run: &[u8], place: &mut u64) -> u64
     let a = read(run);
     *place = a.place as u64;
     a.code as u64
+}
+
+// A count without its code does not say whether the items are an image's, so this answers what `kto_read` does, and the count.
+#[no_mangle]
+pub extern "C" fn kto_count(run: &[u8], place: &mut u64, count: &mut u64) -> u64
+    ensures { λ r. ⌜ HouseReads (now (run .entry)) (answer r 0 (now (place .exit))) × HouseCounts (now (run .entry)) (answer r 0 (now (place .exit))) (now (count .exit)) ⌝ }
+{
+    let r = reading(run);
+    *place = r.answer.place as u64;
+    *count = r.count as u64;
+    r.answer.code as u64
 }
 
 // The image is gone over once for the answer and once for the part.

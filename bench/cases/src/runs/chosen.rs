@@ -13,6 +13,13 @@ pub fn fixed_set() -> Vec<Case> {
     cases
 }
 
+/// The runs whose items are counted: those that are read, and every cut of an image with every row, of each version and kind.
+pub fn counts() -> Vec<Case> {
+    let (every_row, report) = (every_row(&STATEMENT), every_row(&REPORT));
+    let cut = [former(&every_row), every_row, report].into_iter().flat_map(|image| cuts(&image));
+    reads().into_iter().chain(cut).map(Case::count).collect()
+}
+
 /// The runs of the fixed set that are read.
 pub fn reads() -> Vec<Vec<u8>> {
     let [whole, least] = [WHOLE, REPORT_LEAST].map(|file| image_of(file.as_bytes()));

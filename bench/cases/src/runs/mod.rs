@@ -3,7 +3,7 @@
 mod chosen;
 mod damage;
 
-pub use chosen::{fixed_set, reads};
+pub use chosen::{counts, fixed_set, reads};
 pub use damage::damaged;
 
 use independent::content::{value_bytes, END};

@@ -87,7 +87,8 @@ fn write_pair(folder: &Path, one: (&str, &[u8]), other: (&str, &[u8])) -> io::Re
 
 /// The cases of all ops that the proved `replay` knows.
 fn known() -> Vec<Case> {
-    let all = [cases::checks::fixed_set(), cases::runs::fixed_set(), cases::writes::fixed_set()].concat();
+    let runs = [cases::runs::fixed_set(), cases::writes::fixed_set(), cases::runs::counts()].concat();
+    let all = [cases::checks::fixed_set(), runs].concat();
     all.into_iter().filter(|case| KNOWN_OPS.contains(&case.op.number())).collect()
 }
 

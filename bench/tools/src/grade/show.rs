@@ -7,18 +7,19 @@ use independent::read::{first_image, Item};
 use independent::types::Value;
 use independent::write::characters;
 
-use super::divide::{divide, Part};
+use super::divide::{divide, in_items, Part};
 use super::report::kind_in_words;
 use crate::unit::Unit;
 
 /// Prints a run of images one after the other. The unit says where each ends. True if the run is images to its end.
 pub fn show(unit: &Unit, run: &[u8], out: &mut dyn Write) -> io::Result<bool> {
-    let left = divide(unit, run, |Part { number, start, bytes }| {
+    let left = divide(unit, run, |Part { number, start, bytes, items }| {
         let Ok(image) = first_image(bytes) else {
             return Err(io::Error::other(format!("the independent program doesn't read the image at byte {start}")));
         };
         let kind = kind_in_words(image.list);
-        writeln!(out, "image {number} at byte {start}, {} bytes, version {}, {kind}", image.length, image.version)?;
+        let size = format!("{} bytes, {}", image.length, in_items(items));
+        writeln!(out, "image {number} at byte {start}, {size}, version {}, {kind}", image.version)?;
         image.items.iter().try_for_each(|item| writeln!(out, "{}", item_line(image.list, item)))
     })?;
     match left {

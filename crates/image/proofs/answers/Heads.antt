@@ -55,6 +55,15 @@ module _ (l : Listing) (h : List ℕ) where
   front-six (current e) s z = rw (e ∙ header-bytes l) (sym (header-bytes l))
   front-six (earlier b e) s z = absurd (omega (arith, behind-four (sym (ap (λ (g : List ℕ). take 5 (g ++ s)) (e ∙ first-is)) ∙ z ∙ second-is) .0))
 
+  -- its header has five bytes in version 1, six in version 2
+  pub front-size : Front l h → (s : List ℕ) → (5 ≤ length h) × (take 5 (h ++ s) ≡ versioned 1 → length h ≡ 5) × (take 5 (h ++ s) ≡ versioned 2 → length h ≡ 6)
+  front-size (current e) s =
+      let n : length h ≡ 6 = ap length e ∙ header-length l in
+      (omega (arith, n), (λ z. absurd (omega (arith, behind-four (sym (ap (λ (g : List ℕ). take 5 (g ++ s)) (e ∙ header-bytes l)) ∙ z ∙ first-is) .0))), (λ z. n))
+  front-size (earlier b e) s =
+      let n : length h ≡ 5 = ap length (e ∙ first-is) in
+      (omega (arith, n), (λ z. n), (λ z. absurd (omega (arith, behind-four (sym (ap (λ (g : List ℕ). take 5 (g ++ s)) (e ∙ first-is)) ∙ z ∙ second-is) .0))))
+
 -- a run of version 2 has five bytes and is named
 pub second-named : (run : List ℕ) → take 5 run ≡ versioned 2 → (5 ≤ length run) × (take 3 run ≡ ascii "KTO")
 second-named [] e = absurd (omega (arith, ap length (e ∙ second-is)))

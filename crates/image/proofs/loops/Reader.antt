@@ -21,9 +21,10 @@ use Rattle.image.specs.Place.{Holds, Breaks, Tells, held, broke}
 use Rattle.image.specs.mirror.Follow.{Next, ItemOk}
 use Rattle.image.specs.mirror.Reader.{Stuck, Open, Stops, Ends}
 use Rattle.image.specs.mirror.Step.{follows, ended}
-use Rattle.image.specs.mirror.Run.{Turn, stop, next, Comes, halts, moves, turn, Goes, Behind, rootless, rooted}
+use Rattle.image.specs.Count.{Taken}
+use Rattle.image.specs.mirror.Run.{Turn, stop, next, Comes, halts, moves, steps, closing, turn, Goes, Took, Behind, rootless, rooted}
 use Rattle.image.proofs.content.Rows.{next-in, well}
-use Rattle.image.proofs.content.Stops.{stops-on, stops-here, ends-on, ends-here, holds, breaks, breaks-root}
+use Rattle.image.proofs.content.Stops.{stops-on, stops-here, ends-on, ends-here, holds, breaks, breaks-root, ends-taken, stops-taken, root-taken}
 use Rattle.image.proofs.next.Step.{Lines, follows-is, ended-is}
 
 -- turn by turn there is one result only
@@ -36,16 +37,28 @@ comes-one {f = f} {b = b} (moves x j e g) (moves y k d h) =
     let ek : k ≡ j = cc in
     comes-one g (subst (λ (z : ℕ). Comes f b z j) ex (subst (λ (z : ℕ). Comes f b y z) ek h))
 
+-- and one number of turns
+steps-alike : {A : Type 0} {f : ℕ → ℕ → Turn A} {a b : A} {q i p o : ℕ} (g : Comes f a q i) (h : Comes f b p o) → q ≡ p → i ≡ o → steps g ≡ steps h
+steps-alike (halts e) (halts d) u v = refl
+steps-alike (halts e) (moves x j d g) u v = let z : _≡_ {A = ℕ} 0 1 = cc in absurd (omega arith)
+steps-alike (moves x j e g) (halts d) u v = let z : _≡_ {A = ℕ} 0 1 = cc in absurd (omega arith)
+steps-alike (moves x j e g) (moves y k d h) u v =
+    let ex : x ≡ y = cc in
+    let ej : j ≡ k = cc in
+    ap suc (steps-alike g h ex ej)
+
 module _ (t : List ℕ) (fin : ℕ → ℕ → ℕ) (s : List ℕ) where
   not-rooted : (from : ℕ) → (length s ≤ from) ⊎ (getD s from 0 ≢ 1) → from < length s → getD s from 0 ≡ 1 → ⊥
   not-rooted from (inl h) g e = omega arith
   not-rooted from (inr h) g e = h e
 
-  pub behind-one : (from : ℕ) (a b : Answer) → Behind t fin s from a → Behind t fin s from b → a ≡ b
-  behind-one from a b (rootless x e) (rootless y f) = e ∙ sym f
-  behind-one from a b (rootless x e) (rooted y z f) = absurd (not-rooted from x y z)
-  behind-one from a b (rooted x y e) (rootless z f) = absurd (not-rooted from z x y)
-  behind-one from a b (rooted x y e) (rooted z w f) = comes-one e f
+  pub behind-one : (from : ℕ) (a b : Answer) (m n : ℕ) → Behind t fin s from a m → Behind t fin s from b n → (a ≡ b) × (m ≡ n)
+  behind-one from a b m n (rootless x e d) (rootless y f g) = (e ∙ sym f, d ∙ sym g)
+  behind-one from a b m n (rootless x e d) (rooted y z f) = absurd (not-rooted from x y z)
+  behind-one from a b m n (rooted x y e) (rootless z f g) = absurd (not-rooted from z x y)
+  behind-one from a b m n (rooted x y e) (rooted z w f) =
+      let d = comes-one (e .goes) (f .goes) in
+      (d, e .many ∙ ap₂ (λ (k : ℕ) (c : Answer). suc k + closing c) (steps-alike (e .goes) (f .goes) refl refl) d ∙ sym (f .many))
 
   -- what is asked of `fin`: it finds the value that stands there, or says that none does
   pub record Ending (vs : Values) (l : Listing) : Type 0 where
@@ -55,15 +68,15 @@ module _ (t : List ℕ) (fin : ℕ → ℕ → ℕ) (s : List ℕ) where
         → (v : Option (vs .Value)) × ItemOk vs l x v × (drop i s ≡ valueBytes vs l (rowAt l x .kind) v ++ drop (fin x i) s) × (fin x i ≡ i + length (valueBytes vs l (rowAt l x .kind) v))
 
   module _ (vs : Values) (lw : Lawful vs) (l : Listing) (wf : WellFormed l) (ls : Lines t l) (en : Ending vs l) where
-    -- where the turns stop, and with which answer
-    data Halt (a : Answer) (q i : ℕ) : Type 0 where
-      refused : (n : ℕ) → Stops vs l q (drop i s) n → a ≡ brokenImage (i + n) → Halt a q i
-      ended′ : (n : ℕ) → Ends vs l q (drop i s) n → a ≡ accepted (i + n) → Halt a q i
+    -- where the turns stop, with which answer, and after how many
+    data Halt (a : Answer) (m q i : ℕ) : Type 0 where
+      refused : (n : ℕ) → Stops vs l q (drop i s) n m → a ≡ brokenImage (i + n) → Halt a m q i
+      ended′ : (n : ℕ) → Ends vs l q (drop i s) n m → a ≡ accepted (i + n) → Halt a m q i
 
     here : (i : ℕ) → i < length s → drop i s ≡ getD s i 0 ∷ drop (i + 1) s
     here i h = drop-cons s i 0 h ∙ ap (λ (z : ℕ). getD s i 0 ∷ drop z s) (sym (add-one i))
 
-    stops : (a : Answer) (q i : ℕ) → a ≡ brokenImage i → Stuck vs l q (drop i s) → Open vs l q (drop i s) → Halt a q i
+    stops : (a : Answer) (q i : ℕ) → a ≡ brokenImage i → Stuck vs l q (drop i s) → Open vs l q (drop i s) → Halt a 0 q i
     stops a q i e f g = let z : i + 0 ≡ i = omega arith in refused 0 (stops-here vs lw l wf q (drop i s) f g) (e ∙ ap brokenImage (sym z))
 
     nothing : (i : ℕ) → length s ≤ i → drop i s ≡ []
@@ -99,14 +112,14 @@ module _ (t : List ℕ) (fin : ℕ → ℕ → ℕ) (s : List ℕ) where
             positive (suc n) f = omega arith
 
     -- the case of an answer
-    halt : (a : Answer) (q i : ℕ) → 0 < q → q ≤ size l → 0 < i → turn t fin s q i ≡ stop a → Case q i (turn t fin s q i) → Halt a q i
+    halt : (a : Answer) (q i : ℕ) → 0 < q → q ≤ size l → 0 < i → turn t fin s q i ≡ stop a → Case q i (turn t fin s q i) → Halt a 0 q i
     halt a q i p b z e (out h f) =
         let n = nothing i h in
         stops a q i (cc (e, f)) (λ x v u d. absurd (nil≢cons (sym n ∙ d))) (λ u d. absurd (nil≢cons (sym n ∙ d)))
     halt a q i p b z e (shut h x o f) =
         let k = ended-is l (well l wf) t ls q p b .so o in
         let d : drop i s ≡ 0 ∷ drop (i + 1) s = here i h ∙ ap (λ (y : ℕ). y ∷ drop (i + 1) s) x in
-        ended′ 1 (subst (λ (y : List ℕ). Ends vs l q y 1) (sym d) (ends-here vs lw l wf q (drop (i + 1) s) (k .0) (k .1))) (cc (e, f))
+        ended′ 1 (subst (λ (y : List ℕ). Ends vs l q y 1 0) (sym d) (ends-here vs lw l wf q (drop (i + 1) s) (k .0) (k .1))) (cc (e, f))
     halt a q i p b z e (due h x o f) =
         let d : drop i s ≡ 0 ∷ drop (i + 1) s = here i h ∙ ap (λ (y : ℕ). y ∷ drop (i + 1) s) x in
         stops a q i (cc (e, f))
@@ -155,15 +168,15 @@ module _ (t : List ℕ) (fin : ℕ → ℕ → ℕ) (s : List ℕ) where
     abbrev vb : ℕ → Option (vs .Value) → List ℕ
     vb x v = valueBytes vs l (rowAt l x .kind) v
 
-    carry : (a : Answer) (q i x j : ℕ) (v : Option (vs .Value)) → Next l x q → ItemOk vs l x v → drop i s ≡ x ∷ (vb x v ++ drop j s) → j ≡ i + 1 + length (vb x v) → Halt a x j → Halt a q i
-    carry a q i x j v n k d e (refused m h f) =
-        refused (1 + length (vb x v) + m) (subst (λ (y : List ℕ). Stops vs l q y (1 + length (vb x v) + m)) (sym d) (stops-on vs lw l wf q x v (drop j s) m n k h))
+    carry : (a : Answer) (c q i x j : ℕ) (v : Option (vs .Value)) → Next l x q → ItemOk vs l x v → drop i s ≡ x ∷ (vb x v ++ drop j s) → j ≡ i + 1 + length (vb x v) → Halt a c x j → Halt a (suc c) q i
+    carry a c q i x j v n k d e (refused m h f) =
+        refused (1 + length (vb x v) + m) (subst (λ (y : List ℕ). Stops vs l q y (1 + length (vb x v) + m) (suc c)) (sym d) (stops-on vs lw l wf q x v (drop j s) m c n k h))
         (f ∙ ap brokenImage (omega arith))
-    carry a q i x j v n k d e (ended′ m h f) =
-        ended′ (1 + length (vb x v) + m) (subst (λ (y : List ℕ). Ends vs l q y (1 + length (vb x v) + m)) (sym d) (ends-on vs lw l wf q x v (drop j s) m n k h))
+    carry a c q i x j v n k d e (ended′ m h f) =
+        ended′ (1 + length (vb x v) + m) (subst (λ (y : List ℕ). Ends vs l q y (1 + length (vb x v) + m) (suc c)) (sym d) (ends-on vs lw l wf q x v (drop j s) m c n k h))
         (f ∙ ap accepted (omega arith))
 
-    goes-halt : {a : Answer} {q i : ℕ} → 0 < q → q ≤ size l → 0 < i → Goes t fin s a q i → Halt a q i
+    goes-halt : {a : Answer} {q i : ℕ} → 0 < q → q ≤ size l → 0 < i → (g : Goes t fin s a q i) → Halt a (steps g) q i
     goes-halt {a} {q} {i} p b z (halts e) = halt a q i p b z e (case q i)
     goes-halt {a} {q} {i} p b z (moves x j e g) =
         let o = onto q i x j e (case q i) in
@@ -172,17 +185,28 @@ module _ (t : List ℕ) (fin : ℕ → ℕ → ℕ) (s : List ℕ) where
         let v = en .some x (i + 1) (r .0) (r .1) (omega arith) (omega (arith, o .here′)) (subst (λ (y : ℕ). 0 < y) (o .place) (o .some)) in
         let d : drop i s ≡ x ∷ (vb x (v .0) ++ drop j s) =
         here i (o .here′) ∙ ap₂ _∷_ (sym (o .row)) (v .2 ∙ ap (λ (y : ℕ). vb x (v .0) ++ drop y s) (sym (o .place))) in
-        carry a q i x j (v .0) n (v .1) d (o .place ∙ v .3) (goes-halt (r .0) (r .1) (o .some) g)
+        carry a (steps g) q i x j (v .0) n (v .1) d (o .place ∙ v .3) (goes-halt (r .0) (r .1) (o .some) g)
 
     -- from a place on
     rooted-at : (from : ℕ) → from < length s → getD s from 0 ≡ 1 → drop from s ≡ 1 ∷ drop (from + 1) s
     rooted-at from h e = here from h ∙ ap (λ (z : ℕ). z ∷ drop (from + 1) s) e
 
-    halt-tells : (from : ℕ) (a : Answer) → from < length s → getD s from 0 ≡ 1 → Halt a 1 (from + 1) → Tells vs l (drop from s) from a
-    halt-tells from a g r (refused n k f) =
-        broke (1 + n) (subst (λ (z : List ℕ). Breaks vs l z (1 + n)) (sym (rooted-at from g r)) (breaks vs lw l wf (drop (from + 1) s) n k)) (f ∙ ap brokenImage (omega arith))
-    halt-tells from a g r (ended′ n k f) =
-        held (1 + n) (subst (λ (z : List ℕ). Holds vs l z (1 + n)) (sym (rooted-at from g r)) (holds vs lw l wf (drop (from + 1) s) n k)) (f ∙ ap accepted (omega arith))
+    halt-tells : (from : ℕ) (a : Answer) (m : ℕ) → from < length s → getD s from 0 ≡ 1 → Halt a m 1 (from + 1) → Tells vs l (drop from s) from a
+    halt-tells from a m g r (refused n k f) =
+        broke (1 + n) (subst (λ (z : List ℕ). Breaks vs l z (1 + n)) (sym (rooted-at from g r)) (breaks vs lw l wf (drop (from + 1) s) n m k)) (f ∙ ap brokenImage (omega arith))
+    halt-tells from a m g r (ended′ n k f) =
+        held (1 + n) (subst (λ (z : List ℕ). Holds vs l z (1 + n)) (sym (rooted-at from g r)) (holds vs lw l wf (drop (from + 1) s) n m k)) (f ∙ ap accepted (omega arith))
+
+    halt-taken : (from : ℕ) (a : Answer) (m : ℕ) → from < length s → getD s from 0 ≡ 1 → Halt a m 1 (from + 1) → Taken vs l (drop from s) a (suc m + closing a)
+    unfolding closing
+    halt-taken from a m g r (refused n k f) =
+        let e : suc m + closing a ≡ suc m = omega (arith, ap closing f) in
+        subst (λ (z : List ℕ). Taken vs l z a (suc m + closing a)) (sym (rooted-at from g r))
+        (subst (Taken vs l (1 ∷ drop (from + 1) s) a) (sym e) (stops-taken vs lw l wf (drop (from + 1) s) n m a k (ap (λ (z : Answer). z .code) f)))
+    halt-taken from a m g r (ended′ n k f) =
+        let e : suc m + closing a ≡ suc (suc m) = omega (arith, ap closing f) in
+        subst (λ (z : List ℕ). Taken vs l z a (suc m + closing a)) (sym (rooted-at from g r))
+        (subst (Taken vs l (1 ∷ drop (from + 1) s) a) (sym e) (ends-taken vs lw l wf (drop (from + 1) s) n m a k (ap (λ (z : Answer). z .code) f)))
 
     not-root : (from : ℕ) → (length s ≤ from) ⊎ (getD s from 0 ≢ 1) → (u : List ℕ) → drop from s ≡ 1 ∷ u → ⊥
     not-root from (inl h) u e = nil≢cons (sym (nothing from h) ∙ e)
@@ -192,12 +216,16 @@ module _ (t : List ℕ) (fin : ℕ → ℕ → ℕ) (s : List ℕ) where
         first (yes g) = head-eq-of-cons-eq (sym (drop-cons s from 0 g) ∙ e)
         first (no g) = absurd (nil≢cons (sym (nothing from (omega arith)) ∙ e))
 
-    -- in sound tables the reader answers as defined
-    pub behind-tells : (from : ℕ) (a : Answer) → Behind t fin s from a → Tells vs l (drop from s) from a
-    behind-tells from a (rootless z e) =
-        let n : from + 0 ≡ from = omega arith in
-        broke 0 (breaks-root vs lw l wf (drop from s) (not-root from z)) (e ∙ ap brokenImage (sym n))
-    behind-tells from a (rooted y z g) = halt-tells from a y z (goes-halt (omega arith) (well l wf .rows) (omega arith) g)
+    -- in sound tables the reader answers as defined, and takes the items that are defined
+    pub behind-tells : (from : ℕ) (a : Answer) (m : ℕ) → Behind t fin s from a m → Tells vs l (drop from s) from a × Taken vs l (drop from s) a m
+    behind-tells from a m (rootless z e d) =
+        let n : from + 0 ≡ from = omega arith in (
+          broke 0 (breaks-root vs lw l wf (drop from s) (not-root from z)) (e ∙ ap brokenImage (sym n)),
+          subst (Taken vs l (drop from s) a) (sym d) (root-taken vs lw l wf (drop from s) a (not-root from z) (ap (λ (x : Answer). x .code) e)),
+        )
+    behind-tells from a m (rooted y z g) =
+        let h = goes-halt (omega arith) (well l wf .rows) (omega arith) (g .goes) in
+        (halt-tells from a (steps (g .goes)) y z h, subst (Taken vs l (drop from s) a) (sym (g .many)) (halt-taken from a (steps (g .goes)) y z h))
 
     -- some answer: each turn that goes on goes further
     turned : (q i : ℕ) → 0 < q → q ≤ size l → ((x j : ℕ) → 0 < x → x ≤ size l → i < j → i < length s → (a : Answer) × Goes t fin s a x j) → (r : Turn Answer) → turn t fin s q i ≡ r → (a : Answer) × Goes t fin s a q i
@@ -213,10 +241,12 @@ module _ (t : List ℕ) (fin : ℕ → ℕ → ℕ) (s : List ℕ) where
     turns-some zero q i p b h = turned q i p b (λ x j c d u k. absurd (omega arith)) (turn t fin s q i) refl
     turns-some (suc f) q i p b h = turned q i p b (λ x j c d u k. turns-some f x j c d (omega arith)) (turn t fin s q i) refl
 
-    pub behind-some : (from : ℕ) → (a : Answer) × Behind t fin s from a
+    pub behind-some : (from : ℕ) → (a : Answer) × (n : ℕ) × Behind t fin s from a n
     behind-some from = go (decLt from (length s)) (ℕ-discrete (getD s from 0) 1)
       where
-        go : Dec (from < length s) → Dec (getD s from 0 ≡ 1) → (a : Answer) × Behind t fin s from a
-        go (no h) d = (brokenImage from, rootless (inl (omega arith)) refl)
-        go (yes h) (no d) = (brokenImage from, rootless (inr d) refl)
-        go (yes h) (yes d) = let o = turns-some (length s) 1 (from + 1) (omega arith) (well l wf .rows) (omega arith) in (o .0, rooted h d (o .1))
+        go : Dec (from < length s) → Dec (getD s from 0 ≡ 1) → (a : Answer) × (n : ℕ) × Behind t fin s from a n
+        go (no h) d = (brokenImage from, 0, rootless (inl (omega arith)) refl refl)
+        go (yes h) (no d) = (brokenImage from, 0, rootless (inr d) refl refl)
+        go (yes h) (yes d) =
+            let o = turns-some (length s) 1 (from + 1) (omega arith) (well l wf .rows) (omega arith) in
+            (o .0, suc (steps (o .1)) + closing (o .0), rooted h d (record { goes = o .1; many = refl }))

@@ -17,7 +17,8 @@ module _ (vs : Values) (l : Listing) where
   abbrev pub Open : ℕ → List ℕ → Type 0
   Open q t = (u : List ℕ) → t ≡ 0 ∷ u → Simple l q → Over l q → ⊥
 
-  pub record Stops (q : ℕ) (s : List ℕ) (n : ℕ) : Type 0 where
+  -- n bytes of m items, and then neither
+  pub record Stops (q : ℕ) (s : List ℕ) (n m : ℕ) : Type 0 where
     pub whole : List (Item vs)
     pub rest : List ℕ
     pub at : s ≡ itemsBytes vs l whole ++ rest
@@ -25,8 +26,10 @@ module _ (vs : Values) (l : Listing) where
     pub stuck : Stuck (lastRow vs l q whole) rest
     pub open′ : Open (lastRow vs l q whole) rest
     pub long : n ≡ length (itemsBytes vs l whole)
+    pub many : m ≡ length whole
 
-  pub record Ends (q : ℕ) (s : List ℕ) (n : ℕ) : Type 0 where
+  -- m items and the closing 0, n bytes of both
+  pub record Ends (q : ℕ) (s : List ℕ) (n m : ℕ) : Type 0 where
     pub whole : List (Item vs)
     pub rest : List ℕ
     pub at : s ≡ itemsBytes vs l whole ++ (0 ∷ rest)
@@ -34,3 +37,4 @@ module _ (vs : Values) (l : Listing) where
     pub leaf : Simple l (lastRow vs l q whole)
     pub over : Over l (lastRow vs l q whole)
     pub long : n ≡ length (itemsBytes vs l whole) + 1
+    pub many : m ≡ length whole

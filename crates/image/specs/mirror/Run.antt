@@ -3,7 +3,7 @@ use mathlib.Core.Path.{_≡_}
 use mathlib.Core.Logic.{_≢_, _⊎_}
 use mathlib.Core.Bool.{true, false, cond}
 use mathlib.Core.List.{List, []}
-use Prim.Native.Nat.{ℕ, _+_, _-_, _≤_, _<_}
+use Prim.Native.Nat.{ℕ, suc, _+_, _-_, _≤_, _<_}
 use lib.Dec.{leb, eqb}
 use lib.ListN.{length, getD}
 use lib.Seq.{slice}
@@ -21,6 +21,15 @@ pub data Turn (A : Type 0) : Type 0 where
 pub data Comes {A : Type 0} (turn : ℕ → ℕ → Turn A) (a : A) : ℕ → ℕ → Type 0 where
   halts : {q i : ℕ} → turn q i ≡ stop a → Comes turn a q i
   moves : {q i : ℕ} (x j : ℕ) → turn q i ≡ next x j → Comes turn a x j → Comes turn a q i
+
+-- how many turns go on
+abbrev pub steps : {A : Type 0} {turn : ℕ → ℕ → Turn A} {a : A} {q i : ℕ} → Comes turn a q i → ℕ
+steps (halts e) = 0
+steps (moves x j e g) = suc (steps g)
+
+-- an answer that accepts has met the closing 0
+unfoldable pub closing : Answer → ℕ
+closing a = cond (eqb (a .code) 0) 1 0
 
 -- the bytes before a value's own, by the number of its kind
 unfoldable pub headOf : List ℕ → ℕ → ℕ
@@ -40,10 +49,15 @@ module _ (t : List ℕ) (fin : ℕ → ℕ → ℕ) (s : List ℕ) where
   abbrev pub Goes : Answer → ℕ → ℕ → Type 0
   Goes a q i = Comes turn a q i
 
+  -- from after the root on, with the items so far: the root's, one for each turn that goes on, the closing 0
+  pub record Took (from : ℕ) (a : Answer) (n : ℕ) : Type 0 where
+    pub goes : Goes a 1 from
+    pub many : n ≡ suc (steps goes) + closing a
+
   -- from a place on: the root's row byte, and on from there
-  pub data Behind (from : ℕ) (a : Answer) : Type 0 where
-    rootless : (length s ≤ from) ⊎ (getD s from 0 ≢ 1) → a ≡ brokenImage from → Behind from a
-    rooted : from < length s → getD s from 0 ≡ 1 → Goes a 1 (from + 1) → Behind from a
+  pub data Behind (from : ℕ) (a : Answer) (n : ℕ) : Type 0 where
+    rootless : (length s ≤ from) ⊎ (getD s from 0 ≢ 1) → a ≡ brokenImage from → n ≡ 0 → Behind from a n
+    rooted : from < length s → getD s from 0 ≡ 1 → Took (from + 1) a n → Behind from a n
 
   -- for a leaf of row r: at i, when n such leaves are to be passed; the place of the value, 0 where there is none
   unfoldable pub hunt : ℕ → ℕ → ℕ → Turn ℕ

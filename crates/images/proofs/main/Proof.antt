@@ -22,10 +22,10 @@ slice-aggregate-divided : tie.Need-slice-aggregate-divided
 slice-aggregate-divided c = c .before .before .read-full .ensures .1
 
 slice-aggregate-divided-2 : tie.Need-slice-aggregate-divided-2
-slice-aggregate-divided-2 c = sym (zeros 2796276)
+slice-aggregate-divided-2 c = sym (zeros 4194375)
 
 divided-requires : tie.Need-divided-requires
-divided-requires c κs = zeros 2796276
+divided-requires c κs = zeros 4194375
 
 array-share-prefix-out : tie.Need-array-share-prefix-out
 array-share-prefix-out c = c .before .divided .ensures .1 .0

@@ -31,14 +31,14 @@ refused-requires c κs = search needs
 
 returns-2 : tie.Need-returns-2
 returns-2 c =
-    let e = laid-over _ _ _ _ (c .before .before .before .before .before .before .before .before .kept-rows-of .ensures) (c .before .before .before .before .before .before .before .before .before .before .before .before .before .pre) (c .before .before .before .before .before .lay .ensures) in
-    let o = begins-not _ _ (c .before .before .before .before .before .before .before .before .before .before .before .front .ensures) (c .before .before .before .before .before .before .before .before .before .if1 .left) _ (laid-says _ _ e) _ (c .before .before .before .body .ensures .0) (c .before .if2 .taken) _ (c .refused .ensures) in
+    let e = laid-over _ _ _ _ (c .before .before .before .before .before .before .before .before .before .kept-rows-of .ensures) (c .before .before .before .before .before .before .before .before .before .before .before .before .before .before .pre) (c .before .before .before .before .before .before .lay .ensures) in
+    let o = begins-not _ _ (c .before .before .before .before .before .before .before .before .before .before .before .before .front .ensures) (c .before .before .before .before .before .before .before .before .before .before .if1 .left) _ (laid-says _ _ e) _ _ (c .before .before .before .before .body .ensures .0) (c .before .if2 .taken) _ (c .refused .ensures) in
     (o .0, (λ z. absurd (o .1 z)))
 
 returns-3 : tie.Need-returns-3
 returns-3 c =
-    let e = laid-over _ _ _ _ (c .before .before .before .before .before .before .before .kept-rows-of .ensures) (c .before .before .before .before .before .before .before .before .before .before .before .before .pre) (c .before .before .before .before .lay .ensures) in
-    let o = begins-with _ _ (c .before .before .before .before .before .before .before .before .before .before .front .ensures) (c .before .before .before .before .before .before .before .before .if1 .left) _ (laid-says _ _ e) _ (c .before .before .body .ensures .0) (omega (arith, c .if2 .left)) in
+    let e = laid-over _ _ _ _ (c .before .before .before .before .before .before .before .before .kept-rows-of .ensures) (c .before .before .before .before .before .before .before .before .before .before .before .before .before .pre) (c .before .before .before .before .before .lay .ensures) in
+    let o = begins-with _ _ (c .before .before .before .before .before .before .before .before .before .before .before .front .ensures) (c .before .before .before .before .before .before .before .before .before .if1 .left) _ (laid-says _ _ e) _ _ (c .before .before .before .body .ensures .0) (omega (arith, c .if2 .left)) in
     (o, (λ z. e))
 
 pub begun-spec : {M : Type 1} → statement M

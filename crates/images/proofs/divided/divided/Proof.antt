@@ -4,7 +4,7 @@ use Prim.Native.Nat.{_-_}
 use native.Mathlib.Omega.{arith}
 use lib.ListN.{length}
 use borrow.Author.Needs.{needs}
-use Rattle.images.proofs.Dividing.{Dividing, dividing-start, dividing-room, dividing-end, dividing-counts, dividing-refused, refused-counts, refused-long, dividing-less, dividing-again}
+use Rattle.images.proofs.Dividing.{Dividing, dividing-start, dividing-room, dividing-end, dividing-counts, dividing-refused, refused-counts, refused-long, dividing-less, dividing-again, told-counts, rest-told}
 use Rattle.images.proofs.divided.divided.Statement.{statement}
 use Rattle.images.proofs.divided.divided.Tie as tie
 
@@ -41,20 +41,37 @@ returns c =
       refused-counts _ _ _ _ w (c .before .before .before .before .before .before .before .loop-test .taken) (x .result) (x .ensures) (c .before .before .before .before .if1 .taken) _ _ (p .ensures .0) (p .ensures .1 .0) (p .ensures .1 .1),
     )
 
+sub-reading : tie.Need-sub-reading Inv-loop μ-loop
+sub-reading c = search needs
+
+part-reading-start : tie.Need-part-reading-start Inv-loop μ-loop
+part-reading-start c = search needs
+
+part-reading-end : tie.Need-part-reading-end Inv-loop μ-loop
+part-reading-end c = search needs
+
+reading-requires : tie.Need-reading-requires Inv-loop μ-loop
+reading-requires c κs = search needs
+
 put-image-requires : tie.Need-put-image-requires Inv-loop μ-loop
 put-image-requires c κs =
-    omega (arith, dividing-room _ _ _ _ (c .before .before .before .before .before .loop .inv), c .before .before .before .before .before .loop .inv .long)
+    omega (arith, dividing-room _ _ _ _ (c .before .before .before .before .before .before .before .loop .inv), c .before .before .before .before .before .before .before .loop .inv .long)
 
 loop-less : tie.Need-loop-less Inv-loop μ-loop
 loop-less c =
-    let x = c .before .before .before .before .before .before .next-at in
-    dividing-less _ _ _ _ (c .before .before .before .before .before .before .before .before .loop .inv) (c .before .before .before .before .before .before .before .loop-test .taken) (x .result) (x .ensures) (c .before .before .before .before .if1 .left)
+    let x = c .before .before .before .before .before .before .before .before .next-at in
+    dividing-less _ _ _ _ (c .before .before .before .before .before .before .before .before .before .before .loop .inv) (c .before .before .before .before .before .before .before .before .before .loop-test .taken) (x .result) (x .ensures) (c .before .before .before .before .before .before .if1 .left)
 
 loop-again : tie.Need-loop-again Inv-loop μ-loop
 loop-again c =
     let p = c .before .before .put-image in
-    let x = c .before .before .before .before .before .before .next-at in
-    dividing-again _ _ _ _ (c .before .before .before .before .before .before .before .before .loop .inv) (c .before .before .before .before .before .before .before .loop-test .taken) (x .result) (x .ensures) (c .before .before .before .before .if1 .left) _ _ (p .ensures .0) (p .ensures .1)
+    let g = c .before .before .before .before .reading in
+    let x = c .before .before .before .before .before .before .before .before .next-at in
+    let z = c .before .before .before .before .before .before .if1 .left in
+    let w = c .before .before .before .before .before .before .before .before .before .before .loop .inv in
+    let h = c .before .before .before .before .before .before .before .before .before .loop-test .taken in
+    let b = rest-told (c .before .before .before .before .before .before .before .before .before .before .before .before .before .args .run .now) (c .before .before .before .before .before .before .before .before .before .before .loop .at) _ (g .ensures) in
+    dividing-again _ _ _ _ w h (x .result) (x .ensures) z _ (told-counts _ _ _ _ w h (x .result) (x .ensures) z (g .result) b) _ _ (p .ensures .0) (p .ensures .1)
 
 same-length-2 : tie.Need-same-length-2 Inv-loop μ-loop
 same-length-2 c = c .before .loop .inv .long ∙ sym (c .before .before .before .before .pre)
@@ -76,6 +93,10 @@ divided-spec =
     add-result
     same-length
     returns
+    sub-reading
+    part-reading-start
+    part-reading-end
+    reading-requires
     put-image-requires
     loop-less
     loop-again

@@ -1,7 +1,7 @@
 -- `case::case_of` meets its contract: each test of a head is a case. Assumes nothing.
 use native.Mathlib.Omega.{arith}
 use borrow.Author.Needs.{needs}
-use Rattle.program_feed.proofs.Heads.{case-short, case-long, case-check, case-read, case-pick, case-write, case-other}
+use Rattle.program_feed.proofs.Heads.{case-short, case-long, case-check, case-read, case-pick, case-write, case-count, case-other}
 use Rattle.program_feed.proofs.case.case_of.Statement.{statement}
 use Rattle.program_feed.proofs.case.case_of.Tie as tie
 
@@ -51,8 +51,13 @@ returns-6 c =
 
 returns-7 : tie.Need-returns-7
 returns-7 c =
-    let x = c .before .before .before .before .before .before .number in
-    case-other (c .before .before .before .before .before .before .before .before .before .args .head .now) (x .result) (omega arith) (x .ensures) (omega arith) (c .before .before .before .if3 .left) (c .before .before .if4 .left) (c .before .if5 .left) (c .if6 .left)
+    let x = c .before .before .before .before .before .before .before .number in
+    case-count (c .before .before .before .before .before .before .before .before .before .before .args .head .now) (x .result) (omega arith) (x .ensures) (omega arith) (c .before .before .before .before .if3 .left) (c .before .before .before .if4 .left) (c .before .before .if5 .left) (c .before .if6 .left) (c .if7 .taken)
+
+returns-8 : tie.Need-returns-8
+returns-8 c =
+    let x = c .before .before .before .before .before .before .before .number in
+    case-other (c .before .before .before .before .before .before .before .before .before .before .args .head .now) (x .result) (omega arith) (x .ensures) (omega arith) (c .before .before .before .before .if3 .left) (c .before .before .before .if4 .left) (c .before .before .if5 .left) (c .before .if6 .left) (c .if7 .left)
 
 pub case-of-spec : {M : Type 1} → statement M
 case-of-spec =
@@ -70,4 +75,5 @@ case-of-spec =
     returns-5
     room-in-requires-2
     returns-6
-    returns-7)
+    returns-7
+    returns-8)

@@ -8,7 +8,7 @@ use Rattle.program_feed.specs.Reply.{brokenLine}
 use Rattle.program_feed.proofs.Replies.{put-taken}
 use Rattle.replay.specs.Replies.{broken}
 use Rattle.program_line.proofs.Lines.{counts}
-use Rattle.replay.proofs.Replying.{in-check, in-read, in-pick, in-write, bytes-most, take-most, put-long, put-check, put-read, put-pick, put-write}
+use Rattle.replay.proofs.Replying.{in-check, in-read, in-count, in-pick, in-write, bytes-most, take-most, put-long, put-check, put-read, put-count, put-pick, put-write}
 use borrow.Author.Needs.{needs}
 use Rattle.replay.proofs.reply.reply.Statement.{statement}
 use Rattle.replay.proofs.reply.reply.Tie as tie
@@ -84,6 +84,16 @@ written-requires c κs =
     let k = in-write (c .before .before .before .before .before .before .before .before .before .before .args .feed .now) _ _ (sym (c .before .before .before .before .room2 .given .1) ∙ c .before .before .before .before .before .before .case-in .ensures) in
     (take-most _ _ _ (k .1 .1), c .before .before .before .before .before .before .before .before .before .before .pre .1)
 
+enum-known-size-2 : tie.Need-enum-known-size-2
+enum-known-size-2 c = search needs
+
+bytes-behind-requires-5 : tie.Need-bytes-behind-requires-5
+bytes-behind-requires-5 c κs =
+    in-count (c .before .before .before .before .before .before .before .args .feed .now) _ (sym (c .before .size2 .given .1) ∙ c .before .before .before .case-in .ensures)
+
+tallied-requires : tie.Need-tallied-requires
+tallied-requires c κs = c .before .before .before .before .before .before .before .before .before .pre .1
+
 enum-told : tie.Need-enum-told
 enum-told c = search needs
 
@@ -139,6 +149,14 @@ same-length-7 c = search needs
 
 returns-5 : tie.Need-returns-5
 returns-5 c =
+    let o = c .before .before .before .before .before .before .before .before .before .before .before .before in
+    (put-count (o .args .feed .now) (o .args .number) _ _ _ (sym (c .before .before .before .before .before .before .size2 .given .1) ∙ c .before .before .before .before .before .before .before .before .case-in .ensures) (c .before .before .before .before .bytes-behind5 .ensures) (c .before .before .tallied .ensures .0), c .before .before .tallied .ensures .1)
+
+same-length-8 : tie.Need-same-length-8
+same-length-8 c = search needs
+
+returns-6 : tie.Need-returns-6
+returns-6 c =
     let p = c .before .before .put-broken in
     let l = brokenLine (c .before .before .before .before .before .before .before .before .before .before .args .number) in
     let d = c .before .before .before .before .before .before .before .before .before .before .args .line .now in
@@ -167,6 +185,9 @@ reply-spec =
     slice-relend-prefix-written
     slice-aggregate-written
     written-requires
+    enum-known-size-2
+    bytes-behind-requires-5
+    tallied-requires
     enum-told
     put-broken-requires
     same-length
@@ -180,4 +201,6 @@ reply-spec =
     same-length-6
     returns-4
     same-length-7
-    returns-5)
+    returns-5
+    same-length-8
+    returns-6)

@@ -1,10 +1,7 @@
 -- `export::kto_read` meets its contract: the row is 0. Assumes nothing.
-use mathlib.Core.Path.{subst}
-use Prim.Native.Nat.{ℕ}
 use borrow.Author.Needs.{needs}
-use Rattle.answer.specs.Table.{answer}
 use Rattle.image_reading.specs.Reads.{HouseReads}
-use Rattle.unit.proofs.Exporting.{read-row}
+use Rattle.unit.proofs.Exporting.{without-row}
 use Rattle.unit.proofs.export.kto_read.Statement.{statement}
 use Rattle.unit.proofs.export.kto_read.Tie as tie
 
@@ -18,7 +15,7 @@ returns : tie.Need-returns
 returns c =
     let run = c .before .before .before .args .run .now in
     let a = c .before .read .result in
-    subst (λ (r : ℕ). HouseReads run (answer (a .code) r (a .place))) (read-row run a (c .before .read .ensures)) (c .before .read .ensures)
+    without-row (HouseReads run) run a (c .before .read .ensures) (c .before .read .ensures)
 
 pub kto-read-spec : {M : Type 1} → statement M
 kto-read-spec = tie.close (tie.spec read-requires cast-result returns)
