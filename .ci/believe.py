@@ -1,5 +1,5 @@
 #!/usr/bin/env python3
-"""docs/BELIEVE.md: every definition that a promise of `unit`, `image_hold`, `kto` or `write` rests on, so that a reader must believe it.
+"""docs/BELIEVE.md: every definition that a promise of `unit`, `image_hold`, `kto`, `write` or `tidy` rests on, so that a reader must believe it.
 
 From the names in the contracts of these crates the definitions of specs/ are followed by name: a definition counts where a promise,
 or a definition that counts, names it. The page has the files in reading order, each after those that it uses, with the lines of what
@@ -15,10 +15,10 @@ CRATES = ROOT / 'crates'
 PAGE = ROOT / 'docs' / 'BELIEVE.md'
 
 # The crates whose promises count: the entries with their C exports, the held reader, the programs that make images and files.
-PROMISING = ('unit', 'image_hold', 'kto', 'write')
+PROMISING = ('unit', 'image_hold', 'kto', 'write', 'tidy')
 
 # Reading order where the imports leave a choice: by floor.
-FLOORS = ('answer', 'text', 'list', 'xml', 'value', 'image', 'file', 'unit', 'program', 'kto', 'write')
+FLOORS = ('answer', 'text', 'list', 'xml', 'value', 'image', 'file', 'unit', 'program', 'kto', 'write', 'tidy')
 
 # Known exceptions, each with its reason: files of mirrors, and names with how many meanings each has. One that is not needed
 # is a fault.

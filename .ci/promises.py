@@ -26,7 +26,8 @@ IMPL = re.compile(r'^impl(?:<[^>]*>)? (\w+)', re.M)
 # Public functions that no edit of their crate is for, each with the reason.
 UNEDITED = {
     'it hands on what a lower crate promises, and the edits for that are there':
-        'unit::check unit::size unit::read unit::reading unit::pick unit::picked unit::items unit::item_at unit::write',
+        'unit::check unit::size unit::read unit::reading unit::pick unit::picked unit::items unit::item_at unit::write '
+        'unit::tidy',
     'its promise is one line that its code repeats, and an edit of its crate is dear':
         'file_walk::is_group value::part_of value_to_bytes::place',
 }

@@ -2,9 +2,9 @@
  *
  * A statement file (camt.053.001.08) or an intraday report (camt.052.001.08), Austrian subset, is checked and its record image written
  * (kto_check), or only measured (kto_size); a run of bytes is read as an image (kto_read), and its items are counted (kto_count); a value is
- * picked from an image (kto_pick); an image is gone over item by item (kto_items, kto_item); the file of an image is written (kto_write). What an
- * image's bytes say is docs/IMAGE.md, what the codes say docs/CODES.md, the rows docs/LIST.md; examples/c/entries.c prints the entries of a
- * statement or a report.
+ * picked from an image (kto_pick); an image is gone over item by item (kto_items, kto_item); the file of an image is written (kto_write), or a
+ * file is tidied, which is both at once (kto_tidy). What an image's bytes say is docs/IMAGE.md, what the codes say docs/CODES.md, the rows
+ * docs/LIST.md; examples/c/entries.c prints the entries of a statement or a report.
  * Link with libunit.a, which `rt staticlib unit` makes (x86-64 Linux); it needs the C library and nothing else.
  *
  * Every call takes any bytes and any numbers. There is nothing to set up, no memory is allocated, nothing is kept between calls, and
@@ -247,6 +247,18 @@ uint64_t kto_pick(const uint8_t *run, uint64_t run_len, uint64_t row, uint64_t n
  * from.
  */
 uint64_t kto_write(const uint8_t *run, uint64_t run_len, uint8_t *out, uint64_t out_len, uint64_t *row, uint64_t *place);
+
+/* Tidies the file in[0 .. in_len): checks it into image, and writes it from there into out, as kto_write does. Files of one kind and one content
+ * end in the same bytes, and a tidied file stays as it is.
+ *
+ * KTO_ACCEPTED: out[0 .. *place) is the tidied file, *row is 0, and image begins with the file's image, whose length kto_read tells. The bytes
+ * after either are as they were.
+ * A file that kto_check refuses, with 1 to 14: its answer, and no byte of image or out is changed.
+ * KTO_TOO_LARGE, or KTO_NO_ROOM of the tidied file: no byte of out is changed, *place says how many bytes the file needs, and image begins with the
+ * image. A tidied file may be longer than the file: a buffer of KTO_LIMIT bytes is always long enough.
+ */
+uint64_t kto_tidy(const uint8_t *in, uint64_t in_len, uint8_t *image, uint64_t image_len, uint8_t *out, uint64_t out_len, uint64_t *row,
+                  uint64_t *place);
 
 /* Says where the items of the image that run[0 .. run_len) begins with begin, at 5 in version 1 and at 6 in version 2, and of which kind it is.
  *

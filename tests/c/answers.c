@@ -124,6 +124,31 @@ static void writes(const char *what, const uint8_t *run, uint64_t length, uint64
     }
 }
 
+/* No byte of a buffer from a place on was touched. */
+static void stayed(const uint8_t *bytes, uint64_t from, uint64_t size) {
+    for (uint64_t i = from; i < size; i++) {
+        if (bytes[i] != 0xA5) {
+            same("a byte that must stay", bytes[i], 0xA5);
+            break;
+        }
+    }
+}
+
+/* A tidying for so much room for the image and for the file: the answer, how much of each buffer is written, and that the rest stays. */
+static void tidies(const char *what, const char *text, uint64_t length, uint64_t room, uint64_t space, uint64_t code, uint64_t place, uint64_t imaged) {
+    static uint8_t image_out[KTO_LIMIT];
+    uint64_t r = 77, p = 77;
+    memset(image_out, 0xA5, sizeof image_out);
+    memset(out, 0xA5, sizeof out);
+    printf("c: tidying of %s\n", what);
+    same("the code", kto_tidy((const uint8_t *)text, length, image_out, room, out, space, &r, &p), code);
+    same("the row", r, 0);
+    same("the place", p, place);
+    same("the image", memcmp(image_out, image, imaged) == 0, 1);
+    stayed(image_out, imaged, sizeof image_out);
+    stayed(out, code == KTO_ACCEPTED ? place : 0, sizeof out);
+}
+
 static void sizes(const char *what, const char *text, uint64_t length, uint64_t code, uint64_t row, uint64_t place) {
     uint64_t r = 77, p = 77;
     printf("c: size of %s\n", what);
@@ -293,6 +318,23 @@ static void write_all(uint64_t length) {
     writes("a run that is too long", large, sizeof large, sizeof out, KTO_TOO_LONG, 0, KTO_LIMIT);
 }
 
+static void tidy_all(uint64_t length) {
+    /* the tidied file has `5` where the example has `5.00` */
+    uint64_t size = length - 3;
+    static char tidied[sizeof whole];
+    tidies("the example", whole, length, sizeof image, size, KTO_ACCEPTED, size, sizeof image);
+    for (uint64_t i = 0; i < size; i++) {
+        tidied[i] = (char)out[i];
+    }
+    tidies("what was tidied", tidied, size, KTO_LIMIT, KTO_LIMIT, KTO_ACCEPTED, size, sizeof image);
+    same("the same bytes", memcmp(out, tidied, size) == 0, 1);
+    tidies("the example, the file's buffer a byte short", whole, length, KTO_LIMIT, size - 1, KTO_NO_ROOM, size, sizeof image);
+    tidies("the example, the image's buffer a byte short", whole, length, sizeof image - 1, KTO_LIMIT, KTO_NO_ROOM, sizeof image, 0);
+    tidies("the example, both a byte short", whole, length, sizeof image - 1, size - 1, KTO_NO_ROOM, sizeof image, 0);
+    tidies("nothing", "", 0, KTO_LIMIT, KTO_LIMIT, KTO_NOT_HOUSE_XML, 0, 0);
+    tidies("a file that is too long", (const char *)large, sizeof large, KTO_LIMIT, KTO_LIMIT, KTO_TOO_LONG, KTO_LIMIT, 0);
+}
+
 /* An entry with the old transaction code, and the closing byte: 20 bytes, then rows 40 and 41. */
 static const uint8_t old_entry[26] = {0x17, 0x18, 0x45, 0x55, 0x52, 0x00, 0x00, 0x00, 0x00, 0x00, 0x00, 0x00, 0x00,
                                       0x05, 0x19, 0x01, 0x1B, 0x1C, 0x01, 0x22, 0x28, 0x29, 0x00, 0x01, 0x58, 0x00};
@@ -350,6 +392,7 @@ int main(void) {
     count_all();
     pick_all();
     write_all(length);
+    tidy_all(length);
     item_all();
     old_all();
     printf("c: %d faults\n", faults);

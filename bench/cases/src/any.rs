@@ -9,7 +9,7 @@ use crate::message::chosen::{EVERY_ROW, REPORT_EVERY_ROW};
 use crate::message::{damage, valid, Draft, Size, Style};
 use crate::random::Random;
 use crate::runs::{damaged, filled, former, image_of, with_microseconds, with_old_codes, Old, STATEMENT_FRONT};
-use crate::{values, writes, xml};
+use crate::{tidies, values, writes, xml};
 
 /// What a case is for.
 #[derive(Clone, Copy, PartialEq, Eq, PartialOrd, Ord, Debug, Hash)]
@@ -36,11 +36,15 @@ pub enum Class {
     Count,
     CountFromDamaged,
     CountAtTheLimit,
+    Tidy,
+    TidyTightRooms,
+    TidyOfFaulty,
+    TidyAtTheLimit,
 }
 
 impl Class {
     /// All classes, each with how often it comes: the shares of checks, reads and picks add up to a thousand.
-    pub const ALL: [(Class, usize); 22] = [
+    pub const ALL: [(Class, usize); 26] = [
         (Class::ValidMessage, 80),
         (Class::TightRoom, 60),
         (Class::OneFault, 170),
@@ -63,6 +67,10 @@ impl Class {
         (Class::Count, 20),
         (Class::CountFromDamaged, 60),
         (Class::CountAtTheLimit, 1),
+        (Class::Tidy, 60),
+        (Class::TidyTightRooms, 40),
+        (Class::TidyOfFaulty, 20),
+        (Class::TidyAtTheLimit, 1),
     ];
 
     /// The ops that its cases ask for.
@@ -73,6 +81,7 @@ impl Class {
             Class::Pick | Class::PickFromDamaged => &[2],
             Class::Write | Class::WriteTightRoom | Class::WriteFromDamaged | Class::WriteAtTheLimit => &[3],
             Class::Count | Class::CountFromDamaged | Class::CountAtTheLimit => &[6],
+            Class::Tidy | Class::TidyTightRooms | Class::TidyOfFaulty | Class::TidyAtTheLimit => &[8],
             _ => &[0],
         }
     }
@@ -101,6 +110,10 @@ impl Class {
             Class::Count => "count of an image",
             Class::CountFromDamaged => "count of a damaged image",
             Class::CountAtTheLimit => "count at the size limit",
+            Class::Tidy => "tidying of a message",
+            Class::TidyTightRooms => "tidying of a message, tight rooms",
+            Class::TidyOfFaulty => "tidying of a message with faults",
+            Class::TidyAtTheLimit => "tidying at the size limit",
         }
     }
 }
@@ -181,6 +194,20 @@ fn make(class: Class, random: &mut Random) -> Case {
             let length = LIMIT - 1 + random.below(3);
             Case::count(filled(image(random), length))
         }
+        Class::Tidy => Case::tidy(ROOMY, ROOMY, file(random)),
+        Class::TidyTightRooms => {
+            let file = file(random);
+            let (room, space) = tidies::needed(&file);
+            // Both rooms around what is needed, or one of them, so that each 14 comes.
+            let room = if random.once_in(3) { ROOMY } else { about(room, random) };
+            let space = if random.once_in(4) { ROOMY } else { about(space, random) };
+            Case::tidy(room, space, file)
+        }
+        Class::TidyOfFaulty => {
+            let faults = random.between(1, 3);
+            Case::tidy(any_room(random), any_room(random), faulty(random, faults))
+        }
+        Class::TidyAtTheLimit => tidies::at_the_limit(file(random), random),
     }
 }
 

@@ -1,11 +1,12 @@
 //! Inputs for the programs over standard input: each is one run of it.
 
 use independent::list::{REPORT, STATEMENT};
-use independent::program::{images_program, program, write_program, PROGRAM_LIMIT};
+use independent::program::{images_program, program, tidy_program, write_program, PROGRAM_LIMIT};
 use independent::LIMIT;
 
 use crate::message::chosen::{EVERY_ROW, REPORT_EVERY_ROW, REPORT_LEAST, WHOLE};
 use crate::runs::{every_row, filled, former, image_of, with_front, with_microseconds, with_old_codes, Old};
+use crate::tidies::{file_for_tidied_of, ODD, ODD_TIDIED};
 use crate::writes::image_for_file_of;
 
 /// An input, and what the independent program says to it.
@@ -82,6 +83,32 @@ pub fn writes() -> Vec<Said> {
         [&whole[..], &statement].concat(),
     ];
     said(inputs, write_program)
+}
+
+/// For `tidy`: an odd file first, and its tidied form; then document 01's, every row, reports, a refusal of each of a few codes, what is as
+/// long as may be and longer, and files whose tidied form is.
+pub fn tidies() -> Vec<Said> {
+    let inputs = vec![
+        ODD.into(),
+        ODD_TIDIED.into(),
+        WHOLE.into(),
+        EVERY_ROW.into(),
+        REPORT_EVERY_ROW.into(),
+        REPORT_LEAST.into(),
+        "".into(),
+        b"<a>\xFC</a>".into(),
+        "<a></b>".into(),
+        "<Document/>".into(),
+        WHOLE.replace("2024-02-29", "2023-02-29").into(),
+        WHOLE.replace("camt.053", "camt.052").into(),
+        filled(ODD.into(), LIMIT),
+        filled(ODD.into(), LIMIT + 1),
+        filled(ODD.into(), 3 * LIMIT),
+        file_for_tidied_of(LIMIT).into(),
+        file_for_tidied_of(LIMIT + 1).into(),
+        file_for_tidied_of(2 * LIMIT).into(),
+    ];
+    said(inputs, tidy_program)
 }
 
 /// For `images`: three images, of version 1 and of each kind of version 2, and a damaged one first; then nothing, one image and several,
@@ -181,6 +208,18 @@ mod tests {
         assert_eq!(said[23].1, b"refused 20 5 13\n");
         assert!((24..30).all(|number| said[number].1.starts_with(b"refused 26 40 ")), "old transaction codes");
         assert_eq!(said[30].1, said[1].1, "of the second image");
+    }
+
+    #[test]
+    fn the_limit_of_a_tidied_file_is_met_from_both_sides() {
+        let said = tidies();
+        assert_eq!((&said[0].1[..], &said[1].1[..]), (ODD_TIDIED.as_bytes(), ODD_TIDIED.as_bytes()));
+        assert_eq!(said[12].1, said[0].1);
+        assert_eq!(said[13].1, b"refused 1 0 1048576\n");
+        assert_eq!(said[14].1, said[13].1);
+        assert_eq!(said[15].1.len(), LIMIT);
+        assert_eq!(said[16].1, b"refused 19 0 1048577\n");
+        assert_eq!(said[17].1, b"refused 19 0 2097152\n");
     }
 
     #[test]

@@ -13,6 +13,7 @@
 //! | [`checks`] | chosen files for every code and the order of the codes |
 //! | [`runs`] | runs of images: chosen, joined, damaged |
 //! | [`writes`] | runs for the writer: every value, every code, files at the limit |
+//! | [`tidies`] | files for tidying: odd ones, both rooms, tidied forms at the limit |
 //! | [`statement`] | realistic statements, good or with one fault |
 //! | [`inputs`] | inputs for the programs over standard input |
 
@@ -24,6 +25,7 @@ pub mod message;
 pub mod random;
 pub mod runs;
 pub mod statement;
+pub mod tidies;
 pub mod values;
 pub mod writes;
 pub mod xml;

@@ -5,7 +5,7 @@ use cases::message::{valid, Draft, Part, Size, Style};
 use cases::random::Random;
 use cases::runs::image_of;
 use independent::list::{Kind, List, Row};
-use independent::{write, LIMIT};
+use independent::{tidy, write, LIMIT};
 
 /// The draft with every leaf's raw text as document 02 wants it.
 fn tidied(list: &List, row: &Row, draft: &Draft) -> Draft {
@@ -89,5 +89,34 @@ fn written_files_are_tidied_drafts() {
         let list = draft.list().expect("a made message");
         let expected = Style::DENSE.write(&tidied(list, list.root(), &draft));
         assert_eq!(String::from_utf8_lossy(&room[..answer.place]), expected, "{file}");
+    }
+}
+
+/// A file's tidied form.
+fn tidied_file(file: &[u8]) -> Vec<u8> {
+    let (mut image, mut out) = (vec![0; LIMIT], vec![0; LIMIT]);
+    let answer = tidy(file, &mut image, &mut out);
+    assert!(answer.is_accepted(), "{answer:?}");
+    out.truncate(answer.place);
+    out
+}
+
+/// "Two accepted files of one kind that both can be tidied end in the same bytes exactly when their contents are equal, and tidying a
+/// tidied file changes no byte": of each made message two styles, and a neighbour of another content.
+#[test]
+fn tidied_files_tell_contents_and_stay() {
+    let mut random = Random::new(12);
+    let mut before: Option<(Vec<u8>, Vec<u8>)> = None;
+    for _ in 0..500 {
+        let draft = valid(&mut random, Size::Small);
+        let [one, other] = [(); 2].map(|()| Style::any(&mut random).write(&draft).into_bytes());
+        let once = tidied_file(&one);
+        assert_eq!(tidied_file(&other), once);
+        assert_eq!(tidied_file(&once), once);
+        let image = image_of(&one);
+        if let Some((last, tidied_last)) = before {
+            assert_eq!(last == image, tidied_last == once);
+        }
+        before = Some((image, once));
     }
 }

@@ -1,5 +1,5 @@
-//! Document 01, and sections 1, 2, 3, 5, 9 and 10 of document 02, as a plain program, written from the documents and the settled readings
-//! of them.
+//! Document 01, and sections 1, 2, 3, 5, 9, 10 and 12 of document 02, as a plain program, written from the documents and the settled
+//! readings of them.
 //!
 //! The unit in `crates/` is compared with this program. The two share no code, no table and no generated file, so
 //! that a mistake in one is not a mistake in the other. It is therefore written for its reader: each function renders
@@ -26,6 +26,7 @@
 //! | [`order`] | which items can follow which in an image |
 //! | [`read`](mod@read) | the reader with its count of items, the picker, and the reader that holds its place |
 //! | [`write`](mod@write) | the writer: from image to file |
+//! | [`tidy`](mod@tidy) | a file read and written again |
 //! | [`program`](mod@program) | the programs over standard input |
 
 pub mod answer;
@@ -37,6 +38,7 @@ pub mod list;
 pub mod order;
 pub mod program;
 pub mod read;
+pub mod tidy;
 pub mod types;
 pub mod walk;
 pub mod write;
@@ -45,6 +47,7 @@ pub use answer::{Answer, Code};
 pub use check::check;
 pub use program::program;
 pub use read::{pick, read, reading, Held};
+pub use tidy::tidy;
 pub use write::write;
 
 /// "input over 1,048,576 bytes": the longest input and the longest run that are judged.

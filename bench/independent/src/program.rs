@@ -3,6 +3,7 @@
 use crate::answer::{Answer, Code};
 use crate::check::check;
 use crate::read::{reading, Held};
+use crate::tidy::tidy;
 use crate::write::write;
 use crate::LIMIT;
 
@@ -20,22 +21,31 @@ pub fn program(input: &[u8]) -> Vec<u8> {
     said(input.len(), |room| check(input, room))
 }
 
-/// How much of its input a program over runs reads: one byte over the limit tells a run that is too long.
-const MOST_OF_A_RUN: usize = LIMIT + 1;
+/// How much of its input one of the other programs reads: one byte over the limit tells a run or a file that is too long.
+const MOST_OF_AN_INPUT: usize = LIMIT + 1;
 
 /// The program `write`: the file of the image that the run begins with, or one line.
 ///
 /// It has room for every file that is not over the limit, so 14 does not arise.
 pub fn write_program(input: &[u8]) -> Vec<u8> {
-    let run = &input[..input.len().min(MOST_OF_A_RUN)];
+    let run = &input[..input.len().min(MOST_OF_AN_INPUT)];
     said(LIMIT, |room| write(run, room))
+}
+
+/// The program `tidy`: the tidied file, or one line.
+///
+/// It has room for every image and for every file that is not over the limit, so 14 does not arise.
+pub fn tidy_program(input: &[u8]) -> Vec<u8> {
+    let file = &input[..input.len().min(MOST_OF_AN_INPUT)];
+    let mut image = vec![0; LIMIT];
+    said(LIMIT, |room| tidy(file, &mut image, room))
 }
 
 /// The program `images`: divides a run with the reader that holds its place. For each image a line, where it begins, how long it is
 /// and how many items the reader took, "the closing 0 among them"; then nothing at the run's end, else the reader's answer to what is
 /// left, "places counted from the start of that rest".
 pub fn images_program(input: &[u8]) -> Vec<u8> {
-    let run = &input[..input.len().min(MOST_OF_A_RUN)];
+    let run = &input[..input.len().min(MOST_OF_AN_INPUT)];
     let mut held = Held::new(run, 0);
     let mut lines = Vec::new();
     while held.place() < run.len() {

@@ -1,11 +1,11 @@
-//! Sections 1, 2, 3, 5, 9 and 10 of document 02, "Write the statement file", "Files with schema hints", "The retired six digits", "Intraday
-//! reports", "Old transaction codes retired" and "How far does it look?", sentence by sentence. What must be written or answered stands here
-//! as a person reads it from the document; nothing of it is computed.
+//! Sections 1, 2, 3, 5, 9, 10 and 12 of document 02, "Write the statement file", "Files with schema hints", "The retired six digits",
+//! "Intraday reports", "Old transaction codes retired", "How far does it look?" and "Tidying a file", sentence by sentence. What must be
+//! written or answered stands here as a person reads it from the document; nothing of it is computed.
 
 mod support;
 
-use independent::program::{images_program, program, write_program};
-use independent::{check, pick, read, reading, write, Held, LIMIT};
+use independent::program::{images_program, program, tidy_program, write_program};
+use independent::{check, pick, read, reading, tidy, write, Held, LIMIT};
 use support::*;
 
 /// The file that is written for an image, with room for any.
@@ -1098,5 +1098,141 @@ fn a_buffer_as_long_as_the_file_is_enough() {
         assert_eq!(check(file.as_bytes(), &mut room).code.number(), 0);
         let short = rewritten(&file);
         assert_eq!(check(short.as_bytes(), &mut vec![0; short.len()]).code.number(), 0);
+    }
+}
+
+// Section 12, "Tidying a file".
+
+/// A file's tidied form, with room for any.
+fn tidied(file: impl AsRef<[u8]>) -> String {
+    let (mut image, mut out) = (vec![0; LIMIT], vec![0; LIMIT]);
+    let answer = tidy(file.as_ref(), &mut image, &mut out);
+    assert_eq!(numbers(answer), (0, 0, answer.place));
+    out.truncate(answer.place);
+    String::from_utf8(out).unwrap()
+}
+
+/// The whole example in many ways that change nothing of its content.
+fn other_spellings() -> Vec<String> {
+    let file = whole_example();
+    vec![
+        file.replace("5.00", "5"),
+        file.replace("5.00", " +05.0 "),
+        file.replace('"', "'"),
+        file.replace("><", ">\r\n<"),
+        file.replace("<MsgId>", "<MsgId\t>").replace("</MsgId>", "</MsgId\n>"),
+        format!("<?xml version=\"1.0\" encoding=\"UTF-8\"?>\n{file}\n"),
+        file.replace("<Document ", "<Document xmlns:xsi='' xsi:schemaLocation='a' "),
+        file.replace("2024-03-01T06:00:00Z", "\n2024-03-01T06:00:00+00:00"),
+        file.replace("<Dt>2024-02-29</Dt>", "<Dt> 2024-02-29 </Dt>"),
+    ]
+}
+
+/// "Two accepted files of one kind that both can be tidied end in the same bytes exactly when their contents are equal".
+#[test]
+fn tidied_files_tell_contents() {
+    let file = whole_example();
+    assert_eq!(tidied(&file), without_zeros(&file));
+    for other in other_spellings() {
+        assert_eq!(tidied(&other), without_zeros(&file), "{other}");
+    }
+    let others = [
+        file.replace("5.00", "5.01"),
+        file.replace("EUR", "USD"),
+        file.replace("M1", "M2"),
+        file.replace("06:00:00Z", "06:00:00+01:00"),
+        file.replace("CRDT", "DBIT"),
+        file.replace(BALANCE, &BALANCE.repeat(2)),
+    ];
+    for other in &others {
+        assert_ne!(tidied(other), tidied(&file), "{other}");
+    }
+    assert_ne!(tidied(as_report(&file)), tidied(&file), "the kind is part of the content");
+    let midnight = |time: &str| tidied(file.replace("2024-03-01T06:00:00Z", time));
+    assert_eq!(midnight("2024-02-29T24:00:00Z"), midnight("2024-03-01T00:00:00Z"));
+    assert_eq!(tidied(debtor("&quot;a&apos; > &gt;")), without_zeros(&debtor("\"a' &gt; &gt;")));
+}
+
+/// "tidying a tidied file changes no byte".
+#[test]
+fn a_tidied_file_stays() {
+    for file in [whole_example(), whole_report(), least_report(), debtor("&lt;&quot;>"), amount(".50")] {
+        let once = tidied(&file);
+        assert_eq!(tidied(&once), once);
+    }
+}
+
+/// A tidying with so much room for the image and for the file: the answer, and both buffers, in which 0xaa stood.
+fn tidied_into(file: &str, room: usize, space: usize) -> ((u8, u8, usize), Vec<u8>, Vec<u8>) {
+    let (mut image, mut out) = (vec![0xaa; room], vec![0xaa; space]);
+    (numbers(tidy(file.as_bytes(), &mut image, &mut out)), image, out)
+}
+
+/// "A file that document 01 refuses, code 14 included, changes neither".
+#[test]
+fn a_refused_file_changes_neither() {
+    let refused =
+        ["<a></b>".to_string(), "<Document/>".to_string(), amount("-1"), whole_example().replace("<Id>S1</Id>", "")];
+    for file in refused {
+        for (room, space) in [(0, 0), (1000, 1000), (LIMIT + 1, LIMIT + 1)] {
+            let (answer, image, out) = tidied_into(&file, room, space);
+            assert_eq!(answer, judge(&file));
+            assert!(image.iter().chain(&out).all(|byte| *byte == 0xaa), "{file}");
+        }
+    }
+    for (room, space) in [(0, 0), (67, 0), (67, 1000)] {
+        let (answer, image, out) = tidied_into(&whole_example(), room, space);
+        assert_eq!(answer, (14, 0, 68));
+        assert!(image.iter().chain(&out).all(|byte| *byte == 0xaa));
+    }
+}
+
+/// "then §1's answers and order apply, and where §1 refuses, the image stands and the other buffer stays".
+#[test]
+fn the_image_stands_where_the_writer_refuses() {
+    let file = whole_example();
+    let needed = without_zeros(&file).len();
+    for room in [68, 69, LIMIT, LIMIT + 1, 2 * LIMIT] {
+        for space in [0, 1, needed - 1] {
+            let (answer, image, out) = tidied_into(&file, room, space);
+            assert_eq!(answer, (14, 0, needed), "of the file");
+            assert_eq!(image[..68], whole_image());
+            assert!(image[68..].iter().chain(&out).all(|byte| *byte == 0xaa));
+        }
+        for space in [needed, needed + 1, LIMIT + 1] {
+            let (answer, image, out) = tidied_into(&file, room, space);
+            assert_eq!(answer, (0, 0, needed), "also where the image's buffer is over the limit");
+            assert_eq!((&image[..68], &out[..needed]), (&whole_image()[..], without_zeros(&file).as_bytes()));
+            assert!(image[68..].iter().chain(&out[needed..]).all(|byte| *byte == 0xaa));
+        }
+    }
+}
+
+/// A file of the limit's length and less whose tidied form is longer: "19 where the file would be over 1,048,576 bytes", and then the image
+/// stands too.
+#[test]
+fn a_tidied_form_over_the_limit() {
+    let text = format!("<Ustrd>{}</Ustrd>", ">".repeat(140));
+    let file = transaction(&format!("<RmtInf>{}</RmtInf>", text.repeat(2000)));
+    let longer = without_zeros(&file).len() + 2000 * 140 * 3;
+    assert!(file.len() < LIMIT && longer > LIMIT);
+    for space in [0, LIMIT, 2 * LIMIT] {
+        let (answer, buffer, out) = tidied_into(&file, LIMIT, space);
+        assert_eq!(answer, (19, 0, longer), "before 14");
+        assert!(buffer.starts_with(&image(&file)) && out.iter().all(|byte| *byte == 0xaa));
+    }
+    assert_eq!(tidy_program(file.as_bytes()), format!("refused 19 0 {longer}\n").into_bytes());
+}
+
+/// The program: the tidied file, or one line.
+#[test]
+fn the_program_tidy() {
+    let file = whole_example();
+    assert_eq!(tidy_program(file.as_bytes()), without_zeros(&file).into_bytes());
+    assert_eq!(tidy_program(b""), b"refused 3 0 0\n");
+    let filled = |length: usize| [file.as_bytes(), &vec![b'\n'; length - file.len()]].concat();
+    assert_eq!(tidy_program(&filled(LIMIT)), without_zeros(&file).into_bytes());
+    for length in [LIMIT + 1, 2 * LIMIT] {
+        assert_eq!(tidy_program(&filled(length)), b"refused 1 0 1048576\n");
     }
 }

@@ -1,4 +1,5 @@
-//! Who is timed. Each judges a whole file, or a whole image, or writes a file from an image, in one call, and says whether it accepts.
+//! Who is timed. Each judges a whole file, or a whole image, or writes a file from an image, or tidies one, in one call, and says whether
+//! it accepts.
 
 use crate::files::File;
 
@@ -78,6 +79,7 @@ pub fn units() -> Vec<Contender> {
         Contender { name: "unit UTF-8 and scan", takes: Input::Foreign, is_unit: true, counts: <[u8]>::len, judge: |text| code(unit::kto_check, text) == 4 },
         Contender { name: "unit read", takes: Input::Image, is_unit: true, counts: <[u8]>::len, judge: |image| reads(unit::kto_read, image) },
         Contender { name: "unit write", takes: Input::Image, is_unit: true, counts: unit::written, judge: unit::write },
+        Contender { name: "unit tidy", takes: Input::File, is_unit: true, counts: <[u8]>::len, judge: unit::tidy },
         #[cfg(before)]
         Contender { name: "before check", takes: Input::File, is_unit: true, counts: <[u8]>::len, judge: |text| code(unit::before_check, text) == 0 },
         #[cfg(before)]
@@ -112,6 +114,7 @@ mod unit {
         pub fn kto_check(input: *const u8, input_len: usize, out: *mut u8, out_len: usize, row: *mut u64, place: *mut u64) -> u64;
         pub fn kto_read(run: *const u8, run_len: usize, place: *mut u64) -> u64;
         fn kto_write(run: *const u8, run_len: usize, out: *mut u8, out_len: usize, row: *mut u64, place: *mut u64) -> u64;
+        fn kto_tidy(input: *const u8, input_len: usize, image: *mut u8, image_len: usize, out: *mut u8, out_len: usize, row: *mut u64, place: *mut u64) -> u64;
     }
 
     #[cfg(before)]
@@ -121,8 +124,9 @@ mod unit {
         pub fn before_read(run: *const u8, run_len: usize, place: *mut u64) -> u64;
     }
 
-    // Lent to every call, so that no sample pays for making it.
+    // Lent to every call, so that no sample pays for making them.
     thread_local! {
+        static IMAGE: RefCell<Vec<u8>> = RefCell::new(vec![0; independent::LIMIT]);
         static OUT: RefCell<Vec<u8>> = RefCell::new(vec![0; independent::LIMIT]);
     }
 
@@ -157,6 +161,20 @@ mod unit {
 
     pub fn written(image: &[u8]) -> usize {
         file_length(image).unwrap_or(0)
+    }
+
+    pub fn tidy(text: &[u8]) -> bool {
+        IMAGE.with_borrow_mut(|image| {
+            OUT.with_borrow_mut(|out| {
+                let ((image, image_len), (out, out_len)) =
+                    ((image.as_mut_ptr(), image.len()), (out.as_mut_ptr(), out.len()));
+                let (mut row, mut place) = (0, 0);
+                // SAFETY: as above.
+                unsafe {
+                    kto_tidy(text.as_ptr(), text.len(), image, image_len, out, out_len, &mut row, &mut place) == 0
+                }
+            })
+        })
     }
 }
 

@@ -119,7 +119,7 @@ fn print_table(contenders: &[Contender], files: &[File], samples: &[Vec<Sample>]
     if !cfg!(others) {
         println!("\nexpat and libxml2 are missing: their development packages are not installed");
     }
-    println!("\nWho reads an image is timed by the image's bytes, who writes a file by the file's.");
+    println!("\nWho reads an image is timed by the image's bytes, who writes a file by the file's, and who tidies one by those that it is handed.");
 }
 
 /// The deepest of the unit's calls over all the files.

@@ -34,8 +34,8 @@ impl fmt::Display for Difference {
         }
         if let Some(at) = first_unequal(&self.unit, &self.independent) {
             writeln!(f, "  the handed-back bytes differ from byte {at} on:")?;
-            writeln!(f, "    unit         {}", shortened(hex(&self.unit), at))?;
-            writeln!(f, "    independent  {}", shortened(hex(&self.independent), at))?;
+            writeln!(f, "    unit         {}", shortened(&hex(&self.unit), at))?;
+            writeln!(f, "    independent  {}", shortened(&hex(&self.independent), at))?;
         }
         Ok(())
     }
@@ -64,6 +64,7 @@ fn question(case: &Case) -> String {
         Op::Pick { row, n } => format!("pick of row {row}, n {n}, from {length} bytes"),
         Op::Write { room } => format!("write of {length} bytes, room {room}"),
         Op::Count => format!("read with its count of {length} bytes"),
+        Op::Tidy { room, space } => format!("tidying of {length} bytes, room {room} and {space}"),
     }
 }
 
@@ -80,18 +81,18 @@ fn in_words(line: &str) -> String {
     }
 }
 
-/// The bytes that an answer hands back; none of a line that is no answer.
-fn hex(line: &str) -> &str {
+/// The bytes that an answer hands back, of a tidying both parts one after the other; none of a line that is no answer.
+fn hex(line: &str) -> String {
     match line.split(' ').collect::<Vec<_>>()[..] {
-        [_, _, _, hex] => hex,
-        _ => "",
+        [_, _, _, hex] => hex.replace('/', ""),
+        _ => String::new(),
     }
 }
 
 /// The first byte in which the handed-back parts differ.
 fn first_unequal(one: &str, other: &str) -> Option<usize> {
-    let (one, other) = (hex(one).as_bytes(), hex(other).as_bytes());
-    let same = one.iter().zip(other).take_while(|(a, b)| a == b).count();
+    let (one, other) = (hex(one), hex(other));
+    let same = one.bytes().zip(other.bytes()).take_while(|(a, b)| a == b).count();
     (one != other).then_some(same / 2)
 }
 

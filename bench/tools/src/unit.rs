@@ -12,7 +12,7 @@ use crate::output::named;
 
 /// The ops that the proved `replay` answers; any other breaks its feed. What it learns is put in here: the comparison and the
 /// stored feed then have it too.
-pub const KNOWN_OPS: &[u8] = &[0, 1, 2, 3, 6];
+pub const KNOWN_OPS: &[u8] = &[0, 1, 2, 3, 6, 8];
 
 /// Who answers.
 #[derive(Clone, Debug)]

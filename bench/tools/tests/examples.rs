@@ -40,6 +40,19 @@ fn hints_change_no_image() {
     assert_eq!(image("schema-hints.xml"), image("several-statements.xml"));
 }
 
+/// "Two accepted files of one kind that both can be tidied end in the same bytes exactly when their contents are equal, and tidying a
+/// tidied file changes no byte."
+#[test]
+fn every_spelling_is_tidied_to_what_is_written() {
+    let read = |name: &str| fs::read(examples().join(name)).unwrap();
+    let tidied = |file: Vec<u8>| Case::tidy(LIMIT, LIMIT, file).answer().1;
+    for name in ["several-statements.xml", "schema-hints.xml", "odd-spelling.xml", "written/several-statements.xml"] {
+        assert_eq!(tidied(read(name)), read("written/several-statements.xml"), "{name}");
+    }
+    assert_eq!(tidied(read("rent-account.xml")), read("written/rent-account.xml"));
+    assert_ne!(tidied(read("midnight.xml")), read("written/rent-account.xml"));
+}
+
 /// "Stored images with rows 40 and 41 are still read and picked from, in both versions."
 #[test]
 fn images_with_old_transaction_codes_are_read() {

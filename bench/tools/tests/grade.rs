@@ -5,6 +5,7 @@ use std::io::{BufRead, BufReader};
 use std::path::{Path, PathBuf};
 use std::process::{Command, Stdio};
 
+use cases::tidies::file_for_tidied_of;
 use cases::writes::image_for_file_of;
 use independent::LIMIT;
 
@@ -65,7 +66,7 @@ fn images_are_kept_and_shown() {
     let folder = empty_folder("images");
     assert_eq!(grade(&["--write", folder.to_str().unwrap(), "."]).0, Some(1));
     let kept = ["rent-account.kto", "several-statements.kto"].map(|name| folder.join(name));
-    assert_eq!(fs::read_dir(&folder).unwrap().count(), 8, "five files, and three as they are written");
+    assert_eq!(fs::read_dir(&folder).unwrap().count(), 9, "six files, and three as they are written");
 
     let (status, tree) = grade(&["show", kept[0].to_str().unwrap()]);
     assert_eq!(status, Some(0));
@@ -156,6 +157,58 @@ fn a_file_that_is_not_written_says_where_or_how_long() {
     assert!(said.contains("refused 19 TOO_LARGE") && said.ends_with(", 1048577 bytes needed\n"), "{said}");
 }
 
+/// Tidied files stand beside the others or in a folder, stay as they are when they are tidied again, and have the content of theirs.
+#[test]
+fn files_are_tidied_and_told_apart() {
+    let folder = empty_folder("tidied");
+    let path = |name: &str| folder.join(name).to_str().unwrap().to_string();
+    let (status, said) = grade(&["tidy", "--write", &path("once"), "rent-account.xml", "intraday.xml"]);
+    assert_eq!(status, Some(0), "{said}");
+    assert!(said.contains("rent-account.xml: tidied as "), "{said}");
+    let (status, said) = grade(&["tidy", &path("once/rent-account.tidy.xml")]);
+    assert_eq!(status, Some(0));
+    assert!(said.ends_with(" bytes, as it was\n"), "{said}");
+    let read = |name: &str| fs::read(path(name)).unwrap();
+    assert_eq!(read("once/rent-account.tidy.xml"), read("once/rent-account.tidy.tidy.xml"));
+    for name in ["rent-account", "intraday"] {
+        let (status, said) = grade(&["diff", &format!("{name}.xml"), &path(&format!("once/{name}.tidy.xml"))]);
+        assert_eq!(status, Some(0), "{said}");
+        assert!(said.ends_with(": one content\n"), "{said}");
+    }
+
+    let other = String::from_utf8(read("once/rent-account.tidy.xml"))
+        .unwrap()
+        .replacen("<Ntry><Amt Ccy=\"EUR\">", "<Ntry><Amt Ccy=\"EUR\">1", 1);
+    fs::write(path("other.xml"), other).unwrap();
+    let (status, said) = grade(&["diff", "rent-account.xml", &path("other.xml")]);
+    assert_eq!(status, Some(1));
+    assert!(
+        said.contains(": they differ at Document/BkToCstmrStmt/Stmt[1]/Ntry[1]/Amt\n    rent-account.xml: EUR "),
+        "{said}"
+    );
+    let (status, said) = grade(&["diff", "rent-account.xml", "intraday.xml"]);
+    assert_eq!(status, Some(1));
+    assert!(said.contains("they differ at the root's namespace\n"), "{said}");
+
+    let (status, said) = grade(&["diff", "rent-account.xml", "damaged/12-bad-value.xml"]);
+    assert_eq!(status, Some(2));
+    assert!(said.contains("damaged/12-bad-value.xml: refused 12 BAD_VALUE"), "{said}");
+    let (status, said) = grade(&["tidy", "--write", &path("none"), "damaged/12-bad-value.xml", "no-such-file.xml"]);
+    assert_eq!(status, Some(2));
+    assert!(
+        said.contains("refused 12 BAD_VALUE") && said.contains("line 783, column 11") && said.contains("can't be read"),
+        "{said}"
+    );
+    fs::write(path("large.xml"), file_for_tidied_of(LIMIT + 1)).unwrap();
+    let (status, said) = grade(&["tidy", &path("large.xml")]);
+    assert_eq!(status, Some(1));
+    assert!(said.contains("refused 19 TOO_LARGE") && said.ends_with(", 1048577 bytes needed\n"), "{said}");
+    assert!(!folder.join("none").exists() && !folder.join("large.tidy.xml").exists());
+    for bad in [&["diff", "rent-account.xml"][..], &["diff", "a", "b", "c"], &["tidy"]] {
+        assert_eq!(grade(bad).0, Some(2), "{bad:?}");
+    }
+}
+
 /// A reader that has enough ends `grade` without a word.
 #[test]
 fn a_closed_pipe_ends_it_quietly() {
@@ -181,7 +234,7 @@ fn a_closed_pipe_ends_it_quietly() {
 fn one_object_for_each_file() {
     let (status, said) = grade(&["--json", ".", "no-such-file.xml"]);
     assert_eq!(status, Some(2));
-    assert_eq!(said.lines().count(), 40);
+    assert_eq!(said.lines().count(), 41);
     assert!(said.lines().all(|line| line.starts_with("{\"file\":\"") && line.ends_with('}')), "{said}");
     assert!(
         said.contains("{\"file\":\"./rent-account.xml\",\"code\":0,\"name\":\"ACCEPTED\",\"meaning\":\"accepted\",\"row\":0,\"place\":3931,\"kind\":\"camt.053.001.08\"}")

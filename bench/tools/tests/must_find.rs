@@ -137,6 +137,18 @@ const FAULTS: &[Fault] = &[
     ("write.rs", "amount.currency())", "\"EUR\")"),
     // The namespace of statements for a report.
     ("write.rs", "list.namespace)", "crate::list::STATEMENT.namespace)"),
+    // The image gone where the file is not written.
+    (
+        "tidy.rs",
+        "write(&image[..checked.place], out)",
+        "{ let answer = write(&image[..checked.place], out); if !answer.is_accepted() { image.fill(0) }; answer }",
+    ),
+    // The image's length for the file's.
+    (
+        "tidy.rs",
+        "write(&image[..checked.place], out)",
+        "Answer { place: checked.place, ..write(&image[..checked.place], out) }",
+    ),
     // Version 3 let through.
     ("read.rs", "// \"16 now means version neither 1 nor 2\"", "3 => Ok((version, &STATEMENT, 6)),"),
     // Version 1 with a kind byte.

@@ -53,7 +53,7 @@ fn sets_are_large_enough_and_have_every_answer() {
 
 #[test]
 fn sets_are_the_same_each_time() {
-    for kind in ["xml", "values", "runs", "checks", "feed", "kto", "writes", "images"] {
+    for kind in ["xml", "values", "runs", "checks", "feed", "kto", "writes", "tidies", "images"] {
         assert!(set(kind, "one") == set(kind, "two"), "{kind}");
     }
 }
@@ -61,9 +61,11 @@ fn sets_are_the_same_each_time() {
 /// The first input of a program is the one that is stored, and every code of its answers is among them all.
 #[test]
 fn inputs_of_programs_have_every_answer() {
-    for (kind, count, codes) in
-        [("writes", 31, &["1", "15", "16", "17", "19", "20", "26"][..]), ("images", 26, &["1", "15", "16", "17"])]
-    {
+    for (kind, count, codes) in [
+        ("writes", 31, &["1", "15", "16", "17", "19", "20", "26"][..]),
+        ("tidies", 18, &["1", "2", "3", "4", "5", "12", "19"]),
+        ("images", 26, &["1", "15", "16", "17"]),
+    ] {
         let (first, said) = set(kind, "inputs");
         let folder = folder(kind, "inputs");
         let read = |number: usize, end: &str| fs::read(folder.join(format!("{number}.{end}"))).unwrap();
@@ -114,8 +116,8 @@ fn replay_answers_the_sets() {
 }
 
 #[test]
-fn replay_answers_writes() {
-    let cases = cases::writes::fixed_set();
+fn replay_answers_writes_and_tidyings() {
+    let cases = [cases::writes::fixed_set(), cases::tidies::fixed_set()].concat();
     let feed: Vec<u8> = cases.iter().flat_map(|case| case.feed()).collect();
     let lines: String = cases.iter().map(|case| case.line() + "\n").collect();
     assert!(replayed(feed) == lines.into_bytes());

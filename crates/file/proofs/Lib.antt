@@ -15,6 +15,8 @@ pub mod Hints
 pub mod Short
 -- all of it for document 01's types and the list that a file chooses
 pub mod House
+-- what callers of check need of its answers
+pub mod Rooms
 -- a computed test for good trees
 pub mod Trees
 -- some answer fits every file and every buffer

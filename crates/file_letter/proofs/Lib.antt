@@ -21,3 +21,5 @@ pub mod Files
 pub mod Writing
 -- what the programs need of it
 pub mod Rooms
+-- what tidying answers
+pub mod Tidying

@@ -66,12 +66,30 @@ module _ (s d : List ℕ) where
   delivers-leaves a d′ (delivered h j e f) n = absurd (n (code-of a (accepted (length s)) e))
 
   -- what stands in the buffer where the code is 0
-  delivers-file : (a : Answer) (d′ : List ℕ) → Delivers s d a d′ → a .code ≡ 0 → (length s ≤ limit) × (a .place ≡ length s) × (take (a .place) d′ ≡ s)
+  pub delivers-file : (a : Answer) (d′ : List ℕ) → Delivers s d a d′ → a .code ≡ 0 → (length s ≤ limit) × (a .place ≡ length s) × (take (a .place) d′ ≡ s)
   delivers-file a d′ (large h e f) z = absurd (omega (arith, code-of a (tooLarge (length s)) e))
   delivers-file a d′ (short h j e f) z = absurd (omega (arith, code-of a (noRoom (length s)) e))
   delivers-file a d′ (delivered h j e f) z =
       let p : a .place ≡ length s = ap (λ (x : Answer). x .place) e in
       (h, p, ap₂ take p f ∙ take-append-seam s (drop (length s) d))
+
+  -- which is the answer to every file within the limit that there is room for
+  pub delivers-whole : (a : Answer) (d′ : List ℕ) → Delivers s d a d′ → length s ≤ limit → length s ≤ length d → a ≡ accepted (length s)
+  delivers-whole a d′ (large h e f) i k = absurd (omega arith)
+  delivers-whole a d′ (short h j e f) i k = absurd (omega arith)
+  delivers-whole a d′ (delivered h j e f) i k = e
+
+  -- and the only one of code 0
+  pub delivers-fitting : (a : Answer) (d′ : List ℕ) → Delivers s d a d′ → a .code ≡ 0 → length s ≤ length d
+  delivers-fitting a d′ (large h e f) z = absurd (omega (arith, code-of a (tooLarge (length s)) e))
+  delivers-fitting a d′ (short h j e f) z = absurd (omega (arith, code-of a (noRoom (length s)) e))
+  delivers-fitting a d′ (delivered h j e f) z = j
+
+  -- no other code than these three
+  pub delivers-three : (a : Answer) (d′ : List ℕ) → Delivers s d a d′ → (a .code ≡ 0) ⊎ ((a .code ≡ 19) ⊎ (a .code ≡ 14))
+  delivers-three a d′ (large h e f) = inr (inl (code-of a (tooLarge (length s)) e))
+  delivers-three a d′ (short h j e f) = inr (inr (code-of a (noRoom (length s)) e))
+  delivers-three a d′ (delivered h j e f) = inl (code-of a (accepted (length s)) e)
 
 -- ---- the run
 
@@ -156,6 +174,13 @@ module _ (run : List ℕ) where
           | no k ↦ (r .0, d, unread (r .1) k refl)
           | yes z ↦ let w = accepting values stored run (r .0) (r .1) z in written-some (w .0) (r .0 .place) (w .1)
         ]
+
+    -- of an image whose content a file may say it is one of the three answers for its file
+    pub writes-delivers : (a : Answer) (d′ : List ℕ) → Writes run d a d′ → length run ≤ limit → (n : ℕ) (w : HouseAccepts run n) → NoneOf (Withdrawn (askedIn w)) (itemsIn w) → NoneOf Finer (itemsIn w) → Delivers (letterIn w) d a d′
+    writes-delivers a d′ q h n w c t =
+        let p = delivers-some (letterIn w) d in
+        let o = writes-one (p .0) a (p .1) d′ (begun h n w c t (p .2)) q in
+        subst (λ (x : List ℕ). Delivers (letterIn w) d a x) (o .1) (subst (λ (x : Answer). Delivers (letterIn w) d x (p .1)) (o .0) (p .2))
 
     -- every refusal leaves every byte
     pub write-leaves : (a : Answer) (d′ : List ℕ) → Writes run d a d′ → a .code ≢ 0 → d′ ≡ d

@@ -5,5 +5,7 @@ pub mod Letter
 pub mod Stale
 -- what writing answers, and what it leaves in the buffer
 pub mod Writes
+-- what tidying answers, and what it leaves in the two buffers
+pub mod Tidies
 -- mirrors, which say how the code goes
 pub mod mirror

@@ -12,7 +12,7 @@ use Rattle.program_line.specs.Line.{refusal}
 use Rattle.program_line.proofs.Lines.{line-taken, counts}
 use Rattle.image_reading.specs.Reads.{HouseReads}
 use Rattle.file.specs.Checks.{Checks}
-use Rattle.unit.proofs.Programs.{place-fits, reads-back, rooms-alike}
+use Rattle.file.proofs.Rooms.{place-fits, reads-back, rooms-alike}
 use Rattle.kto.specs.Says.{most, Says, longer, refusedInput, written}
 use Rattle.kto.specs.Answered.{Answered, over, within}
 

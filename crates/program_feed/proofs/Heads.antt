@@ -11,8 +11,8 @@ use lib.Seq.{drop-cons}
 use borrow.Author.Tests.{lt-ltb, le-ltb, ltb-false, eq-eqb, ne-eqb}
 use Rattle.answer.specs.Table.{limit}
 use Rattle.program_feed.specs.declared.case.Case.{Case}
-use Rattle.program_feed.specs.declared.case.Case.the-variants.{Check, Read, Pick, Write, Count, Broken}
-use Rattle.program_feed.specs.Cases.{little, numberAt, longest, caseBy, caseOf, sizeOf, caseIn}
+use Rattle.program_feed.specs.declared.case.Case.the-variants.{Check, Read, Pick, Write, Count, Tidy, Broken}
+use Rattle.program_feed.specs.Cases.{little, numberAt, longest, opBy, caseBy, caseOf, sizeOf, caseIn}
 
 -- ---- four bytes
 
@@ -48,38 +48,44 @@ module _ (s : List ℕ) (size : ℕ) (h : 13 ≤ length s) (e : size ≡ numberA
   unfolding caseBy
   case-long k = sym (case-is ∙ rw (lt-ltb longest size k))
 
-  module _ (k : size ≤ longest) where
-    pub case-check : (room : ℕ) → room ≡ min (numberAt 1 s) limit → getD s 0 0 ≡ 0 → Check room size ≡ caseOf s
-    unfolding caseBy
-    case-check room f z = sym (case-is ∙ rw (le-ltb longest size k, eq-eqb (getD s 0 0) 0 z, f))
+  pub case-by : size ≤ longest → (c : Case) → c ≡ opBy (getD s 0 0) (numberAt 1 s) (numberAt 5 s) size → c ≡ caseOf s
+  unfolding caseBy
+  case-by k c f = f ∙ sym (case-is ∙ rw (le-ltb longest size k))
 
-    module _ (n0 : getD s 0 0 ≡ 0 → ⊥) where
-      pub case-read : getD s 0 0 ≡ 1 → Read size ≡ caseOf s
-      unfolding caseBy
-      case-read z = sym (case-is ∙ rw (le-ltb longest size k, ne-eqb (getD s 0 0) 0 n0, eq-eqb (getD s 0 0) 1 z))
+-- by the op, in the order of the tests
+module _ (op n m size : ℕ) where
+  pub op-check : (room : ℕ) → room ≡ min n limit → op ≡ 0 → Check room size ≡ opBy op n m size
+  unfolding opBy
+  op-check room f z = sym (rw (eq-eqb op 0 z, f))
 
-      module _ (n1 : getD s 0 0 ≡ 1 → ⊥) where
-        pub case-pick : (row n : ℕ) → row ≡ numberAt 1 s → n ≡ numberAt 5 s → getD s 0 0 ≡ 2 → Pick row n size ≡ caseOf s
-        unfolding caseBy
-        case-pick row n f g z =
-            sym (case-is ∙ rw (le-ltb longest size k, ne-eqb (getD s 0 0) 0 n0, ne-eqb (getD s 0 0) 1 n1, eq-eqb (getD s 0 0) 2 z, f, g))
+  module _ (n0 : op ≡ 0 → ⊥) where
+    pub op-read : op ≡ 1 → Read size ≡ opBy op n m size
+    unfolding opBy
+    op-read z = sym (rw (ne-eqb op 0 n0, eq-eqb op 1 z))
 
-        module _ (n2 : getD s 0 0 ≡ 2 → ⊥) where
-          pub case-write : (room : ℕ) → room ≡ min (numberAt 1 s) limit → getD s 0 0 ≡ 3 → Write room size ≡ caseOf s
-          unfolding caseBy
-          case-write room f z =
-              sym (case-is ∙ rw (le-ltb longest size k, ne-eqb (getD s 0 0) 0 n0, ne-eqb (getD s 0 0) 1 n1, ne-eqb (getD s 0 0) 2 n2, eq-eqb (getD s 0 0) 3 z, f))
+    module _ (n1 : op ≡ 1 → ⊥) where
+      pub op-pick : (row nth : ℕ) → row ≡ n → nth ≡ m → op ≡ 2 → Pick row nth size ≡ opBy op n m size
+      unfolding opBy
+      op-pick row nth f g z = sym (rw (ne-eqb op 0 n0, ne-eqb op 1 n1, eq-eqb op 2 z, f, g))
 
-          module _ (n3 : getD s 0 0 ≡ 3 → ⊥) where
-            pub case-count : getD s 0 0 ≡ 6 → Count size ≡ caseOf s
-            unfolding caseBy
-            case-count z =
-                sym (case-is ∙ rw (le-ltb longest size k, ne-eqb (getD s 0 0) 0 n0, ne-eqb (getD s 0 0) 1 n1, ne-eqb (getD s 0 0) 2 n2, ne-eqb (getD s 0 0) 3 n3, eq-eqb (getD s 0 0) 6 z))
+      module _ (n2 : op ≡ 2 → ⊥) where
+        pub op-write : (room : ℕ) → room ≡ min n limit → op ≡ 3 → Write room size ≡ opBy op n m size
+        unfolding opBy
+        op-write room f z = sym (rw (ne-eqb op 0 n0, ne-eqb op 1 n1, ne-eqb op 2 n2, eq-eqb op 3 z, f))
 
-            pub case-other : (getD s 0 0 ≡ 6 → ⊥) → Broken ≡ caseOf s
-            unfolding caseBy
-            case-other n6 =
-                sym (case-is ∙ rw (le-ltb longest size k, ne-eqb (getD s 0 0) 0 n0, ne-eqb (getD s 0 0) 1 n1, ne-eqb (getD s 0 0) 2 n2, ne-eqb (getD s 0 0) 3 n3, ne-eqb (getD s 0 0) 6 n6))
+        module _ (n3 : op ≡ 3 → ⊥) where
+          pub op-count : op ≡ 6 → Count size ≡ opBy op n m size
+          unfolding opBy
+          op-count z = sym (rw (ne-eqb op 0 n0, ne-eqb op 1 n1, ne-eqb op 2 n2, ne-eqb op 3 n3, eq-eqb op 6 z))
+
+          module _ (n6 : op ≡ 6 → ⊥) where
+            pub op-tidy : (room space : ℕ) → room ≡ min n limit → space ≡ min m limit → op ≡ 8 → Tidy room space size ≡ opBy op n m size
+            unfolding opBy
+            op-tidy room space f g z = sym (rw (ne-eqb op 0 n0, ne-eqb op 1 n1, ne-eqb op 2 n2, ne-eqb op 3 n3, ne-eqb op 6 n6, eq-eqb op 8 z, f, g))
+
+            pub op-other : (op ≡ 8 → ⊥) → Broken ≡ opBy op n m size
+            unfolding opBy
+            op-other n8 = sym (rw (ne-eqb op 0 n0, ne-eqb op 1 n1, ne-eqb op 2 n2, ne-eqb op 3 n3, ne-eqb op 6 n6, ne-eqb op 8 n8))
 
 -- ---- the case that a feed begins with
 
@@ -102,33 +108,39 @@ whole s c e n = go (decLt (length s) (13 + sizeOf (caseOf s)))
         let f : caseOf s ≡ c = in-whole s w ∙ sym e in
         (f, subst (λ (x : Case). 13 + sizeOf x ≤ length s) f w)
 
--- the room of a check and of a write, 0 of the others
-abbrev pub roomOf : Case → ℕ
-roomOf (Check room size) = room
-roomOf (Read size) = 0
-roomOf (Pick row n size) = 0
-roomOf (Write room size) = room
-roomOf (Count size) = 0
-roomOf Broken = 0
+-- the rooms of a check, of a write and of a tidying are there
+abbrev pub Roomy : Case → Type 0
+Roomy (Check room size) = room ≤ limit
+Roomy (Read size) = Unit {0}
+Roomy (Pick row n size) = Unit {0}
+Roomy (Write room size) = room ≤ limit
+Roomy (Count size) = Unit {0}
+Roomy (Tidy room space size) = (room ≤ limit) × (space ≤ limit)
+Roomy Broken = Unit {0}
 
 -- no case is longer than the longest, or asks for more room than there is
 abbrev pub Kept : Case → Type 0
-Kept c = (sizeOf c ≤ longest) × (roomOf c ≤ limit)
+Kept c = (sizeOf c ≤ longest) × Roomy c
 
-by-tests : (t u v w x y : Bool) (room n size : ℕ) → (t ≡ false → size ≤ longest) →
-    Kept (cond t Broken (cond u (Check (min room limit) size) (cond v (Read size) (cond w (Pick room n size) (cond x (Write (min room limit) size) (cond y (Count size) Broken))))))
-by-tests true u v w x y room n size h = (zero-le, zero-le)
-by-tests false true v w x y room n size h = (h refl, omega arith)
-by-tests false false true w x y room n size h = (h refl, zero-le)
-by-tests false false false true x y room n size h = (h refl, zero-le)
-by-tests false false false false true y room n size h = (h refl, omega arith)
-by-tests false false false false false true room n size h = (h refl, zero-le)
-by-tests false false false false false false room n size h = (zero-le, zero-le)
+by-tests : (u v w x y z : Bool) (room n size : ℕ) → size ≤ longest →
+    Kept (cond u (Check (min room limit) size) (cond v (Read size) (cond w (Pick room n size) (cond x (Write (min room limit) size) (cond y (Count size) (cond z (Tidy (min room limit) (min n limit) size) Broken))))))
+by-tests true v w x y z room n size h = (h, omega arith)
+by-tests false true w x y z room n size h = (h, tt)
+by-tests false false true x y z room n size h = (h, tt)
+by-tests false false false true y z room n size h = (h, omega arith)
+by-tests false false false false true z room n size h = (h, tt)
+by-tests false false false false false true room n size h = (h, (omega arith, omega arith))
+by-tests false false false false false false room n size h = (zero-le, tt)
+
+by-length : (t : Bool) (op room n size : ℕ) → (t ≡ false → size ≤ longest) → Kept (cond t Broken (opBy op room n size))
+unfolding opBy
+by-length true op room n size h = (zero-le, tt)
+by-length false op room n size h = by-tests (eqb op 0) (eqb op 1) (eqb op 2) (eqb op 3) (eqb op 6) (eqb op 8) room n size (h refl)
 
 pub kept : (s : List ℕ) → Kept (caseOf s)
 unfolding caseOf caseBy
 kept s = go (ltb (length s) 13)
   where
     go : (b : Bool) → Kept (cond b Broken (caseBy (getD s 0 0) (numberAt 1 s) (numberAt 5 s) (numberAt 9 s)))
-    go true = (zero-le, zero-le)
-    go false = by-tests (ltb longest (numberAt 9 s)) (eqb (getD s 0 0) 0) (eqb (getD s 0 0) 1) (eqb (getD s 0 0) 2) (eqb (getD s 0 0) 3) (eqb (getD s 0 0) 6) (numberAt 1 s) (numberAt 5 s) (numberAt 9 s) (ltb-false longest (numberAt 9 s))
+    go true = (zero-le, tt)
+    go false = by-length (ltb longest (numberAt 9 s)) (getD s 0 0) (numberAt 1 s) (numberAt 5 s) (numberAt 9 s) (ltb-false longest (numberAt 9 s))

@@ -16,7 +16,7 @@ use Rattle.program_line.specs.Line.{numbers}
 use Rattle.program_line.specs.Hex.{hexadecimal}
 use Rattle.program_line.proofs.Hexadecimal.{length-hex}
 use Rattle.program_line.proofs.Lines.{list-behind, taken-out}
-use Rattle.program_feed.specs.Reply.{answerLine, brokenLine, Put}
+use Rattle.program_feed.specs.Reply.{answerLine, pairLine, brokenLine, Put}
 
 -- ---- an answer with what it hands back
 
@@ -40,6 +40,37 @@ module _ (a : Answer) (p : List ℕ) where
       ap (λ (l : List ℕ). pasted (pasted l (n + 1) (hexadecimal p)) end (10 ∷ [])) (list-behind d u n e (32 ∷ []) (omega arith))
       ∙ ap (λ (l : List ℕ). pasted l end (10 ∷ [])) (list-behind d us (n + 1) ls (hexadecimal p) (omega (arith, length-hex p)))
       ∙ list-behind d ush end lh (10 ∷ []) h
+      ∙ ap (pasted d 0) (simp append-assoc)
+
+-- ---- an answer with two parts
+
+module _ (a : Answer) (p q : List ℕ) where
+  pub length-pair : length (pairLine a p q) ≡ length (numbers a) + 1 + (length p + length p) + 1 + (length q + length q) + 1
+  unfolding pairLine
+  length-pair = simp (length-append, length-hex) (omega arith)
+
+  pub pair-most : length (numbers a) ≤ 62 → length (pairLine a p q) ≤ 65 + (length p + length p) + (length q + length q)
+  pair-most h = omega (arith, length-pair)
+
+  -- the first part and the mark, then the second and the line end
+  pub paired : (d : List ℕ) (n k end : ℕ) → n ≡ length (numbers a) → k ≡ n + 1 + length p + length p → end ≡ k + 1 + length q + length q → end + 1 ≤ length d →
+      pasted (pasted (pasted (pasted (pasted (pasted d 0 (numbers a)) n (32 ∷ [])) (n + 1) (hexadecimal p)) k (47 ∷ [])) (k + 1) (hexadecimal q)) end (10 ∷ []) ≡ pasted d 0 (pairLine a p q)
+  unfolding pairLine
+  paired d n k end e f g h =
+      let u = numbers a in
+      let us = u ++ (32 ∷ []) in
+      let up = us ++ hexadecimal p in
+      let um = up ++ (47 ∷ []) in
+      let uq = um ++ hexadecimal q in
+      let ls : n + 1 ≡ length us = omega (arith, length-append u (32 ∷ [])) in
+      let lp : k ≡ length up = omega (arith, length-append us (hexadecimal p), length-hex p) in
+      let lm : k + 1 ≡ length um = omega (arith, length-append up (47 ∷ [])) in
+      let lq : end ≡ length uq = omega (arith, length-append um (hexadecimal q), length-hex q) in
+      ap (λ (l : List ℕ). pasted (pasted (pasted (pasted l (n + 1) (hexadecimal p)) k (47 ∷ [])) (k + 1) (hexadecimal q)) end (10 ∷ [])) (list-behind d u n e (32 ∷ []) (omega arith))
+      ∙ ap (λ (l : List ℕ). pasted (pasted (pasted l k (47 ∷ [])) (k + 1) (hexadecimal q)) end (10 ∷ [])) (list-behind d us (n + 1) ls (hexadecimal p) (omega (arith, length-hex p)))
+      ∙ ap (λ (l : List ℕ). pasted (pasted l (k + 1) (hexadecimal q)) end (10 ∷ [])) (list-behind d up k lp (47 ∷ []) (omega arith))
+      ∙ ap (λ (l : List ℕ). pasted l end (10 ∷ [])) (list-behind d um (k + 1) lm (hexadecimal q) (omega (arith, length-hex q)))
+      ∙ list-behind d uq end lq (10 ∷ []) h
       ∙ ap (pasted d 0) (simp append-assoc)
 
 -- ---- a feed that is broken

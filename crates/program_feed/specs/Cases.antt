@@ -1,4 +1,4 @@
--- A case's head: "one byte op (0 check, 1 read, 2 pick, 3 write, 6 count), then three 32-bit little-endian numbers". Assumes nothing.
+-- A case's head: "one byte op (0 check, 1 read, 2 pick, 3 write, 6 count, 8 tidy), then three 32-bit little-endian numbers". Assumes nothing.
 use mathlib.Core.Bool.{cond}
 use mathlib.Core.List.{List, [], _∷_}
 use Prim.Native.Nat.{ℕ, _+_, _*_, min}
@@ -6,7 +6,7 @@ use lib.Dec.{ltb, eqb}
 use lib.ListN.{length, getD, take, drop}
 use Rattle.answer.specs.Table.{limit}
 use Rattle.program_feed.specs.declared.case.Case.{Case}
-use Rattle.program_feed.specs.declared.case.Case.the-variants.{Check, Read, Pick, Write, Count, Broken}
+use Rattle.program_feed.specs.declared.case.Case.the-variants.{Check, Read, Pick, Write, Count, Tidy, Broken}
 
 -- the number that bytes write, the least significant first
 unfoldable pub little : List ℕ → ℕ
@@ -21,17 +21,21 @@ numberAt at s = little (take 4 (drop at s))
 abbrev pub longest : ℕ
 longest = 1048577
 
--- by the op, room (of a pick: the row), n (of a pick) and the length: "room at most 1,048,576 is honoured exactly, more counts as
--- 1,048,576"; "names another op or a greater length": broken
-unfoldable pub caseBy : ℕ → ℕ → ℕ → ℕ → Case
-caseBy op room n size =
-    cond (ltb longest size) Broken
-    (cond (eqb op 0) (Check (min room limit) size)
+-- by the op, room (of a pick: the row), n (of a pick; of a tidying the room for the file) and the length: "room at most 1,048,576 is honoured
+-- exactly, more counts as 1,048,576"; "names another op": broken
+unfoldable pub opBy : ℕ → ℕ → ℕ → ℕ → Case
+opBy op room n size =
+    cond (eqb op 0) (Check (min room limit) size)
     (cond (eqb op 1) (Read size)
     (cond (eqb op 2) (Pick room n size)
     (cond (eqb op 3) (Write (min room limit) size)
     (cond (eqb op 6) (Count size)
+    (cond (eqb op 8) (Tidy (min room limit) (min n limit) size)
     Broken)))))
+
+-- "or a greater length": broken
+unfoldable pub caseBy : ℕ → ℕ → ℕ → ℕ → Case
+caseBy op room n size = cond (ltb longest size) Broken (opBy op room n size)
 
 -- "A feed that breaks off": fewer than 13 bytes are no head
 unfoldable pub caseOf : List ℕ → Case
@@ -44,6 +48,7 @@ sizeOf (Read size) = size
 sizeOf (Pick row n size) = size
 sizeOf (Write room size) = size
 sizeOf (Count size) = size
+sizeOf (Tidy room space size) = size
 sizeOf Broken = 0
 
 -- the case that a feed begins with: its head, "then that many bytes"; broken where the feed "breaks off" before they end

@@ -16,6 +16,10 @@ use Rattle.program_line.specs.Hex.{hexadecimal}
 unfoldable pub answerLine : Answer → List ℕ → List ℕ
 answerLine a part = numbers a ++ (32 ∷ (hexadecimal part ++ (10 ∷ [])))
 
+-- of a tidying "the image where it was written, `/`, the tidied file where it was written"
+unfoldable pub pairLine : Answer → List ℕ → List ℕ → List ℕ
+pairLine a p q = numbers a ++ (32 ∷ (hexadecimal p ++ (47 ∷ (hexadecimal q ++ (10 ∷ [])))))
+
 -- "ends with the line `feed broken at case N` (N from 0)"
 unfoldable pub brokenLine : ℕ → List ℕ
 brokenLine n = ascii "feed broken at case " ++ (inDigits n ++ (10 ∷ []))

@@ -3,21 +3,41 @@ use answer::Answer;
 use text::part::least;
 ghost use mathlib.Core.Path.{_≡_};
 ghost use Prim.Native.Nat.{_+_, _≤_, _<_, _^_, min};
-ghost use lib.ListN.{length, take, drop};
+ghost use lib.ListN.{length, getD, take, drop};
 ghost use Rattle.answer.specs.Table.{limit};
-ghost use Rattle.program_feed.specs.Cases.{little, numberAt, caseOf, sizeOf, caseIn};
+ghost use Rattle.program_feed.specs.Cases.{little, numberAt, opBy, caseOf, sizeOf, caseIn};
 
 pub enum Case {
     // A file of `size` bytes, for a buffer of `room`.
-    Check { room: usize, size: usize },
+    Check {
+        room: usize,
+        size: usize,
+    },
     // A run of `size` bytes.
-    Read { size: usize },
+    Read {
+        size: usize,
+    },
     // The leaf number `nth`, from 0, of `row` in a run of `size` bytes.
-    Pick { row: usize, nth: usize, size: usize },
+    Pick {
+        row: usize,
+        nth: usize,
+        size: usize,
+    },
     // A run of `size` bytes that is to be written as a file, for a buffer of `room`.
-    Write { room: usize, size: usize },
+    Write {
+        room: usize,
+        size: usize,
+    },
     // A run of `size` bytes, whose items are to be counted.
-    Count { size: usize },
+    Count {
+        size: usize,
+    },
+    // A file of `size` bytes that is to be tidied, for buffers of `room` for its image and of `space` for the file.
+    Tidy {
+        room: usize,
+        space: usize,
+        size: usize,
+    },
     // No case: the head breaks off, or names another op or a length over the longest.
     Broken,
 }
@@ -42,29 +62,23 @@ fn number(s: &[u8], at: usize) -> usize
     wide(s[at]) + 256 * (wide(s[at + 1]) + 256 * (wide(s[at + 2]) + 256 * wide(s[at + 3])))
 }
 
-// The room that a head asks for; more than a buffer may need counts as that much.
-fn room_in(head: &[u8]) -> usize
-    requires { ⌜ 13 ≤ length (now head) ⌝ }
-    ensures { λ r. ⌜ r ≡ min (numberAt 1 (now (head .entry))) limit ⌝ }
+// A room that a head asks for; more than a buffer may need counts as that much.
+fn room_at(head: &[u8], at: usize) -> usize
+    requires { ⌜ at + 4 ≤ length (now head) ⌝ }
+    ensures { λ r. ⌜ r ≡ min (numberAt at (now (head .entry))) limit ⌝ }
 {
-    least(number(head, 1), Answer::LIMIT)
+    least(number(head, at), Answer::LIMIT)
 }
 
-// The case that a head asks for; what stands after its 13 bytes does not matter.
-pub fn case_of(head: &[u8]) -> Case
-    ensures { λ r. ⌜ r ≡ caseOf (now (head .entry)) ⌝ }
+// The case that a whole head asks for, of so many bytes.
+fn by_op(head: &[u8], size: usize) -> Case
+    requires { ⌜ 13 ≤ length (now head) ⌝ }
+    ensures { λ r. ⌜ r ≡ opBy (getD (now (head .entry)) 0 0) (numberAt 1 (now (head .entry))) (numberAt 5 (now (head .entry))) size ⌝ }
 {
-    if head.len() < HEAD {
-        return Case::Broken;
-    }
-    let size = number(head, 9);
-    if LONGEST < size {
-        return Case::Broken;
-    }
     let op = head[0];
     if op == 0 {
         return Case::Check {
-            room: room_in(head),
+            room: room_at(head, 1),
             size: size,
         };
     }
@@ -80,14 +94,35 @@ pub fn case_of(head: &[u8]) -> Case
     }
     if op == 3 {
         return Case::Write {
-            room: room_in(head),
+            room: room_at(head, 1),
             size: size,
         };
     }
     if op == 6 {
         return Case::Count { size: size };
     }
+    if op == 8 {
+        return Case::Tidy {
+            room: room_at(head, 1),
+            space: room_at(head, 5),
+            size: size,
+        };
+    }
     Case::Broken
+}
+
+// The case that a head asks for; what stands after its 13 bytes does not matter.
+pub fn case_of(head: &[u8]) -> Case
+    ensures { λ r. ⌜ r ≡ caseOf (now (head .entry)) ⌝ }
+{
+    if head.len() < HEAD {
+        return Case::Broken;
+    }
+    let size = number(head, 9);
+    if LONGEST < size {
+        return Case::Broken;
+    }
+    by_op(head, size)
 }
 
 // How many bytes a case has after its head.
@@ -104,6 +139,11 @@ pub fn size_of(c: Case) -> usize
         } => size,
         Case::Write { room: _, size } => size,
         Case::Count { size } => size,
+        Case::Tidy {
+            room: _,
+            space: _,
+            size,
+        } => size,
         Case::Broken => 0,
     }
 }

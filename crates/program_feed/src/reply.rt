@@ -10,7 +10,7 @@ ghost use Prim.Native.Nat.{_+_, _≤_};
 ghost use lib.ListN.{length};
 ghost use lib.Seq.{slice};
 ghost use Rattle.text.specs.Pasting.{pasted};
-ghost use Rattle.program_feed.specs.Reply.{answerLine, brokenLine, Put};
+ghost use Rattle.program_feed.specs.Reply.{answerLine, pairLine, brokenLine, Put};
 
 // The line of an answer into a buffer that holds it; how many bytes it is.
 fn spread_answer(a: Answer, s: &[u8], from: usize, to: usize, out: &mut [u8]) -> usize
@@ -41,6 +41,43 @@ pub fn put_answer(a: Answer, s: &[u8], from: usize, to: usize, out: &mut [u8]) -
         return 0;
     }
     spread_answer(a, s, from, to, out)
+}
+
+// The line of an answer with two parts into a buffer that holds it; how many bytes it is.
+fn spread_pair(a: Answer, s: &[u8], t: &[u8], out: &mut [u8]) -> usize
+    requires { ⌜ length (pairLine a (now s) (now t)) ≤ length (now out) ⌝ }
+    ensures { λ r. ⌜ (r ≡ length (pairLine a (now (s .entry)) (now (t .entry)))) × (now (out .exit) ≡ pasted (now (out .entry)) 0 (pairLine a (now (s .entry)) (now (t .entry)))) ⌝ }
+{
+    let blank = put_numbers(out, 0, a);
+    copy(b" ", 0, 1, out, blank);
+    hex::put(s, 0, s.len(), out, blank + 1);
+    let mark = blank + 1 + s.len() + s.len();
+    copy(b"/", 0, 1, out, mark);
+    hex::put(t, 0, t.len(), out, mark + 1);
+    let end = mark + 1 + t.len() + t.len();
+    copy(b"\n", 0, 1, out, end);
+    end + 1
+}
+
+// Writes `CODE ROW PLACE HEX/HEX` and LF from the start of a buffer on, for two slices, and answers how many bytes it is; 0 where it does
+// not fit, and then nothing is changed. It is at most 65 bytes and two for each byte of the slices.
+pub fn put_pair(a: Answer, s: &[u8], t: &[u8], out: &mut [u8]) -> usize
+    ensures put { λ r. ⌜ Put (pairLine a (now (s .entry)) (now (t .entry))) (now (out .entry)) r (now (out .exit)) ⌝ }
+    ensures most { λ _. ⌜ length (pairLine a (now (s .entry)) (now (t .entry))) ≤ 65 + (length (now (s .entry)) + length (now (s .entry))) + (length (now (t .entry)) + length (now (t .entry))) ⌝ }
+{
+    let mut space = [0u8; 64];
+    let n = put_numbers(&mut space, 0, a) + 3;
+    if out.len() < n {
+        return 0;
+    }
+    let room = (out.len() - n) / 2;
+    if room < s.len() {
+        return 0;
+    }
+    if room - s.len() < t.len() {
+        return 0;
+    }
+    spread_pair(a, s, t, out)
 }
 
 // The line of a broken feed into a buffer that holds it; how many bytes it is.

@@ -10,14 +10,18 @@ use Rattle.text.specs.Numbers.{bigEndian}
 use Rattle.image_reading.specs.Reads.{HouseReads, HouseCounts, HousePicks}
 use Rattle.file.specs.Checks.{Checks}
 use Rattle.file_letter.specs.Writes.{Writes}
+use Rattle.file_letter.specs.Tidies.{Tidies}
 use Rattle.program_feed.specs.declared.case.Case.{Case}
-use Rattle.program_feed.specs.declared.case.Case.the-variants.{Check, Read, Pick, Write, Count, Broken}
+use Rattle.program_feed.specs.declared.case.Case.the-variants.{Check, Read, Pick, Write, Count, Tidy, Broken}
 use Rattle.program_feed.specs.Cases.{caseIn, bytesIn}
-use Rattle.program_feed.specs.Reply.{answerLine, brokenLine}
+use Rattle.program_feed.specs.Reply.{answerLine, pairLine, brokenLine}
 
 -- "HEX is the image of an accepted check .., the file of an accepted write, else nothing": the buffer's first bytes, as many as the answer says
+abbrev pub heldLength : Answer → ℕ
+heldLength a = cond (eqb (a .code) 0) (a .place) 0
+
 abbrev pub heldBy : Answer → List ℕ → List ℕ
-heldBy a d = cond (eqb (a .code) 0) (take (a .place) d) []
+heldBy a d = take (heldLength a) d
 
 -- a call with a buffer: what it may answer and leave in the buffer, that buffer afterwards, the line
 pub record Filled (call : Answer → List ℕ → Type 0) (d′ l : List ℕ) : Type 0 where
@@ -54,6 +58,15 @@ pub record Picked (s : List ℕ) (row n : ℕ) (l : List ℕ) : Type 0 where
   pub picks : HousePicks s row n answer part
   pub line : l ≡ answerLine answer part
 
+-- "8 tidy": "the image where it was written, `/`, the tidied file where it was written"; the file s, both buffers before and after, the line
+pub record Tidied (s d e d′ e′ l : List ℕ) : Type 0 where
+  pub answer : Answer
+  pub tidies : Tidies s d e answer d′ e′
+  -- what check said of the file: with an acceptance the image was written
+  pub checked : Answer
+  pub checks : Checks s d checked d′
+  pub line : l ≡ pairLine answer (heldBy checked d′) (heldBy answer e′)
+
 -- s is the feed from the case on, as far as it was read; k is the case's number; l the line
 pub data Replies (s : List ℕ) (k : ℕ) (l : List ℕ) : Type 0 where
   -- for a buffer of so much room
@@ -63,6 +76,8 @@ pub data Replies (s : List ℕ) (k : ℕ) (l : List ℕ) : Type 0 where
   -- for a buffer of so much room
   written : (room size : ℕ) → caseIn s ≡ Write room size → (d d′ : List ℕ) → length d ≡ room → Written (bytesIn size s) d d′ l → Replies s k l
   tallied : (size : ℕ) → caseIn s ≡ Count size → Tallied (bytesIn size s) l → Replies s k l
+  -- for two buffers of so much room
+  tidied : (room space size : ℕ) → caseIn s ≡ Tidy room space size → (d e d′ e′ : List ℕ) → length d ≡ room → length e ≡ space → Tidied (bytesIn size s) d e d′ e′ l → Replies s k l
   -- "A feed that breaks off, names another op or a greater length ends with the line `feed broken at case N` (N from 0)"
   broken : caseIn s ≡ Broken → l ≡ brokenLine k → Replies s k l
 
@@ -73,4 +88,9 @@ goesOn (Read size) = true
 goesOn (Pick row n size) = true
 goesOn (Write room size) = true
 goesOn (Count size) = true
+goesOn (Tidy room space size) = true
 goesOn Broken = false
+
+-- n bytes of its image are what check leaves of the file s in a buffer of so much room, whatever stood there
+abbrev pub ImageHeld : List ℕ → ℕ → ℕ → Type 0
+ImageHeld s room n = (d : List ℕ) (a : Answer) (d′ : List ℕ) → length d ≡ room → Checks s d a d′ → n ≡ heldLength a

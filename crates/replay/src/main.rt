@@ -28,6 +28,11 @@ fn goes_on(c: Case) -> bool
         } => true,
         Case::Write { room: _, size: _ } => true,
         Case::Count { size: _ } => true,
+        Case::Tidy {
+            room: _,
+            space: _,
+            size: _,
+        } => true,
         Case::Broken => false,
     }
 }
@@ -54,14 +59,20 @@ fn take_case(space: &mut [u8]) -> usize
 }
 
 // One case; whether the feed goes on after it. A line is written as soon as it is there.
-fn answer_case(number: u64, space: &mut [u8], buffer: &mut [u8], line: &mut [u8]) -> bool
-    requires { ⌜ (length (now space) ≡ 1048590) × ((length (now buffer) ≡ 1048576) × (length (now line) ≡ 2097218)) ⌝ }
+fn answer_case(
+    number: u64,
+    space: &mut [u8],
+    buffer: &mut [u8],
+    second: &mut [u8],
+    line: &mut [u8],
+) -> bool
+    requires { ⌜ (length (now space) ≡ 1048590) × ((length (now buffer) ≡ 1048576) × ((length (now second) ≡ 1048576) × (length (now line) ≡ 4194369))) ⌝ }
 {
     let got = take_case(space);
     if got == 0 {
         return false;
     }
-    let n = reply(&space[..got], number, buffer, line);
+    let n = reply(&space[..got], number, buffer, second, line);
     if io::write_all(STDOUT_FILENO, &line[..n]) {
         return goes_on(case_in(&space[..got]));
     }
@@ -69,19 +80,20 @@ fn answer_case(number: u64, space: &mut [u8], buffer: &mut [u8], line: &mut [u8]
 }
 
 // A proved loop ends, and nothing says that a feed does: the number of the case is what ends it.
-fn answer_all(space: &mut [u8], buffer: &mut [u8], line: &mut [u8])
-    requires { ⌜ (length (now space) ≡ 1048590) × ((length (now buffer) ≡ 1048576) × (length (now line) ≡ 2097218)) ⌝ }
+fn answer_all(space: &mut [u8], buffer: &mut [u8], second: &mut [u8], line: &mut [u8])
+    requires { ⌜ (length (now space) ≡ 1048590) × ((length (now buffer) ≡ 1048576) × ((length (now second) ≡ 1048576) × (length (now line) ≡ 4194369))) ⌝ }
 {
     let mut number: u64 = 0;
-    while number < u64::MAX && answer_case(number, space, buffer, line) {
+    while number < u64::MAX && answer_case(number, space, buffer, second, line) {
         number += 1;
     }
 }
 
-// The longest case, the largest room and the longest line.
+// The longest case, the largest rooms and the longest line.
 fn main() {
     let mut space = [0u8; 1048590];
     let mut buffer = [0u8; 1048576];
-    let mut line = [0u8; 2097218];
-    answer_all(&mut space, &mut buffer, &mut line);
+    let mut second = [0u8; 1048576];
+    let mut line = [0u8; 4194369];
+    answer_all(&mut space, &mut buffer, &mut second, &mut line);
 }

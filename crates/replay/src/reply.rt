@@ -5,12 +5,15 @@ use program_feed::case::HEAD;
 use program_feed::case::case_in;
 use program_feed::reply::put_answer;
 use program_feed::reply::put_broken;
+use program_feed::reply::put_pair;
 use text::number::put64;
 use unit::check::check;
 use unit::pick::pick;
 use unit::pick::picked;
 use unit::read::read;
 use unit::read::reading;
+use unit::size::size;
+use unit::tidy::tidy;
 use unit::write::write;
 ghost use mathlib.Core.Path.{_≡_};
 ghost use Prim.Native.Nat.{_+_, _≤_};
@@ -18,7 +21,7 @@ ghost use lib.ListN.{length, take};
 ghost use Rattle.io.specs.Counts.{Counts};
 ghost use Rattle.program_feed.specs.Cases.{bytesIn};
 ghost use Rattle.program_feed.specs.Reply.{answerLine};
-ghost use Rattle.replay.specs.Replies.{heldBy, Checked, Measured, Tallied, Picked, Written, Replies};
+ghost use Rattle.replay.specs.Replies.{heldLength, heldBy, ImageHeld, Checked, Measured, Tallied, Picked, Written, Tidied, Replies};
 
 // The line of an answer and the first n bytes of s, put to the start of a buffer that holds any such; how many bytes it is.
 fn put_line(a: Answer, s: &[u8], n: usize, line: &mut [u8]) -> usize
@@ -29,17 +32,23 @@ fn put_line(a: Answer, s: &[u8], n: usize, line: &mut [u8]) -> usize
     put_answer(a, s, 0, n, line)
 }
 
+// How many bytes an accepted call leaves in the buffer that it was lent; a refused one none.
+fn held(a: Answer) -> usize
+    ensures { λ r. ⌜ r ≡ heldLength a ⌝ }
+{
+    if a.code != Answer::ACCEPTED {
+        return 0;
+    }
+    a.place
+}
+
 // The line of a call's answer, with what it then holds in the buffer that it was lent.
 fn put_filled(a: Answer, buffer: &[u8], line: &mut [u8]) -> usize
     requires { ⌜ (length (now buffer) ≤ 1048576) × (2097218 ≤ length (now line)) ⌝ }
     ensures is { λ r. ⌜ take r (now (line .exit)) ≡ answerLine a (heldBy a (now (buffer .entry))) ⌝ }
     ensures within { λ r. ⌜ Counts r (now (line .exit)) ⌝ }
 {
-    if a.code != Answer::ACCEPTED {
-        return put_line(a, buffer, 0, line);
-    }
-    let n = a.place;
-    put_line(a, buffer, n, line)
+    put_line(a, buffer, held(a), line)
 }
 
 // A check, for a buffer with the case's room.
@@ -69,6 +78,30 @@ fn measured(run: &[u8], line: &mut [u8]) -> usize
     ensures within { λ r. ⌜ Counts r (now (line .exit)) ⌝ }
 {
     put_line(read(run), run, 0, line)
+}
+
+// How many bytes of a file's image check leaves in a buffer of so much room: by the file alone, so that the buffer itself shows what was written.
+fn image_held(file: &[u8], room: usize) -> usize
+    ensures within { λ r. ⌜ r ≤ room ⌝ }
+    ensures is { λ r. ⌜ ImageHeld (now (file .entry)) room r ⌝ }
+{
+    let n = held(size(file));
+    if n <= room {
+        return n;
+    }
+    0
+}
+
+// A tidying, for buffers with the case's rooms.
+fn tidied(file: &[u8], image: &mut [u8], out: &mut [u8], line: &mut [u8]) -> usize
+    requires { ⌜ (length (now image) ≤ 1048576) × ((length (now out) ≤ 1048576) × (4194369 ≤ length (now line))) ⌝ }
+    ensures is { λ r. ⌜ Tidied (now (file .entry)) (now (image .entry)) (now (out .entry)) (now (image .exit)) (now (out .exit)) (take r (now (line .exit))) ⌝ }
+    ensures within { λ r. ⌜ Counts r (now (line .exit)) ⌝ }
+{
+    let a = tidy(file, image, out);
+    let m = image_held(file, image.len());
+    let n = held(a);
+    put_pair(a, &image[..m], &out[..n], line)
 }
 
 // A read, with the number of items in four bytes.
@@ -106,8 +139,14 @@ fn bytes_behind<'a>(feed: &'a [u8], size: usize) -> &'a [u8]
 }
 
 // The line for the case that a feed begins with, its number counted from 0; how many bytes it is. Of the feed, no more than the case need be there.
-pub(crate) fn reply(feed: &[u8], number: u64, buffer: &mut [u8], line: &mut [u8]) -> usize
-    requires { ⌜ (1048576 ≤ length (now buffer)) × (2097218 ≤ length (now line)) ⌝ }
+pub(crate) fn reply(
+    feed: &[u8],
+    number: u64,
+    buffer: &mut [u8],
+    second: &mut [u8],
+    line: &mut [u8],
+) -> usize
+    requires { ⌜ (1048576 ≤ length (now buffer)) × ((1048576 ≤ length (now second)) × (4194369 ≤ length (now line))) ⌝ }
     ensures is { λ r. ⌜ Replies (now (feed .entry)) number (take r (now (line .exit))) ⌝ }
     ensures within { λ r. ⌜ Counts r (now (line .exit)) ⌝ }
 {
@@ -117,6 +156,12 @@ pub(crate) fn reply(feed: &[u8], number: u64, buffer: &mut [u8], line: &mut [u8]
         Case::Pick { row, nth, size } => part_picked(bytes_behind(feed, size), row, nth, line),
         Case::Write { room, size } => written(bytes_behind(feed, size), &mut buffer[..room], line),
         Case::Count { size } => tallied(bytes_behind(feed, size), line),
+        Case::Tidy { room, space, size } => tidied(
+            bytes_behind(feed, size),
+            &mut buffer[..room],
+            &mut second[..space],
+            line,
+        ),
         Case::Broken => put_broken(number, line),
     }
 }

@@ -3,5 +3,3 @@
 pub mod Exporting
 -- an answer of a pick and its part
 pub mod Picking
--- what the programs need of check's answers
-pub mod Programs

@@ -4,11 +4,13 @@ use crate::pick::pick;
 use crate::pick::picked;
 use crate::read::read;
 use crate::read::reading;
+use crate::tidy::tidy;
 use crate::write::write;
 use answer::Answer;
 ghost use Rattle.answer.specs.Table.{answer};
 ghost use Rattle.image_reading.specs.Reads.{HouseReads, HouseCounts};
 ghost use Rattle.file.specs.Checks.{Checks};
+ghost use Rattle.file_letter.specs.Tidies.{Tidies};
 ghost use Rattle.file_letter.specs.Writes.{Writes};
 ghost use Rattle.unit.specs.Exports.{PicksAt};
 
@@ -59,6 +61,22 @@ pub extern "C" fn kto_write(run: &[u8], out: &mut [u8], row: &mut u64, place: &m
     ensures { λ r. ⌜ Writes (now (run .entry)) (now (out .entry)) (answer r (now (row .exit)) (now (place .exit))) (now (out .exit)) ⌝ }
 {
     let a = write(run, out);
+    *row = a.row as u64;
+    *place = a.place as u64;
+    a.code as u64
+}
+
+#[no_mangle]
+pub extern "C" fn kto_tidy(
+    input: &[u8],
+    image: &mut [u8],
+    out: &mut [u8],
+    row: &mut u64,
+    place: &mut u64,
+) -> u64
+    ensures { λ r. ⌜ Tidies (now (input .entry)) (now (image .entry)) (now (out .entry)) (answer r (now (row .exit)) (now (place .exit))) (now (image .exit)) (now (out .exit)) ⌝ }
+{
+    let a = tidy(input, image, out);
     *row = a.row as u64;
     *place = a.place as u64;
     a.code as u64

@@ -1,5 +1,6 @@
-//! `grade FILE..` judges files of statements and reports with the unit and says what is wrong where; `grade show IMAGE..` prints images,
-//! `grade write IMAGE..` writes them as files, `grade make DIR` makes statements or reports. Exit status: 0 all accepted, 1 some refused, 2 a fault of its own.
+//! `grade FILE..` judges files of statements and reports with the unit and says what is wrong where; `grade tidy FILE..` writes them tidied,
+//! `grade diff A B` says where two differ; `grade show IMAGE..` prints images, `grade write IMAGE..` writes them as files, `grade make DIR`
+//! makes statements or reports. Exit status: 0 all accepted, 1 some refused, 2 a fault of its own; of `diff` 1 where the two differ.
 
 use std::ffi::OsString;
 use std::fs;
@@ -10,13 +11,16 @@ use std::process::ExitCode;
 use cases::statement::CODES;
 use independent::list::{REPORT, STATEMENT};
 use tools::grade::{
-    find_files, judge, keep, make_files, object, show, write_files, Found, Order, Outcome, Page, Report, Tally,
+    find_files, judge, keep, make_files, object, say_difference, show, tidy_file, write_files, Found, Order, Outcome,
+    Page, Report, Tally,
 };
 use tools::output::{self, named};
 use tools::unit::Unit;
 
 const USAGE: &str =
     "usage: grade [OPTIONS] FILE..                 judge files of statements and reports, and the .xml files of folders
+       grade tidy [--write DIR] FILE..        write files tidied, NAME.tidy.xml beside each file or in DIR
+       grade diff A B                         whether two files have one content, or the first place where they differ
        grade show IMAGE..                     print images as trees
        grade write [--write DIR] IMAGE..      write images as files, NAME.xml beside each image or in DIR
        grade make [--report] [--seed S] [--entries N] [--files M] [--code C|all] [--dense] DIR
@@ -38,6 +42,8 @@ of make:
 #[derive(Clone, Copy, PartialEq)]
 enum Verb {
     Judge,
+    Tidy,
+    Diff,
     Show,
     Write,
     Make,
@@ -79,6 +85,8 @@ impl Options {
             Some("--html") => self.html = Some(words.next()?.into()),
             Some("--replay") => self.unit = Unit::Replay(words.next()?.into()),
             Some("--independent") => self.unit = Unit::Independent,
+            Some("tidy") if is_first => self.verb = Verb::Tidy,
+            Some("diff") if is_first => self.verb = Verb::Diff,
             Some("show") if is_first => self.verb = Verb::Show,
             Some("write") if is_first => self.verb = Verb::Write,
             Some("make") if is_first => self.verb = Verb::Make,
@@ -107,6 +115,14 @@ impl Options {
     }
 }
 
+impl Options {
+    /// Where what is written for a file goes: the folder that was named, or beside the file.
+    fn folder_for<'a>(&'a self, path: &'a Path) -> &'a Path {
+        let beside = path.parent().unwrap_or(Path::new(""));
+        self.write.as_deref().unwrap_or(beside)
+    }
+}
+
 fn options() -> Option<Options> {
     let mut options = Options::new();
     let mut words = std::env::args_os().skip(1);
@@ -118,6 +134,7 @@ fn options() -> Option<Options> {
     }
     let good = match options.verb {
         Verb::Make => options.words.len() == 1,
+        Verb::Diff => options.words.len() == 2 && !options.of_make,
         _ => !options.words.is_empty() && !options.of_make,
     };
     good.then_some(options)
@@ -136,14 +153,14 @@ fn main() -> ExitCode {
         match options.verb {
             Verb::Make => unreachable!("made above"),
             Verb::Judge => grade_all(&options, out),
+            Verb::Tidy => tidy_all(&options, out),
+            Verb::Diff => say_difference(&options.unit, &options.words[0], &options.words[1], out),
             Verb::Show => each_run(&options, out, |path, run, out| {
                 writeln!(out, "{}", path.display())?;
                 show(&options.unit, run, out)
             }),
             Verb::Write => each_run(&options, out, |path, run, out| {
-                let beside = path.parent().unwrap_or(Path::new(""));
-                let folder = options.write.as_deref().unwrap_or(beside);
-                write_files(&options.unit, path, run, folder, out)
+                write_files(&options.unit, path, run, options.folder_for(path), out)
             }),
         }
     })
@@ -195,6 +212,21 @@ fn grade_all(options: &Options, out: &mut dyn Write) -> io::Result<u8> {
         (0, _) => 1,
         _ => 2,
     })
+}
+
+/// Tidies each file; those of folders are found as they are for judging.
+fn tidy_all(options: &Options, out: &mut dyn Write) -> io::Result<u8> {
+    let found = find_files(&options.words);
+    let mut status = 0;
+    for path in &found.files {
+        status = status.max(tidy_file(&options.unit, path, options.folder_for(path), out)?);
+        out.flush()?;
+    }
+    for (path, error) in &found.unreadable {
+        writeln!(out, "{}: can't be read: {error}", path.display())?;
+        status = 2;
+    }
+    Ok(status)
 }
 
 /// The tally where there are several files, and what was left aside.

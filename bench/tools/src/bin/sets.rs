@@ -1,8 +1,8 @@
 //! `sets KIND DIR`: writes a stored set for a program of the gate, with what the independent program answers. The sets are fixed:
 //! each run writes the same bytes.
 //!
-//! A set is one input, DIR/stdin, and what must come out, DIR/stdout. Of a program that takes one input a time (kto, writes, images)
-//! these are the first of several, and each is there as DIR/NUMBER.in and DIR/NUMBER.out.
+//! A set is one input, DIR/stdin, and what must come out, DIR/stdout. Of a program that takes one input a time (kto, writes, tidies,
+//! images) these are the first of several, and each is there as DIR/NUMBER.in and DIR/NUMBER.out.
 
 use std::fs;
 use std::io;
@@ -15,7 +15,7 @@ use independent::house;
 use tools::output::{self, named};
 use tools::unit::KNOWN_OPS;
 
-const USAGE: &str = "usage: sets xml|values|runs|checks|feed|kto|writes|images DIR";
+const USAGE: &str = "usage: sets xml|values|runs|checks|feed|kto|writes|tidies|images DIR";
 
 /// A feed and the lines expected.
 #[derive(Default)]
@@ -60,6 +60,7 @@ fn write(kind: &str, folder: &Path) -> io::Result<Option<String>> {
         "feed" => broken_off(replayed(known())),
         "kto" => return write_inputs(folder, inputs::kto()).map(Some).map_err(named(folder)),
         "writes" => return write_inputs(folder, inputs::writes()).map(Some).map_err(named(folder)),
+        "tidies" => return write_inputs(folder, inputs::tidies()).map(Some).map_err(named(folder)),
         "images" => return write_inputs(folder, inputs::images()).map(Some).map_err(named(folder)),
         _ => return Ok(None),
     };
@@ -88,7 +89,7 @@ fn write_pair(folder: &Path, one: (&str, &[u8]), other: (&str, &[u8])) -> io::Re
 /// The cases of all ops that the proved `replay` knows.
 fn known() -> Vec<Case> {
     let runs = [cases::runs::fixed_set(), cases::writes::fixed_set(), cases::runs::counts()].concat();
-    let all = [cases::checks::fixed_set(), runs].concat();
+    let all = [cases::checks::fixed_set(), runs, cases::tidies::fixed_set()].concat();
     all.into_iter().filter(|case| KNOWN_OPS.contains(&case.op.number())).collect()
 }
 

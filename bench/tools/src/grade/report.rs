@@ -48,7 +48,7 @@ pub struct Refusal {
 impl Outcome {
     /// What the unit's line says of a file.
     pub fn judged(file: &[u8], line: &Line) -> Outcome {
-        let Line { code, row, place, ref bytes } = *line;
+        let Line { code, row, place, ref bytes, .. } = *line;
         match code {
             0 => {
                 let list = first_image(bytes).ok().map(|image| image.list);

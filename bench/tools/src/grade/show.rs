@@ -40,7 +40,7 @@ pub fn item_line(list: &List, item: &Item) -> String {
 }
 
 /// As it is written in a file, and the currency in front of an amount: `EUR 1250.5`.
-fn in_words(kind: Kind, value: &Value) -> String {
+pub fn in_words(kind: Kind, value: &Value) -> String {
     match value {
         Value::Amt(amount) => format!("{} {}", amount.currency(), characters(kind, value)),
         _ => characters(kind, value),

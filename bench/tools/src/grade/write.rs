@@ -18,7 +18,7 @@ use crate::unit::{Line, Unit};
 pub fn write_files(unit: &Unit, path: &Path, run: &[u8], folder: &Path, out: &mut dyn Write) -> io::Result<bool> {
     let mut all_written = true;
     let left = divide(unit, run, |Part { number, start, bytes, .. }| {
-        let Line { code, row, place, bytes: file } = file_of(unit, bytes)?;
+        let Line { code, row, place, bytes: file, .. } = file_of(unit, bytes)?;
         let image = format!("{}: image {number} at byte {start}", path.display());
         if code != 0 {
             all_written = false;

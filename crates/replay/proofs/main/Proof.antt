@@ -1,4 +1,4 @@
--- `replay::main` meets its contract: the three arrays are as long as they are said to be, by a law over the length. Assumes nothing.
+-- `replay::main` meets its contract: the four arrays are as long as they are said to be, by a law over the length. Assumes nothing.
 use mathlib.Core.Path.{_≡_, sym}
 use Prim.Native.Nat.{ℕ}
 use lib.ListN.{length, replicate, length-replicate}
@@ -16,10 +16,13 @@ slice-aggregate-answer-all-2 : tie.Need-slice-aggregate-answer-all-2
 slice-aggregate-answer-all-2 c = sym (zeros 1048576)
 
 slice-aggregate-answer-all-3 : tie.Need-slice-aggregate-answer-all-3
-slice-aggregate-answer-all-3 c = sym (zeros 2097218)
+slice-aggregate-answer-all-3 c = sym (zeros 1048576)
+
+slice-aggregate-answer-all-4 : tie.Need-slice-aggregate-answer-all-4
+slice-aggregate-answer-all-4 c = sym (zeros 4194369)
 
 answer-all-requires : tie.Need-answer-all-requires
-answer-all-requires c κs = (zeros 1048590, (zeros 1048576, zeros 2097218))
+answer-all-requires c κs = (zeros 1048590, (zeros 1048576, (zeros 1048576, zeros 4194369)))
 
 returns : tie.Need-returns
 returns c = search needs
@@ -27,4 +30,10 @@ returns c = search needs
 pub main-spec : {M : Type 1} → statement M
 main-spec =
     tie.close
-    (tie.spec slice-aggregate-answer-all slice-aggregate-answer-all-2 slice-aggregate-answer-all-3 answer-all-requires returns)
+    (tie.spec
+    slice-aggregate-answer-all
+    slice-aggregate-answer-all-2
+    slice-aggregate-answer-all-3
+    slice-aggregate-answer-all-4
+    answer-all-requires
+    returns)

@@ -3,7 +3,7 @@ use mathlib.Core.Path.{sym}
 use native.Mathlib.Omega.{arith}
 use lib.Seq.{length-take-le}
 use borrow.Author.Needs.{needs}
-use Rattle.unit.proofs.Programs.{place-fits}
+use Rattle.file.proofs.Rooms.{place-fits}
 use Rattle.kto.specs.Answered.{over, within}
 use Rattle.kto.proofs.Written.{read-again}
 use Rattle.kto.proofs.said.answered.Statement.{statement}

@@ -1,4 +1,4 @@
--- What the programs need of check's answers: the image fits, is read back, and does not depend on what stood in the buffer. Assumes nothing.
+-- What callers of check need of its answers: the image fits, is read back, and does not depend on what stood in the buffer. Assumes nothing.
 use mathlib.Core.Path.{_≡_, refl, sym, _∙_, ap}
 use mathlib.Core.List.{List, _++_}
 use Prim.Native.Nat.{ℕ, _≤_}

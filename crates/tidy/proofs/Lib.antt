@@ -1,0 +1,3 @@
+-- The laws of `tidy`.
+-- what is written, case by case
+pub mod Presenting

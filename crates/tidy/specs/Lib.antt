@@ -1,0 +1,3 @@
+-- The definitions of `tidy`.
+-- what the program writes
+pub mod Presents

@@ -1,0 +1,21 @@
+// What the program writes: the tidied file, or one line.
+use answer::Answer;
+use program_line::answer_line::put_refusal;
+use unit::tidy::tidy;
+ghost use mathlib.Core.Path.{_≡_};
+ghost use lib.ListN.{length, take};
+ghost use Rattle.io.specs.Counts.{Counts};
+ghost use Rattle.tidy.specs.Presents.{Presents};
+
+// Puts what is written for a file to the start of a buffer, and answers how many bytes it is.
+pub(crate) fn shown(input: &[u8], image: &mut [u8], out: &mut [u8]) -> usize
+    requires { ⌜ (length (now image) ≡ 1048576) × (length (now out) ≡ 1048576) ⌝ }
+    ensures is { λ r. ⌜ Presents (now (input .entry)) (take r (now (out .exit))) ⌝ }
+    ensures within { λ r. ⌜ Counts r (now (out .exit)) ⌝ }
+{
+    let a = tidy(input, image, out);
+    if a.code == Answer::ACCEPTED {
+        return a.place;
+    }
+    put_refusal(out, 0, a)
+}
