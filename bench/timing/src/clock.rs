@@ -51,6 +51,10 @@ impl Sample {
         self.0.push(rate);
     }
 
+    pub fn count(&self) -> usize {
+        self.0.len()
+    }
+
     pub fn median(&self) -> f64 {
         let mut rates = self.0.clone();
         rates.sort_by(f64::total_cmp);

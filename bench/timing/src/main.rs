@@ -1,12 +1,14 @@
 //! Times the unit, the independent program and, where they are linked, expat and libxml2 on the same files.
 //!
-//!     timing SCHEMA               times everyone, and prints a table
+//!     timing sample SCHEMA        times everyone once on each file, and prints a line for each
+//!     timing table SCHEMA LINES   prints the table of these lines
 //!     timing write DIR            writes the files there, with what each contender of the unit is handed: NAME, then a dot, then its number
 //!     timing once NUMBER FILE     has that contender of the unit judge a file once, so that its instructions can be counted
 //!
 //! Every contender judges every file once before any clock runs, and has to accept it: a program that refuses early would look fast. A
 //! unit that was built before is left out where it refuses what it didn't know.
-//! Samples are interleaved, so that a slow moment of the machine falls on all of them, and the median counts.
+//! Samples are interleaved, so that a slow moment of the machine falls on all of them, and the median counts. The script takes them from
+//! several programs in turn that differ in where the units' code lies: that alone can make a build a tenth slower than its twin.
 
 mod clock;
 mod contenders;
@@ -23,18 +25,22 @@ fn main() {
     match words.iter().map(String::as_str).collect::<Vec<_>>()[..] {
         ["write", folder] => write_files(folder),
         ["once", number, path] => judge_once(number, path),
-        [schema] => time_all(schema),
-        _ => fail("timing SCHEMA, timing write DIR, or timing once NUMBER FILE"),
+        ["sample", schema] => sample(schema),
+        ["table", schema, lines] => print_all(schema, lines),
+        _ => fail("timing sample SCHEMA, timing table SCHEMA LINES, timing write DIR, or timing once NUMBER FILE"),
     }
 }
 
-fn time_all(schema: &str) {
-    let rounds = env::var("SPEED_ROUNDS").ok().and_then(|n| n.parse().ok()).unwrap_or(15);
-    let contenders = match contenders::all(schema) {
-        Ok(contenders) => contenders,
+fn entrants(schema: &str) -> (Vec<Contender>, Vec<File>) {
+    match contenders::all(schema) {
+        Ok(contenders) => (contenders, files::all()),
         Err(fault) => fail(&fault),
-    };
-    let files = files::all();
+    }
+}
+
+/// A line for each file and each contender: their numbers, and how many megabytes went by in a second.
+fn sample(schema: &str) {
+    let (contenders, files) = entrants(schema);
     for file in &files {
         for contender in &contenders {
             if contender.takes_part(file) && !contender.accepts(file) {
@@ -42,9 +48,31 @@ fn time_all(schema: &str) {
             }
         }
     }
-    let samples = measure(&contenders, &files, rounds);
-    print_table(&contenders, &files, &samples, rounds);
+    for (row, file) in files.iter().enumerate() {
+        for (column, contender) in contenders.iter().enumerate().filter(|(_, contender)| contender.takes_part(file)) {
+            let input = contender.input(file);
+            let rate = clock::megabytes_per_second((contender.counts)(input), || (contender.judge)(input));
+            println!("{row} {column} {rate}");
+        }
+    }
+}
+
+fn print_all(schema: &str, lines: &str) {
+    let (contenders, files) = entrants(schema);
+    let lines = fs::read_to_string(lines).unwrap_or_else(|fault| fail(&format!("{lines}: {fault}")));
+    let mut samples = vec![vec![Sample::default(); contenders.len()]; files.len()];
+    for line in lines.lines() {
+        match line.split(' ').collect::<Vec<_>>()[..] {
+            [row, column, rate] => samples[number::<usize>(row)][number::<usize>(column)].add(number(rate)),
+            _ => fail(&format!("no sample: {line}")),
+        }
+    }
+    print_table(&contenders, &files, &samples);
     print_stack(&contenders, &files);
+}
+
+fn number<T: std::str::FromStr>(word: &str) -> T {
+    word.parse().unwrap_or_else(|_| fail(&format!("no number: {word}")))
 }
 
 /// A line for each file and each contender of the unit: its number and name, the file's name, the bytes that it is handed, where they are.
@@ -78,21 +106,9 @@ fn fail(fault: &str) -> ! {
     exit(2)
 }
 
-/// For each file, for each contender, its samples in MB/s.
-fn measure(contenders: &[Contender], files: &[File], rounds: usize) -> Vec<Vec<Sample>> {
-    let mut samples = vec![vec![Sample::default(); contenders.len()]; files.len()];
-    for _ in 0..rounds {
-        for (file, row) in files.iter().zip(&mut samples) {
-            for (contender, sample) in contenders.iter().zip(row).filter(|(contender, _)| contender.takes_part(file)) {
-                let input = contender.input(file);
-                sample.add(clock::megabytes_per_second((contender.counts)(input), || (contender.judge)(input)));
-            }
-        }
-    }
-    samples
-}
-
-fn print_table(contenders: &[Contender], files: &[File], samples: &[Vec<Sample>], rounds: usize) {
+/// For each file, for each contender, the median of its samples.
+fn print_table(contenders: &[Contender], files: &[File], samples: &[Vec<Sample>]) {
+    let rounds = samples[0][0].count();
     println!("MB/s (10^6 bytes), median of {rounds} interleaved samples; in brackets how many times as fast the unit's check is\n");
     print!("| File | Bytes | Image |");
     for contender in contenders {
