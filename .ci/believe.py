@@ -23,10 +23,7 @@ FLOORS = ('answer', 'text', 'list', 'xml', 'value', 'image', 'file', 'unit', 'pr
 # Known exceptions, each with its reason: files of mirrors, and names with how many meanings each has. One that is not needed
 # is a fault.
 MIRRORS = {}
-NAMES = {
-    'a kind has one name for its case among values (`IsValue`) and among texts (`Form`)':
-        'account 2, count 2, currency 2, dated 2, either 2, listed 2, money 2, reference 2, timed 2, writing 2',
-}
+NAMES = {}
 
 # A name is any run of characters but these (the kit's primer, 4.1); a comment begins at `--`, but not in a quoted text.
 TOKEN = re.compile(r'"(?:\\.|[^"\\])*"|[(){};,@«»]|\.|[^\s(){}.;,@"«»]+')

@@ -67,18 +67,14 @@ LISTED = '''
 unfoldable {listed} : List Row
 {listed} =
 {rows}
-    []
 '''
 
 LISTED_LIKE = '''
 -- {message}: the rows of `{base}`, but for these
 unfoldable {listed} : List Row
 unfolding {base}
-{listed} =
-    changed {base}
-    (
+{listed} = changed {base} (
 {rows}
-    [])
 '''
 
 NARROWER = '''
@@ -86,7 +82,6 @@ NARROWER = '''
 unfoldable pub {narrower} : List (ℕ × Row)
 {narrower} =
 {rows}
-    []
 '''
 
 ASKED = '''
@@ -102,8 +97,33 @@ unfolding {listed}
 '''
 
 
-def numbered(rows):
-    return '\n'.join(f'    ({it.number}, {row(it)}) ∷' for it in rows)
+# How wide a line of rows is at most, before the rows' numbers.
+WIDEST = 120
+
+
+def lines_of(cells, end='', most=None):
+    """The cells of a list, as many of them on a line as fit, at most so many; after the last, that the list ends."""
+    lines, counts = [], []
+    for i, cell in enumerate(cells):
+        cell += ' ∷ []' + end if i + 1 == len(cells) else ' ∷'
+        if lines and counts[-1] != most and len(lines[-1]) + 1 + len(cell) <= WIDEST:
+            lines[-1] += ' ' + cell
+            counts[-1] += 1
+        else:
+            lines.append('    ' + cell)
+            counts.append(1)
+    return lines, counts
+
+
+def listed_rows(rows):
+    """Two rows a line, as document 01 prints them, with their numbers at the right."""
+    lines, counts = lines_of([row(it) for it in rows], most=2)
+    numbers = iter(rows)
+    return '\n'.join(f'{line}  -- ' + ', '.join(str(next(numbers).number) for _ in range(n)) for line, n in zip(lines, counts))
+
+
+def numbered(rows, end=''):
+    return '\n'.join(lines_of([f'({it.number}, {row(it)})' for it in rows], end)[0])
 
 
 def house(lists):
@@ -114,9 +134,9 @@ def house(lists):
         listed = rows_name(found.name, lists, 'Listed')
         if found.like:
             base = rows_name(found.like, lists, 'Listed')
-            text += LISTED_LIKE.format(message=found.message(), base=base, listed=listed, rows=numbered(found.changed))
+            text += LISTED_LIKE.format(message=found.message(), base=base, listed=listed, rows=numbered(found.changed, ')'))
         else:
-            text += LISTED.format(listed=listed, rows='\n'.join(f'    {row(it)} ∷  -- {it.number}' for it in found.rows))
+            text += LISTED.format(listed=listed, rows=listed_rows(found.rows))
         said = ''.join(f'-- "Rule on row {group} (..): rows {one} and {two} are both present or both absent"\n' for group, one, two in found.rules)
         rules = ''.join(f'both {group} {one} {two} ∷ ' for group, one, two in found.rules)
         text += LISTING.format(said=said, list=form.list, listed=listed, rules=rules, space=found.space, byte=found.byte)

@@ -18,17 +18,17 @@ use Rattle.value.specs.Value.{Value, Spelt}
 use Rattle.file_walk.specs.declared.found.Found.{Found}
 use Rattle.file_walk.specs.declared.found.Found.the-variants.{Fine, Violation}
 use Rattle.file_walk.specs.Types.{Judge, Decides}
-use Rattle.file_walk.specs.First.{First, refuse, firstOf, isEmpty, passed, breaks, textOf, currencyGiven, noAttrs, attrsOk, kindOf, isRoot, overCount, absentRow, childRows, opening, groupEnd, closing, inside, firstViolation}
-use Rattle.file_walk.proofs.violation.Answers.{no-attrs}
-use Rattle.file_walk.proofs.violation.Attrs.{leaf-mean}
+use Rattle.file_walk.specs.First.{First, refuse, firstOf, isEmpty, passed, breaks, textOf, currencyGiven, attrsOk, kindOf, isRoot, absentRow, childRows, opening, groupEnd, closing, inside, firstViolation}
+use Rattle.file_walk.proofs.violation.Answers.{empty-yes}
+use Rattle.file_walk.proofs.violation.Opening.{overCount, opening-is}
 use Rattle.file.specs.Instance.{houseTypes}
 use Rattle.demands.specs.Causes.{AttrsOf, Stands, here, after, behind, within, inner, BadValue, BadAttributes}
 
 -- code 9's test, by the relation
 pub attrs-mean : (j : Judge) → Decides houseTypes j → (k : Kind) (ats : Attrs) → (attrsOk j k ats ≡ true) ↔ AttrsOf k ats
-attrs-mean j d group ats = (no-attrs ats, (λ e. ap noAttrs e))
-attrs-mean j d choice ats = (no-attrs ats, (λ e. ap noAttrs e))
-attrs-mean j d (leaf k) ats = leaf-mean houseTypes j d k ats
+attrs-mean j d group ats = (empty-yes ats, (λ e. ap (λ (x : Attrs). isEmpty x) e))
+attrs-mean j d choice ats = (empty-yes ats, (λ e. ap (λ (x : Attrs). isEmpty x) e))
+attrs-mean j d (leaf k) ats = d .attrs k ats
 
 -- ---- what a violation says
 
@@ -86,14 +86,14 @@ module _ (l : Listing) (wf : WellFormed l) where
     closing-means group r o ats rs cs ok h = group-means r o rs
     closing-means choice r o ats rs cs ok h = group-means r o rs
     closing-means (leaf f) r o ats rs cs ok h =
-        first (Cause p m) (refuse (isEmpty cs) (table.empty r o) ∷ refuse (not (j f (currencyGiven ats) cs)) (table.badValue r o) ∷ [])
-        (other (isEmpty cs) (table.empty r o) refl, (refused (Cause p m) (not (j f (currencyGiven ats) cs)) (table.badValue r o) bad, tt))
+        first (Cause p m) (refuse (isEmpty cs) (table.empty r o) ∷ refuse (not (j .value f (currencyGiven ats) cs)) (table.badValue r o) ∷ [])
+        (other (isEmpty cs) (table.empty r o) refl, (refused (Cause p m) (not (j .value f (currencyGiven ats) cs)) (table.badValue r o) bad, tt))
       where
-        bad : not (j f (currencyGiven ats) cs) ≡ true → Cause p m (table.badValue r o)
-        bad e = ((λ z. h f refl (λ v s. false≢true (sym (ap not (d .right f (currencyGiven ats) cs .1 (v, s))) ∙ e))), (λ z. absurd (omega arith)))
+        bad : not (j .value f (currencyGiven ats) cs) ≡ true → Cause p m (table.badValue r o)
+        bad e = ((λ z. h f refl (λ v s. false≢true (sym (ap not (d .value f (currencyGiven ats) cs .1 (v, s))) ∙ e))), (λ z. absurd (omega arith)))
 
     opening-means : (q : ℕ) (seen : List ℕ) (r : ℕ) (ats : Attrs) (o : ℕ) → ((AttrsOf (rowAt l r .kind) ats → ⊥) → BadAttributes l p m r o) → Means (Cause p m) (opening j l q seen r ats o)
-    opening-means q seen r ats o h =
+    opening-means q seen r ats o h = subst (Means (Cause p m)) (sym (opening-is j l q seen r ats o)) (
         first (Cause p m)
         (refuse (eqb r 0) (table.notAChild q o) ∷ refuse (not (isChoice (kindOf l q)) && passed r seen) (table.outOfOrder r o)
         ∷ refuse (overCount l (kindOf l q) seen r) (table.tooMany r o) ∷ refuse (not (attrsOk j (kindOf l r) ats)) (table.wrongAttributes r o) ∷ []) (
@@ -102,7 +102,7 @@ module _ (l : Listing) (wf : WellFormed l) where
             other (not (isChoice (kindOf l q)) && passed r seen) (table.outOfOrder r o) refl,
             (other (overCount l (kindOf l q) seen r) (table.tooMany r o) refl, (refused (Cause p m) (not (attrsOk j (kindOf l r) ats)) (table.wrongAttributes r o) bad, tt)),
           ),
-        )
+        ))
       where
         bad : not (attrsOk j (kindOf l r) ats) ≡ true → Cause p m (table.wrongAttributes r o)
         bad e = ((λ z. absurd (omega arith)), (λ z. h (λ g. false≢true (sym (ap not (attrs-mean j d (kindOf l r) ats .1 g)) ∙ e))))

@@ -24,9 +24,9 @@ use Rattle.xml.specs.House.{HouseXml, Longest}
 use Rattle.xml.specs.Message.{Inside, messageOf, rootAt}
 use Rattle.xml.proofs.Coded.{house-utf8}
 use Rattle.value.specs.Value.{Value, IsValue}
-use Rattle.value.specs.Moment.{present}
-use Rattle.value_to_text.specs.Spelled.{Spelled, SpelledByEither}
-use Rattle.value_to_text.proofs.Scripts.{both-rules}
+use Rattle.value.specs.Former.{present}
+use Rattle.value.specs.Spelled.{Spelled, SpelledByEither}
+use Rattle.value.proofs.script.Scripts.{both-rules}
 use Rattle.file_walk.specs.declared.found.Found.the-variants.{Violation}
 use Rattle.file_walk.specs.First.{First, firstViolation}
 use Rattle.file_walk.proofs.violation.Accept as walk

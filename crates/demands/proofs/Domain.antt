@@ -30,7 +30,8 @@ use Rattle.text.specs.Bytes.{isBlank}
 use Rattle.file_walk.specs.declared.found.Found.{Found}
 use Rattle.file_walk.specs.declared.found.Found.the-variants.{Fine, Violation}
 use Rattle.file_walk.specs.Types.{Judge}
-use Rattle.file_walk.specs.First.{First, refuse, orElse, isEmpty, passed, breaks, textOf, currencyGiven, attrsOk, kindOf, isRoot, overCount, absentRow, childRows, opening, groupEnd, closing, inside, firstViolation}
+use Rattle.file_walk.specs.First.{First, refuse, orElse, isEmpty, passed, breaks, textOf, currencyGiven, attrsOk, kindOf, isRoot, absentRow, childRows, opening, groupEnd, closing, inside, firstViolation}
+use Rattle.file_walk.proofs.violation.Opening.{overCount, opening-is}
 use Rattle.file.specs.Instance.{houseKinds}
 use Rattle.file.specs.File.{messageIn}
 use Rattle.file.specs.Checks.{Answers, Checks, long, badBytes, markup, violation, room, imaged}
@@ -111,7 +112,7 @@ module _ (j : Judge) (l : Listing) (g : GoneRows l) where
           let b = refuse (not (isChoice (kindOf l p)) && passed r seen) (table.outOfOrder r o) in
           let c = refuse (overCount l (kindOf l p) seen r) (table.tooMany r o) in
           let d = refuse (not (attrsOk j (kindOf l r) ats)) (table.wrongAttributes r o) in
-          let t = fine-not (eqb r 0) (table.notAChild p o) (both-fine (refuse (eqb r 0) (table.notAChild p o)) (orElse b (orElse c (orElse d Fine))) z .0) in
+          let t = fine-not (eqb r 0) (table.notAChild p o) (both-fine (refuse (eqb r 0) (table.notAChild p o)) (orElse b (orElse c (orElse d Fine))) (sym (opening-is j l p seen r ats o) ∙ z) .0) in
           let f = child-found l p n r refl (positive r t) in
           (f .its, λ w. h .0 (sym (f .name) ∙ w))
         where
@@ -157,9 +158,9 @@ module _ (j : Judge) (l : Listing) (g : GoneRows l) where
   closing-eight choice r o ats rs cs h = group-eight r o rs h
   closing-eight (leaf f) r o ats rs cs h =
       let a = refuse (isEmpty cs) (table.empty r o) in
-      let b = refuse (not (j f (currencyGiven ats) cs)) (table.badValue r o) in
+      let b = refuse (not (j .value f (currencyGiven ats) cs)) (table.badValue r o) in
       then-means NoEight a (orElse b Fine) (other (isEmpty cs) (table.empty r o) refl) (λ e.
-      then-means NoEight b Fine (other (not (j f (currencyGiven ats) cs)) (table.badValue r o) refl) (λ z. tt))
+      then-means NoEight b Fine (other (not (j .value f (currencyGiven ats) cs)) (table.badValue r o) refl) (λ z. tt))
 
   opening-eight : (q : ℕ) (seen : List ℕ) (r : ℕ) (ats : Attrs) (o : ℕ) → Means NoEight (opening j l q seen r ats o)
   opening-eight q seen r ats o =
@@ -167,10 +168,10 @@ module _ (j : Judge) (l : Listing) (g : GoneRows l) where
       let b = refuse (not (isChoice (kindOf l q)) && passed r seen) (table.outOfOrder r o) in
       let c = refuse (overCount l (kindOf l q) seen r) (table.tooMany r o) in
       let d = refuse (not (attrsOk j (kindOf l r) ats)) (table.wrongAttributes r o) in
-      then-means NoEight a (orElse b (orElse c (orElse d Fine))) (other (eqb r 0) (table.notAChild q o) refl) (λ e.
+      subst (Means NoEight) (sym (opening-is j l q seen r ats o)) (then-means NoEight a (orElse b (orElse c (orElse d Fine))) (other (eqb r 0) (table.notAChild q o) refl) (λ e.
       then-means NoEight b (orElse c (orElse d Fine)) (other (not (isChoice (kindOf l q)) && passed r seen) (table.outOfOrder r o) refl) (λ e.
       then-means NoEight c (orElse d Fine) (other (overCount l (kindOf l q) seen r) (table.tooMany r o) refl) (λ e.
-      then-means NoEight d Fine (other (not (attrsOk j (kindOf l r) ats)) (table.wrongAttributes r o) refl) (λ e. tt))))
+      then-means NoEight d Fine (other (not (attrsOk j (kindOf l r) ats)) (table.wrongAttributes r o) refl) (λ e. tt)))))
 
   inside-eight : (m : Inside) (p : ℕ) (seen : List ℕ) → Named m → Means NoEight (inside j l p seen m)
   unfolding inside

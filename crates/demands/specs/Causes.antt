@@ -6,7 +6,7 @@ use Rattle.list.specs.Listing.{Leaf, Kind, group, choice, leaf, Listing, rowAt,
 use Rattle.xml.specs.Message.{Attrs, Inside, nothingInside, character, element}
 use Rattle.value.specs.Value.{Value, Spelt}
 use Rattle.file_walk.specs.First.{currencyGiven, textOf}
-use Rattle.file_walk.specs.Denotes.{LeafAttrs}
+use Rattle.file_walk.specs.Types.{LeafAttrs}
 use Rattle.file.specs.Instance.{houseTypes}
 
 -- below the root, "attributes .. exactly the type's": of a group none

@@ -32,8 +32,8 @@ use Rattle.list_house.specs.Lists.{asked, askedOf, stored}
 use Rattle.xml.specs.House.{HouseXml, Longest}
 use Rattle.xml.specs.Message.{Inside, messageOf}
 use Rattle.value.specs.Value.{Value, IsValue}
-use Rattle.value.specs.Moment.{present}
-use Rattle.value_to_text.specs.Spelled.{Spelled, SpelledByEither}
+use Rattle.value.specs.Former.{present}
+use Rattle.value.specs.Spelled.{Spelled, SpelledByEither}
 use Rattle.file_walk.specs.declared.found.Found.{Found}
 use Rattle.file_walk.specs.declared.found.Found.the-variants.{Fine, Violation}
 use Rattle.file_walk.specs.Types.{Judge, Decides}

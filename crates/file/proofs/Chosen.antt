@@ -9,7 +9,6 @@ use Rattle.answer.specs.declared.Answer.{Answer}
 use Rattle.answer.specs.Table as table
 use Rattle.text.specs.Bytes.{ascii}
 use Rattle.text.specs.Lists.{same}
-use Rattle.text.proofs.Classes.{and-is}
 use Rattle.text.proofs.Parts.{same-eq, same-of}
 use Rattle.list.specs.Listing.{Listing, rowAt}
 use Rattle.list.specs.Content.{Content}
@@ -22,9 +21,9 @@ use Rattle.xml.specs.Message.{Attrs, Inside, nothingInside, character, element}
 use Rattle.file_walk.specs.declared.found.Found.{Found}
 use Rattle.file_walk.specs.declared.found.Found.the-variants.{Violation}
 use Rattle.file_walk.specs.Types.{Types, Judge}
-use Rattle.file_walk.specs.First.{First, refuse, orElse, firstOf, textOf, isHint, unhinted, rootAttrs, kindOf, isRoot, childRows, closing, inside, firstViolation}
+use Rattle.file_walk.specs.First.{First, refuse, orElse, firstOf, textOf, isHint, unhinted, kindOf, isRoot, childRows, closing, inside, firstViolation}
 use Rattle.file_walk.specs.Denotes.{Has}
-use Rattle.file_walk.proofs.violation.Attrs.{root-mean}
+use Rattle.file_walk.proofs.violation.Attrs.{root-tag}
 use Rattle.file.specs.Instance.{Kinds, houseKinds}
 use Rattle.file.specs.File.{Whole, messageIn, rootOf, File}
 use Rattle.file.specs.Checks.{Answers, long, badBytes, markup, violation, room, imaged, valueOf, Chosen, Checks, Filed}
@@ -65,7 +64,7 @@ value-besides (a ∷ ats) space e = go (isHint (a .0)) refl e (value-besides ats
 
 module _ (l : Listing) where
   pub root-space : (n : List ℕ) (ats : Attrs) → isRoot l n ats ≡ true → valueOf (ascii "xmlns") ats ≡ l .space
-  root-space n ats e = value-besides ats (l .space) (root-mean (l .space) ats .0 (and-is (same (rowAt l 1 .name) n) (rootAttrs (l .space) ats) e .1) .besides)
+  root-space n ats e = value-besides ats (l .space) (root-tag l n ats .0 e .attrs .besides)
 
   -- and one that is not is what is found first: 4
   first-unrooted : (j : Judge) (o : ℕ) (n : List ℕ) (ats : Attrs) (i k : Inside) → isRoot l n ats ≡ false → firstViolation j l (element o n ats i k) ≡ Violation (table.wrongRoot o)
@@ -80,7 +79,7 @@ module _ (l : Listing) where
     pub has-space : (m : Inside) (c : Content (t .A)) → Has t l m c → spaceIn m ≡ l .space
     has-space nothingInside c h = absurd h
     has-space (character o x k) c h = absurd h
-    has-space (element o n ats i k) c h = value-besides ats (l .space) (h .attrs .besides)
+    has-space (element o n ats i k) c h = root-space n ats (h .root)
 
 -- ---- so it is the list that is chosen
 

@@ -1,5 +1,5 @@
 -- The codes of violations are 4 to 13, and the row of code 4 is 1. Assumes nothing.
-use mathlib.Core.Path.{_≡_, refl, subst}
+use mathlib.Core.Path.{_≡_, refl, sym, subst}
 use mathlib.Core.Bool.{Bool, true, false, _&&_, not}
 use mathlib.Core.List.{List, [], _∷_}
 use Prim.Native.Nat.{ℕ, _≤_}
@@ -13,7 +13,8 @@ use Rattle.xml.specs.Message.{Attrs, Inside, nothingInside, character, element}
 use Rattle.file_walk.specs.declared.found.Found.{Found}
 use Rattle.file_walk.specs.declared.found.Found.the-variants.{Fine, Violation}
 use Rattle.file_walk.specs.Types.{Types, Judge}
-use Rattle.file_walk.specs.First.{First, refuse, orElse, isEmpty, passed, breaks, textOf, currencyGiven, attrsOk, kindOf, isRoot, overCount, absentRow, childRows, opening, groupEnd, closing, inside, firstViolation}
+use Rattle.file_walk.specs.First.{First, refuse, orElse, isEmpty, passed, breaks, textOf, currencyGiven, attrsOk, kindOf, isRoot, absentRow, childRows, opening, groupEnd, closing, inside, firstViolation}
+use Rattle.file_walk.proofs.violation.Opening.{overCount, opening-is}
 
 -- a code from 4 to 13, with row 1 of 4
 abbrev pub Line : Answer → Type 0
@@ -38,11 +39,11 @@ later b a g h i = test-coded b a g (omega arith, i, λ e. absurd (omega arith))
 
 module _ (j : Judge) (l : Listing) where
   opening-coded : (p : ℕ) (seen : List ℕ) (r : ℕ) (ats : Attrs) (o : ℕ) → Coded (opening j l p seen r ats o)
-  opening-coded p seen r ats o =
+  opening-coded p seen r ats o = subst Coded (sym (opening-is j l p seen r ats o)) (
       later (eqb r 0) (table.notAChild p o) _ (omega arith) (omega arith)
       (later (not (isChoice (kindOf l p)) && passed r seen) (table.outOfOrder r o) _ (omega arith) (omega arith)
       (later (overCount l (kindOf l p) seen r) (table.tooMany r o) _ (omega arith) (omega arith)
-      (later (not (attrsOk j (kindOf l r) ats)) (table.wrongAttributes r o) Fine (omega arith) (omega arith) tt)))
+      (later (not (attrsOk j (kindOf l r) ats)) (table.wrongAttributes r o) Fine (omega arith) (omega arith) tt))))
 
   group-coded : (r o : ℕ) (rs : List ℕ) → Coded (groupEnd j l r o rs)
   group-coded r o rs =
@@ -55,7 +56,7 @@ module _ (j : Judge) (l : Listing) where
   closing-coded choice r o ats rs cs = group-coded r o rs
   closing-coded (leaf k) r o ats rs cs =
       later (isEmpty cs) (table.empty r o) _ (omega arith) (omega arith)
-      (later (not (j k (currencyGiven ats) cs)) (table.badValue r o) Fine (omega arith) (omega arith) tt)
+      (later (not (j .value k (currencyGiven ats) cs)) (table.badValue r o) Fine (omega arith) (omega arith) tt)
 
   inside-coded : (m : Inside) (p : ℕ) (seen : List ℕ) → Coded (inside j l p seen m)
   unfolding inside

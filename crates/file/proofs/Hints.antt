@@ -11,8 +11,10 @@ use Rattle.list.specs.Content.{Content, end, value, node}
 use Rattle.xml.specs.House.{Attr, Tag, tag, Markup as Tags, noMore as over, piece, emptyTag, full, render, OneElement, Tree}
 use Rattle.xml.specs.Message.{Attrs, Inside, attrsOf, partsOf, rootAt}
 use Rattle.file_walk.specs.Types.{Types}
-use Rattle.file_walk.specs.First.{textOf, isHint, unhinted, bound, currencyGiven}
-use Rattle.file_walk.specs.Denotes.{plain, RootAttrs, Spells, Denotes, Has}
+use Rattle.file_walk.specs.First.{textOf, isHint, unhinted, bound, currencyGiven, isRoot}
+use Rattle.file_walk.specs.Denotes.{Denotes, Has}
+use Rattle.file_walk.proofs.violation.Attrs.{RootAttrs, root-tag}
+use Rattle.file_walk.proofs.violation.Spells.{plain, Spells, Told, spells-of, of-spells}
 use Rattle.file.specs.Instance.{Kinds}
 use Rattle.file.specs.File.{Whole, messageIn, rootOf, File}
 use Rattle.file.specs.Hints.{bareAttrs, bareTag, bareRoot, HintsAlone}
@@ -37,6 +39,9 @@ module _ (t : Types) (l : Listing) where
   spells-moved choice ats i o o′ v h = h
   spells-moved (leaf f) ats i o o′ v h = (plain-moved i o′ o ∙ h .0, h .1, subst (λ (cs : List ℕ). t .Spelt f (currencyGiven ats) cs v) (text-moved i o o′) (h .2))
 
+  told-moved : (r : ℕ) (ats : Attrs) (i : Tags) (o o′ : ℕ) (v : t .A) → Told t l r ats (partsOf o i) v → Told t l r ats (partsOf o′ i) v
+  told-moved r ats i o o′ v h = of-spells t l r ats (partsOf o′ i) v (rowAt l r .kind) refl (spells-moved (rowAt l r .kind) ats i o o′ v (spells-of t l r ats (partsOf o i) v h))
+
   denotes-moved : (i : Tags) (o o′ p : ℕ) (c : Content (t .A)) → Denotes t l p (partsOf o i) c → Denotes t l p (partsOf o′ i) c
   denotes-moved over o o′ p c h = h
   denotes-moved (piece x i) o o′ p c h = (h .0, denotes-moved i (o + length (spell x)) (o′ + length (spell x)) p c (h .1))
@@ -48,7 +53,7 @@ module _ (t : Types) (l : Listing) where
   denotes-moved (full g j b i) o o′ p end h = absurd h
   denotes-moved (full g j b i) o o′ p (value r v c) h = (
     h .0,
-    spells-moved (rowAt l r .kind) (attrsOf (g .attributes)) j (o + (length (tag g) + 2)) (o′ + (length (tag g) + 2)) v (h .1),
+    told-moved r (attrsOf (g .attributes)) j (o + (length (tag g) + 2)) (o′ + (length (tag g) + 2)) v (h .1),
     denotes-moved i (o + length (render (full g j b over))) (o′ + length (render (full g j b over))) p c (h .2),
   )
   denotes-moved (full g j b i) o o′ p (node r d c) h = (
@@ -89,7 +94,12 @@ module _ (t : Types) (l : Listing) where
   pub has-bound : (m : Inside) (c : Content (t .A)) → Has t l m c → bound (rootOf m) ≡ true
   has-bound Inside.nothingInside c h = absurd h
   has-bound (Inside.character o x k) c h = absurd h
-  has-bound (Inside.element o n ats i k) c h = h .attrs .tied
+  has-bound (Inside.element o n ats i k) c h = root-tag l n ats .0 (h .root) .attrs .tied
+
+  root-moved : (g g′ : Tag) → bareTag g ≡ bareTag g′ → bound (attrsOf (g′ .attributes)) ≡ true → isRoot l (g .name) (attrsOf (g .attributes)) ≡ true → isRoot l (g′ .name) (attrsOf (g′ .attributes)) ≡ true
+  root-moved g g′ z b e =
+      let h = root-tag l (g .name) (attrsOf (g .attributes)) .0 e in
+      root-tag l (g′ .name) (attrsOf (g′ .attributes)) .1 (record { name = h .name ∙ ap (λ (x : Tag). x .name) z; attrs = attrs-moved (l .space) g g′ z b (h .attrs) })
 
   has-moved : (r r′ : Tags) (o o′ : ℕ) (c : Content (t .A)) → bareRoot r ≡ bareRoot r′ → OneElement r′ → bound (rootOf (partsOf o′ r′)) ≡ true
       → Has t l (partsOf o r) c → Has t l (partsOf o′ r′) c
@@ -100,7 +110,7 @@ module _ (t : Types) (l : Listing) where
   has-moved (emptyTag g k) (full g′ i′ b′ k′) o o′ c e one b h = let z : _≡_ {A = ℕ} 0 1 = cc in absurd (omega arith)
   has-moved (emptyTag g k) (emptyTag g′ k′) o o′ c e one b h =
       let z = empty-tag (bareTag g) (bareTag g′) k k′ e in
-      record { name = h .name ∙ ap (λ (x : Tag). x .name) z; attrs = attrs-moved (l .space) g g′ z b (h .attrs); alone = ap (partsOf _) one; kids = h .kids; is = h .is; parts = h .parts }
+      record { root = root-moved g g′ z b (h .root); alone = ap (partsOf _) one; kids = h .kids; is = h .is; parts = h .parts }
   has-moved (full g i d k) over o o′ c e one b h = absurd one
   has-moved (full g i d k) (piece p k′) o o′ c e one b h = absurd one
   has-moved (full g i d k) (emptyTag g′ k′) o o′ c e one b h = let z : _≡_ {A = ℕ} 0 1 = cc in absurd (omega arith)
@@ -108,8 +118,7 @@ module _ (t : Types) (l : Listing) where
       let z = full-tag (bareTag g) (bareTag g′) i i′ d d′ k k′ e in
       let w = full-inside (bareTag g) (bareTag g′) i i′ d d′ k k′ e in
       record {
-        name = h .name ∙ ap (λ (x : Tag). x .name) z;
-        attrs = attrs-moved (l .space) g g′ z b (h .attrs);
+        root = root-moved g g′ z b (h .root);
         alone = ap (partsOf _) one;
         kids = h .kids;
         is = h .is;

@@ -17,7 +17,10 @@ use Rattle.xml.specs.Message.{Attrs, Inside, attrsOf, partsOf, rootAt}
 use Rattle.value.specs.Laws.{extra}
 use Rattle.file_walk.specs.Types.{Spelling}
 use Rattle.file_walk.specs.First.{textOf, isHint, unhinted, currencyGiven}
-use Rattle.file_walk.specs.Denotes.{plain, LeafAttrs, Spells as Holds, Denotes, Has}
+use Rattle.file_walk.specs.Types.{LeafAttrs}
+use Rattle.file_walk.specs.Denotes.{Denotes, Has}
+use Rattle.file_walk.proofs.violation.Attrs.{priced-one, root-tag}
+use Rattle.file_walk.proofs.violation.Spells.{plain, Spells as Holds, spells-of}
 use Rattle.image.specs.Image.{Item, header, valueBytes, itemBytes, itemsBytes, image}
 use Rattle.image.proofs.answers.Heads.{header-length}
 use Rattle.file.specs.Instance.{Kinds, valuesOf}
@@ -116,9 +119,9 @@ module _ (k : Kinds) (y : Spelling (k .types)) (l : Listing) (wf : WellFormed l)
 
   -- an amount has its attribute
   currency-long : (as′ : List Attr) → LeafAttrs (k .types) amt (attrsOf as′) → 6 ≤ length (attrs as′)
-  currency-long [] g = absurd (nil≢cons (g .2))
+  currency-long [] g = absurd (nil≢cons (priced-one (k .types) [] g .2))
   currency-long (a ∷ as′) g =
-      let h : a .name ≡ ascii "Ccy" = ap (λ (p : List ℕ × List ℕ). p .0) (head-eq-of-cons-eq (g .2)) in
+      let h : a .name ≡ ascii "Ccy" = ap (λ (p : List ℕ × List ℕ). p .0) (head-eq-of-cons-eq (priced-one (k .types) (attrsOf (a ∷ as′)) g .2)) in
       omega (arith, attr-long a, ap length h, length-append (attr a) (attrs as′))
 
   -- what the tags of a leaf have more than its text covers what its value has more
@@ -166,7 +169,7 @@ module _ (k : Kinds) (y : Spelling (k .types)) (l : Listing) (wf : WellFormed l)
   weigh (piece x i) d o p c g h = omega (arith, weigh i d (o + length (spell x)) p c (g .2) (h .1), length-append (spell x) (render i))
   weigh (emptyTag t i) zero o p c g h = absurd g
   weigh (emptyTag t i) (suc d) o p end g h = absurd h
-  weigh (emptyTag t i) (suc d) o p (value r v c) g h = absurd (no-empty (rowAt l r .kind) (attrsOf (t .attributes)) v (wf .kinds p r (h .0 .0)) (h .1))
+  weigh (emptyTag t i) (suc d) o p (value r v c) g h = absurd (no-empty (rowAt l r .kind) (attrsOf (t .attributes)) v (wf .kinds p r (h .0 .0)) (spells-of (k .types) l r (attrsOf (t .attributes)) Inside.nothingInside v (h .1)))
   weigh (emptyTag t i) (suc d) o p (node r e c) g h =
       omega (arith, node-many r e c, none-end r e (h .2), weigh i (suc d) (o + length (render (emptyTag t over))) p c (g .1) (h .3), empty-long t i)
   weigh (full t j b i) zero o p c g h = absurd g
@@ -177,7 +180,7 @@ module _ (k : Kinds) (y : Spelling (k .types)) (l : Listing) (wf : WellFormed l)
         value-many r v c,
         weigh i (suc d) (o + length (render (full t j b over))) p c (g .3) (h .2),
         full-long t j b i,
-        leaf-short (rowAt l r .kind) t j d (o + (length (tag t) + 2)) v (wf .kinds p r (h .0 .0)) (num-name r (t .name) (h .0 .1)) (g .0) (g .1) (h .1),
+        leaf-short (rowAt l r .kind) t j d (o + (length (tag t) + 2)) v (wf .kinds p r (h .0 .0)) (num-name r (t .name) (h .0 .1)) (g .0) (g .1) (spells-of (k .types) l r (attrsOf (t .attributes)) (partsOf (o + (length (tag t) + 2)) j) v (h .1)),
       )
   weigh (full t j b i) (suc d) o p (node r e c) g h =
       omega (
@@ -198,7 +201,7 @@ module _ (k : Kinds) (y : Spelling (k .types)) (l : Listing) (wf : WellFormed l)
   root-short over o c one g h = absurd one
   root-short (piece x i) o c one g h = absurd one
   root-short (emptyTag t i) o c one g h =
-      omega (arith, image-many c (h .kids) (h .is), none-end 1 (h .kids) (h .parts), empty-long t i, tag-long t, sole (t .attributes) (ascii "xmlns") (l .space) (h .attrs .besides))
+      omega (arith, image-many c (h .kids) (h .is), none-end 1 (h .kids) (h .parts), empty-long t i, tag-long t, sole (t .attributes) (ascii "xmlns") (l .space) (root-tag l (t .name) (attrsOf (t .attributes)) .0 (h .root) .attrs .besides))
   root-short (full t j b i) o c one g h =
       omega (
         arith,
@@ -206,7 +209,7 @@ module _ (k : Kinds) (y : Spelling (k .types)) (l : Listing) (wf : WellFormed l)
         weigh j 15 (o + (length (tag t) + 2)) 1 (h .kids) (g .1) (h .parts),
         full-long t j b i,
         tag-long t,
-        sole (t .attributes) (ascii "xmlns") (l .space) (h .attrs .besides),
+        sole (t .attributes) (ascii "xmlns") (l .space) (root-tag l (t .name) (attrsOf (t .attributes)) .0 (h .root) .attrs .besides),
       )
 
   -- an image is no longer than its file

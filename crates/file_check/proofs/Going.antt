@@ -35,7 +35,7 @@ use Rattle.file_walk.specs.declared.step.Turn.{Turn}
 use Rattle.file_walk.specs.Types.{Spelling}
 use Rattle.file_walk.specs.First.{First}
 use Rattle.file_walk.specs.mirror.Machine.{Speller, judgeOf, spellerOf, before, advance, run}
-use Rattle.file_walk.specs.Numbers.{isGroupIn}
+use Rattle.list.specs.Numbers.{isGroupIn}
 use Rattle.file_walk.specs.mirror.Tables.{levels}
 use Rattle.file_walk.specs.mirror.Stride.{rowIn, inner, stepIn, stackIn}
 use Rattle.file_walk.specs.mirror.Begin.{beginIn}

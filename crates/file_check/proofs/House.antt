@@ -22,7 +22,7 @@ use Rattle.xml_tags.specs.mirror.Tokens.{openAt}
 use Rattle.file_walk.specs.declared.step.Turn.{Turn}
 use Rattle.xml_tags.specs.declared.skim.Tag.{Tag}
 use Rattle.xml_tags.specs.mirror.Skimmed.{tagOf}
-use Rattle.file_walk.specs.Numbers.{isGroupIn}
+use Rattle.list.specs.Numbers.{isGroupIn}
 use Rattle.file_walk.specs.mirror.Begin.{beginIn}
 use Rattle.file.specs.Instance.{houseKinds}
 use Rattle.file.proofs.House.{spelling}

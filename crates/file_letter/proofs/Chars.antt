@@ -16,8 +16,8 @@ use Rattle.value.specs.Value.{Value, IsValue}
 use Rattle.value.proofs.classes.Classes.{Solid, each-all, each-map}
 use Rattle.value.proofs.raw.Trim.{Dense}
 use Rattle.value.proofs.classes.Named.{reference, writing}
-use Rattle.value_to_text.specs.Script.{scriptOf}
-use Rattle.value_to_text.proofs.Scripts.{script-dense}
+use Rattle.value.specs.Script.{scriptOf}
+use Rattle.value.proofs.script.Scripts.{script-dense}
 
 -- no tab, no line break, no control character
 pub record Ink (x : ℕ) : Type 0 where
@@ -54,7 +54,7 @@ dense-inked : (t : List ℕ) → Dense t → Inked t
 dense-inked t d = record { some = d .some; each = each-map Solid Ink solid-inks t (d .solid) }
 
 pub script-inked : (f : Leaf) (v : Value) → LeafOk f → IsValue f v → Inked (scriptOf f v)
-script-inked ref v ok (IsValue.reference {cs = cs} r) = record { some = r .some; each = each-all isRef Ink ref-inks cs (r .class) }
+script-inked ref v ok (IsValue.reference {cs = cs} r) = record { some = r .chars .some; each = each-all isRef Ink ref-inks cs (r .chars .class) }
 script-inked (txt k) v ok (IsValue.writing {cs = cs} r) = record { some = r .some; each = each-all isTxt Ink txt-inks cs (r .class) }
 script-inked iban v ok h = dense-inked (scriptOf iban v) (script-dense iban v tt h)
 script-inked ccy v ok h = dense-inked (scriptOf ccy v) (script-dense ccy v tt h)

@@ -16,9 +16,9 @@ use Rattle.list.specs.Within.{Among}
 use Rattle.list_house.specs.Lists.{asked}
 use Rattle.list_house.proofs.Lists.{asked-well}
 use Rattle.list_house.proofs.Retired.{Narrowed, stored-narrowed}
-use Rattle.value.specs.Moment.{present}
+use Rattle.value.specs.Former.{present}
 use Rattle.value.specs.Value.{Value, IsValue}
-use Rattle.value_to_text.specs.Spelled.{Spelled}
+use Rattle.value.specs.Spelled.{Spelled}
 use Rattle.xml.specs.House.{Tree, GoodTree, whole, HouseXml}
 use Rattle.xml.specs.Message.{messageOf}
 use Rattle.xml.proofs.Unique.{tree-one}

@@ -25,10 +25,10 @@ use Rattle.value.specs.Rules.{InThousandths}
 use Rattle.value.specs.Value.{Value, IsValue, Spelt}
 use Rattle.value.proofs.classes.Classes.{each-all}
 use Rattle.xml.specs.House.{IsName, IsAttrName, double, GoodValue, GoodAttr, GoodTag, Markup as Tags, noMore as over, piece, emptyTag, full, render, isChar, begins, following, cut, GoodMarkup as Fine, GoodTree}
-use Rattle.value_to_text.specs.Script.{scriptOf, currencyOf}
-use Rattle.value_to_text.specs.Raw.{pieceOf, rawOf}
+use Rattle.value.specs.Script.{scriptOf, currencyOf}
+use Rattle.value.specs.Raw.{pieceOf, rawOf}
 use Rattle.file_letter.specs.Letter.{textIn, plainly, attrOf, tagOf, coinOf, wordsIn, treeIn, rootIn, treeOf}
-use Rattle.value_to_text.proofs.Scripts.{script-spelt}
+use Rattle.value.proofs.script.Scripts.{script-spelt}
 use Rattle.image.specs.Kinds.{values}
 use Rattle.image.specs.Image.{Item}
 use Rattle.file_letter.specs.Stale.{NoneOf, Withdrawn}

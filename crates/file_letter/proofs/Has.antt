@@ -13,18 +13,21 @@ use Rattle.text_characters.specs.Pieces.{char, entity, amp, lt, gt, spell, reso
 use Rattle.list.specs.Listing.{Leaf, Kind, group, choice, leaf, Listing, rowAt, Child, isGroup}
 use Rattle.list.specs.WellFormed.{WellFormed}
 use Rattle.list.specs.Content.{Content, end, value, node, rows, Good, Meets, ValueOf, GroupOf}
-use Rattle.value.specs.Moment.{present}
+use Rattle.value.specs.Former.{present}
 use Rattle.value.specs.Rules.{InThousandths}
-use Rattle.value.specs.Value.{Value, text, place, truth, natural, amount, day, moment, IsValue, Form, Spelt}
+use Rattle.value.specs.Value.{Value, text, place, truth, natural, amount, day, moment, IsValue, Spelt}
 use Rattle.xml.specs.Message.{attrsOf, partsOf, messageOf}
 use Rattle.file_walk.specs.First.{textOf, currencyGiven}
-use Rattle.file_walk.specs.Denotes.{plain, LeafAttrs, Spells, Denotes, Has}
+use Rattle.file_walk.specs.Types.{LeafAttrs, priced, unpriced}
+use Rattle.file_walk.specs.Denotes.{Denotes, Has}
+use Rattle.file_walk.proofs.violation.Attrs.{root-tag}
+use Rattle.file_walk.proofs.violation.Spells.{plain, Spells, of-spells}
 use Rattle.file.specs.Instance.{houseTypes}
-use Rattle.value_to_text.specs.Script.{scriptOf, currencyOf}
-use Rattle.value_to_text.specs.Raw.{pieceOf}
+use Rattle.value.specs.Script.{scriptOf, currencyOf}
+use Rattle.value.specs.Raw.{pieceOf}
 use Rattle.file_letter.specs.Letter.{textIn, plainly, attrOf, coinOf, wordsIn, treeIn, treeOf}
-use Rattle.value_to_text.specs.Spelled.{Spelled}
-use Rattle.value_to_text.proofs.Scripts.{script-spelt, present-spelt}
+use Rattle.value.specs.Spelled.{Spelled}
+use Rattle.value.proofs.script.Scripts.{script-spelt, present-spelt}
 use Rattle.file_letter.proofs.Meeting.{said-is}
 
 -- ---- texts
@@ -75,17 +78,17 @@ written-spelt f v h q = subst (λ (w : List ℕ). Spelt f w (scriptOf f v) v) (s
 
 -- an amount has the one attribute Ccy, of type CCY, another leaf has none
 attrs-ok : (f : Leaf) (v : Value) → IsValue f v → LeafAttrs houseTypes f (attrsOf (coinOf v))
-attrs-ok f v (IsValue.reference r) = refl
-attrs-ok f v (IsValue.writing r) = refl
-attrs-ok f v (IsValue.account r) = refl
-attrs-ok f v (IsValue.currency r) = refl
-attrs-ok f v (IsValue.listed a b) = refl
-attrs-ok f v IsValue.either = refl
-attrs-ok f v (IsValue.count h) = refl
+attrs-ok f v (IsValue.reference r) = unpriced (λ e. let z : _≡_ {A = ℕ} 0 1 = cc in omega arith) refl
+attrs-ok f v (IsValue.writing r) = unpriced (λ e. let z : _≡_ {A = ℕ} 0 1 = cc in omega arith) refl
+attrs-ok f v (IsValue.account r) = unpriced (λ e. let z : _≡_ {A = ℕ} 0 1 = cc in omega arith) refl
+attrs-ok f v (IsValue.currency r) = unpriced (λ e. let z : _≡_ {A = ℕ} 0 1 = cc in omega arith) refl
+attrs-ok f v (IsValue.listed a b) = unpriced (λ e. let z : _≡_ {A = ℕ} 0 1 = cc in omega arith) refl
+attrs-ok f v IsValue.either = unpriced (λ e. let z : _≡_ {A = ℕ} 0 1 = cc in omega arith) refl
+attrs-ok f v (IsValue.count h) = unpriced (λ e. let z : _≡_ {A = ℕ} 0 1 = cc in omega arith) refl
 attrs-ok f v (IsValue.money {w = w} c b) =
-    (w, text w, ap (λ (u : List ℕ). (ascii "Ccy", u) ∷ []) (plainly-is w), record { left = w; lost = refl; form = Form.currency c })
-attrs-ok f v (IsValue.dated r) = refl
-attrs-ok f v (IsValue.timed p) = refl
+    priced refl w (text w) (record { is = IsValue.currency c; wording = refl }) (ap (λ (u : List ℕ). (ascii "Ccy", u) ∷ []) (plainly-is w))
+attrs-ok f v (IsValue.dated r) = unpriced (λ e. let z : _≡_ {A = ℕ} 0 1 = cc in omega arith) refl
+attrs-ok f v (IsValue.timed p) = unpriced (λ e. let z : _≡_ {A = ℕ} 0 1 = cc in omega arith) refl
 
 -- a whole content is a root with what is in it
 pub record Rooted (c : Content Value) : Type 0 where
@@ -133,7 +136,7 @@ module _ (l : Listing) (wf : WellFormed l) where
   denotes : (c : Content Value) (p o : ℕ) → Each (Child l p) (rows c) → Good (Spelled present) l c → Denotes houseTypes l p (partsOf o (treeIn l c)) c
   denotes end p o a g = tt
   denotes (value r v k) p o a g =
-      ((a .0, refl), spells (rowAt l r .kind) v _ (g .0), denotes k p _ (a .1) (g .1))
+      ((a .0, refl), of-spells houseTypes l r (attrsOf (coinOf v)) (partsOf _ (textIn (wordsIn (rowAt l r .kind) v))) v (rowAt l r .kind) refl (spells (rowAt l r .kind) v _ (g .0)), denotes k p _ (a .1) (g .1))
   denotes (node r c k) p o a g =
       ((a .0, refl), (group-is (rowAt l r .kind) (g .0 .0), refl), denotes c r _ (g .0 .1 .theirs) (g .1), denotes k p _ (a .1) (g .2))
 
@@ -146,8 +149,7 @@ module _ (l : Listing) (wf : WellFormed l) where
       subst (λ (x : Content Value). Has houseTypes l (messageOf (treeOf l x)) x) (sym (w .is)) (
       let g : Good (Spelled present) l (node 1 kids end) = subst (Good (Spelled present) l) (w .is) (m .good) in
       record {
-        name = refl;
-        attrs = record { besides = ap (λ (u : List ℕ). (ascii "xmlns", u) ∷ []) (plainly-is (l .space)); tied = refl };
+        root = root-tag l (rowAt l 1 .name) (attrsOf (attrOf (ascii "xmlns") (l .space) ∷ [])) .1 (record { name = refl; attrs = record { besides = ap (λ (u : List ℕ). (ascii "xmlns", u) ∷ []) (plainly-is (l .space)); tied = refl } });
         alone = refl;
         kids = kids;
         is = refl;

@@ -17,11 +17,12 @@ use Rattle.list.proofs.Retired.{present-of}
 use Rattle.list_house.specs.Lists.{asked, askedOf, stored}
 use Rattle.list_house.proofs.Lists.{kept-well}
 use Rattle.list_house.proofs.Retired.{GoneRows, gone-rows, Narrowed, stored-narrowed}
-use Rattle.value.specs.Moment.{present}
+use Rattle.value.specs.Former.{present}
 use Rattle.value.specs.Value.{Value, IsValue}
-use Rattle.value_to_text.specs.Spelled.{Spelled}
+use Rattle.value.specs.Spelled.{Spelled}
 use Rattle.xml.specs.House.{IsName, Markup as Tags, noMore as over, piece, emptyTag, full, render, tag, GoodMarkup, OneElement, Tree, GoodTree}
-use Rattle.xml.specs.Message.{Inside, nothingInside, partsOf, rootAt, messageOf}
+use Rattle.xml.specs.Message.{Inside, nothingInside, attrsOf, partsOf, rootAt, messageOf}
+use Rattle.file_walk.proofs.violation.Attrs.{root-tag}
 use Rattle.file_walk.specs.Denotes.{Denotes, Has}
 use Rattle.image.specs.Kinds.{values}
 use Rattle.image.specs.Image.{Item}
@@ -82,10 +83,10 @@ module _ (l : Listing) where
   named-root over o c one g h = absurd one
   named-root (piece x i) o c one g h = absurd one
   named-root (emptyTag t i) o c one g h =
-      subst (λ (z : Content Value). NoneOf (Withdrawn l) (items z)) (sym (h .is)) (node-named 1 (h .kids) end (unnamed 1 (t .name) (h .name) (g .0 .name)) (none-end 1 (h .kids) (h .parts)) tt)
+      subst (λ (z : Content Value). NoneOf (Withdrawn l) (items z)) (sym (h .is)) (node-named 1 (h .kids) end (unnamed 1 (t .name) (root-tag l (t .name) (attrsOf (t .attributes)) .0 (h .root) .name) (g .0 .name)) (none-end 1 (h .kids) (h .parts)) tt)
   named-root (full t j b i) o c one g h =
       subst (λ (z : Content Value). NoneOf (Withdrawn l) (items z)) (sym (h .is))
-      (node-named 1 (h .kids) end (unnamed 1 (t .name) (h .name) (g .0 .name)) (named-in j 15 (o + (length (tag t) + 2)) 1 (h .kids) (g .1) (h .parts)) tt)
+      (node-named 1 (h .kids) end (unnamed 1 (t .name) (root-tag l (t .name) (attrsOf (t .attributes)) .0 (h .root) .name) (g .0 .name)) (named-in j 15 (o + (length (tag t) + 2)) 1 (h .kids) (g .1) (h .parts)) tt)
 
   -- no content of a message, whatever its length, has a row that is gone
   pub named-message : (t : Tree) (c : Content Value) → GoodTree t → Has houseTypes l (messageOf t) c → NoneOf (Withdrawn l) (items c)

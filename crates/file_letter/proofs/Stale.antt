@@ -12,15 +12,15 @@ use Rattle.value.specs.Rules.{InThousandths}
 use Rattle.image.specs.Kinds.{values}
 use Rattle.image.specs.Image.{Item, itemBytes, itemsBytes}
 use Rattle.file_letter.specs.Stale.{NoneOf, FirstAt, Withdrawn, Finer}
-use Rattle.file_letter.proofs.Meeting.{fine-or, each-last}
+use Rattle.file_letter.proofs.Meeting.{fine-or, finer-none, finer-not, not-finer, each-last}
 
 pub finer-or : (i : Item values) → Dec (Finer i)
-finer-or (r, none) = no (λ f. f)
+finer-or (r, none) = no (finer-none r)
 finer-or (r, some v) = go (fine-or v)
   where
-    go : Dec (InThousandths v) → Dec (InThousandths v → ⊥)
-    go (yes f) = no (λ g. g f)
-    go (no f) = yes f
+    go : Dec (InThousandths v) → Dec (Finer (r, some v))
+    go (yes f) = no (λ g. finer-not r v g f)
+    go (no f) = yes (not-finer r v f)
 
 pub withdrawn-or : (l : Listing) (i : Item values) → Dec (Withdrawn l i)
 withdrawn-or l i = go (rowAt l (i .0) .name)

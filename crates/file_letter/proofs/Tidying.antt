@@ -12,9 +12,9 @@ use Rattle.list.specs.Listing.{Listing}
 use Rattle.list.specs.Content.{Content, items, Meets}
 use Rattle.list_house.specs.Lists.{askedOf}
 use Rattle.list_house.proofs.Retired.{asked-alike}
-use Rattle.value.specs.Moment.{present}
+use Rattle.value.specs.Former.{present}
 use Rattle.value.specs.Value.{Value}
-use Rattle.value_to_text.specs.Spelled.{Spelled}
+use Rattle.value.specs.Spelled.{Spelled}
 use Rattle.image.specs.Kinds.{values}
 use Rattle.image.proofs.answers.One.{accepting}
 use Rattle.image_reading.specs.Reads.{stored, HouseAccepts, HouseReads}

@@ -1,13 +1,14 @@
 -- What an image may hold and a file may not say any more: the first such item of a content. Assumes nothing.
 use mathlib.Core.Path.{_≡_}
+use mathlib.Core.Logic.{_≢_}
 use mathlib.Core.List.{List, _∷_, _++_}
-use mathlib.Core.Option.{none, some}
-use Prim.Native.Nat.{ℕ, _+_}
+use mathlib.Core.Option.{some}
+use Prim.Native.Nat.{ℕ, _+_, _%_}
 use lib.ListN.{length}
 use Rattle.text.specs.Lists.{Each}
 use Rattle.list.specs.Listing.{Listing}
 use Rattle.list.specs.Changed.{Gone}
-use Rattle.value.specs.Rules.{InThousandths}
+use Rattle.value.specs.Value.{moment}
 use Rattle.image.specs.Kinds.{values}
 use Rattle.image.specs.Image.{Item, itemsBytes}
 
@@ -31,6 +32,5 @@ abbrev pub Withdrawn : Listing → Item values → Type 0
 Withdrawn l i = Gone l (i .0)
 
 -- "Stored images with finer fractions": a date-time with a part of a second below a thousandth
-abbrev pub Finer : Item values → Type 0
-Finer (r, none) = ⊥
-Finer (r, some v) = InThousandths v → ⊥
+pub data Finer (i : Item values) : Type 0 where
+  finerMoment : (y mo d h mi s u z : ℕ) → i .1 ≡ some (moment y mo d h mi s u z) → u % 1000 ≢ 0 → Finer i

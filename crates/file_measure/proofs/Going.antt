@@ -51,7 +51,7 @@ use Rattle.file.specs.Instance.{Kinds, valuesOf}
 use Rattle.file.specs.File.{imageOf}
 use Rattle.text.proofs.Puts.{puts-none, puts-pasted, puts-then, puts-as}
 use Rattle.file_measure.specs.Pass.{kindIn, Shut, Yields, Shuts, Opens, ItemPut, Passes, violates, holds}
-use Rattle.file_measure.proofs.Coin.{coin-is}
+use Rattle.value.proofs.stored.Codes.{currency-exactly}
 
 -- ---- what a step met
 
@@ -328,7 +328,7 @@ module _ (cm : Computed) (t pool s : List ℕ) (sd : Sound t pool) where
             kind = sym kind-here ∙ e;
             ok = leaf-ok f e;
             chars = w .spelt;
-            money = λ a. let m : rowAt l row .kind ≡ leaf amt = e ∙ ap leaf a in (g .stands .coin m, coin-is (slice (here .value) (here .quote) s) (g .stands .capitals m));
+            money = λ a. let m : rowAt l row .kind ≡ leaf amt = e ∙ ap leaf a in (g .stands .coin m, currency-exactly (slice (here .value) (here .quote) s) .0 (g .stands .capitals m));
           }
 
           module _ (r : ℕ) (d′ : List ℕ) (o : Shuts k t pool row (slice (here .value) (here .quote) s) (slice (here .at) (turn .less) s) d at r d′) where

@@ -22,17 +22,18 @@ use Rattle.list.proofs.rows.Codes.{group-is}
 use Rattle.list.specs.WellFormed.{LeafOk}
 use Rattle.list.specs.Table.{cell, byteOf, placeIn, kindOf, wordsIn}
 use Rattle.list.proofs.words.Places.{place-found, place-none, byte-near}
-use Rattle.value.specs.Code.{Ccy, WordAt}
+use Rattle.value.specs.Code.{Ccy}
+use Rattle.value.specs.Form.{WordAt}
 use Rattle.value.specs.Kind.{code, Given}
-use Rattle.value.specs.Value.{Value, text, place, Form, reference, writing, account, currency, listed, either, count, money, dated, timed, Spelt, bytes}
+use Rattle.value.specs.Value.{Value, text, place, IsValue, reference, writing, account, currency, listed, either, count, money, dated, timed, Spelt, bytes}
 use Rattle.value.proofs.types.Rights.{word-spelt, spelt-word}
 use Rattle.value.proofs.types.Values.{value-laws}
-use Rattle.file_walk.specs.Numbers.{isGroupIn}
-use Rattle.value_to_bytes.specs.Giving.{Counted, Gives, Sized, Written}
-use Rattle.value_to_bytes.specs.Giving as giving
-use Rattle.value_to_bytes.proofs.Putting.{text-long, natural-long, amount-long, day-long, moment-long}
-use Rattle.value_to_bytes.proofs.Unique.{spelt-any, euro, euro-is}
-use Rattle.value_to_bytes.proofs.Theorems.{bytes-some, write-is, write-none, size-is, size-none}
+use Rattle.list.specs.Numbers.{isGroupIn}
+use Rattle.value.specs.Giving.{Counted, Gives, Sized, Written}
+use Rattle.value.specs.Giving as giving
+use Rattle.value.proofs.given.Putting.{text-long, natural-long, amount-long, day-long, moment-long}
+use Rattle.value.proofs.given.Unique.{spelt-any, euro, euro-is}
+use Rattle.value.proofs.given.Theorems.{bytes-some, write-is, write-none, size-is, size-none}
 use Rattle.file.specs.Instance.{houseKinds}
 use Rattle.file_measure.specs.Pass.{Worded, Shut, Yields, given, Valued}
 
@@ -41,20 +42,20 @@ use Rattle.file_measure.specs.Pass.{Worded, Shut, Yields, given, Valued}
 text-few : (cs : List ℕ) → Counted (text cs) → length (bytes (text cs)) ≤ 65537
 text-few cs h = omega (arith, h, text-long (length (encodeAll cs)) cs refl)
 
-form-few : (l : Leaf) (w t : List ℕ) (v : Value) → Form l w t v → Counted v → length (bytes v) ≤ 65537
-form-few l w t v (reference {cs = cs} r) h = text-few cs h
-form-few l w t v (writing {cs = cs} r) h = text-few cs h
-form-few l w t v (account {cs = cs} r) h = text-few cs h
-form-few l w t v (currency {cs = cs} r) h = text-few cs h
-form-few l w t v (listed a) h = omega arith
-form-few l w t v (either a) h = omega arith
-form-few l w t v (count {n = n} a) h = omega (arith, natural-long n)
-form-few l w t v (money {w = u} {k = k} {c = c} a b) h = omega (arith, amount-long u k c (a .three))
-form-few l w t v (dated {y = y} {m = m} {d = d} a b) h = omega (arith, day-long y m d)
-form-few l w t v (timed {y = y} {mo = mo} {d = d} {h = ho} {mi = mi} {s = s} {u = u} {z = z} a) h = omega (arith, moment-long y mo d ho mi s u z)
+value-few : (l : Leaf) (v : Value) → IsValue l v → Counted v → length (bytes v) ≤ 65537
+value-few l v (reference {cs = cs} r) h = text-few cs h
+value-few l v (writing {cs = cs} r) h = text-few cs h
+value-few l v (account {cs = cs} r) h = text-few cs h
+value-few l v (currency {cs = cs} r) h = text-few cs h
+value-few l v (listed a b) h = omega arith
+value-few l v either h = omega arith
+value-few l v (count {n = n} a) h = omega (arith, natural-long n)
+value-few l v (money {w = u} {k = k} {c = c} a b) h = omega (arith, amount-long u k c (a .three))
+value-few l v (dated {y = y} {m = m} {d = d} a) h = omega (arith, day-long y m d)
+value-few l v (timed {y = y} {mo = mo} {d = d} {h = ho} {mi = mi} {s = s} {u = u} {z = z} a) h = omega (arith, moment-long y mo d ho mi s u z)
 
 gives-few : (kind k : ℕ) (cur s bs : List ℕ) → Gives kind k cur s bs → length bs ≤ 65537
-gives-few kind k cur s bs (giving.some v t c e) = omega (arith, ap length e, form-few (t .leaf) cur (t .spelt .left) v (t .spelt .form) c)
+gives-few kind k cur s bs (giving.some v t c e) = omega (arith, ap length e, value-few (t .leaf) v (t .spelt .is) c)
 gives-few kind k cur s bs (giving.none f e) = omega (arith, ap length e)
 
 -- ---- the numbers of kinds

@@ -1,7 +1,7 @@
 // The list that a message chooses: the one whose root its own is.
 
 use answer::Answer;
-use file_walk::begin::begin;
+use file_root::begin::begin;
 use file_walk::step::Met;
 use file_walk::step::Turn;
 use list_house::by_byte::REPORT;

@@ -2,7 +2,7 @@
 use answer::Answer;
 use choice::begun;
 use choice::kind_by;
-use file_walk::begin::begin;
+use file_root::begin::begin;
 use file_walk::step::Turn;
 use list_house::by_byte::REPORT;
 use list_house::tables::pool;

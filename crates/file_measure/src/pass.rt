@@ -1,17 +1,17 @@
 // The walk over a message that is house XML: its first violation, or its image's length. Nothing is written: values are only counted.
 
 use answer::Answer;
+use file_step::step::step;
 use file_walk::step::Here;
 use file_walk::step::Met;
 use file_walk::step::Turn;
-use file_walk::step::step;
-use file_walk::tag::is_group;
+use list::kind::is_group;
 use list::lookup::cell;
 use list::table::ENUM;
 use list::table::KIND;
 use list::table::MOST;
 use list::word::word_byte;
-use value_to_bytes::write::size;
+use value_kinds::write::size;
 ghost use mathlib.Core.Path.{_≡_};
 ghost use mathlib.Core.List.{[]};
 ghost use Prim.Native.Nat.{_≤_};

@@ -19,7 +19,7 @@ use Rattle.xml_tags.specs.declared.attribute.Attribute.{Attribute}
 use Rattle.xml_tags.specs.mirror.Attributes.{attributeAt}
 use Rattle.xml_tags.specs.Story.{attributeIn, Finds}
 use Rattle.file_walk.specs.declared.hints.Carried.{Carried}
-use Rattle.file_walk.specs.First.{only, carries, unhinted, rootAttrs, noAttrs}
+use Rattle.file_walk.specs.First.{only, carries, unhinted, rootAttrs, isEmpty}
 use Rattle.file_walk.specs.mirror.Stride.{named}
 use Rattle.file_walk.specs.mirror.Begin.{spaceIn, noted, notedIn, nothing, carriedIn, allowed}
 use Rattle.file_walk.proofs.violation.Answers.{iff-same}
@@ -38,7 +38,7 @@ and-no false = refl
 
 -- ---- on any attributes
 
-only-cons : (n v : List ℕ) (a : List ℕ × List ℕ) (ats : Attrs) (x : Bool) → (same n (a .0) && same v (a .1)) ≡ x → only n v (a ∷ ats) ≡ (x && noAttrs ats)
+only-cons : (n v : List ℕ) (a : List ℕ × List ℕ) (ats : Attrs) (x : Bool) → (same n (a .0) && same v (a .1)) ≡ x → only n v (a ∷ ats) ≡ (x && isEmpty ats)
 only-cons n v a [] x e = e ∙ sym (and-yes x)
 only-cons n v a (b ∷ ats) x e = sym (and-no x)
 
@@ -52,7 +52,7 @@ module _ (space : List ℕ) where
 
   -- what is asked of those that are still to come; r are the others among them, l and p say whether the two hints are
   abbrev asked : Carried → Attrs → Bool → Bool → Bool
-  asked c r l p = not (c .other) && (cond (c .space) (noAttrs r) (only (ascii "xmlns") space r) && (not (c .location || l) || (c .prefix || p)))
+  asked c r l p = not (c .other) && (cond (c .space) (isEmpty r) (only (ascii "xmlns") space r) && (not (c .location || l) || (c .prefix || p)))
 
   abbrev still : Carried → Attrs → Bool
   still c ats = asked c (unhinted ats) (carries (ascii "xsi:schemaLocation") ats) (carries (ascii "xmlns:xsi") ats)
@@ -88,11 +88,11 @@ module _ (space : List ℕ) where
     unfolding noted
     step true is-l =
         ih (record { space = c .space; prefix = true; location = c .location; other = c .other })
-        ∙ ap (λ (z : Bool). not (c .other) && (cond (c .space) (noAttrs (unhinted ats)) (only (ascii "xmlns") space (unhinted ats)) && z))
+        ∙ ap (λ (z : Bool). not (c .other) && (cond (c .space) (isEmpty (unhinted ats)) (only (ascii "xmlns") space (unhinted ats)) && z))
         (or-yes (not (c .location || l)) ∙ sym (ap (λ (z : Bool). not (c .location || (is-l || l)) || z) (or-yes (c .prefix)) ∙ or-yes (not (c .location || (is-l || l)))))
     step false true =
         ih (record { space = c .space; prefix = c .prefix; location = true; other = c .other })
-        ∙ ap (λ (z : Bool). not (c .other) && (cond (c .space) (noAttrs (unhinted ats)) (only (ascii "xmlns") space (unhinted ats)) && (not z || (c .prefix || p))))
+        ∙ ap (λ (z : Bool). not (c .other) && (cond (c .space) (isEmpty (unhinted ats)) (only (ascii "xmlns") space (unhinted ats)) && (not z || (c .prefix || p))))
         (sym (or-yes (c .location)))
     step false false = other-step (c .space) (same (ascii "xmlns") (a .0) && same space (a .1)) refl
 

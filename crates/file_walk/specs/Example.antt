@@ -8,12 +8,13 @@ use Rattle.text.specs.Bytes.{ascii}
 use Rattle.list.specs.Listing.{ref, iban, ccy, bool, num, amt, date, dtm, txt, enum}
 use Rattle.xml.specs.Message.{Attrs, Inside, nothingInside, character, element}
 use Rattle.file_walk.specs.Types.{Judge}
+use Rattle.file_walk.specs.mirror.Machine.{Verdict, judgeBy}
 use Rattle.file_walk.specs.First as first
 use Rattle.file_walk.specs.declared.found.Found.{Found}
 use Rattle.file_walk.specs.declared.found.Found.the-variants.{Fine, Violation}
 
 -- a stand-in: every text but the empty one is a value of every type but NUM, which has none
-abbrev pub anyText : Judge
+abbrev pub anyText : Verdict
 anyText num w cs = false
 anyText ref w cs = not (first.isEmpty cs)
 anyText iban w cs = not (first.isEmpty cs)
@@ -24,6 +25,9 @@ anyText date w cs = not (first.isEmpty cs)
 anyText dtm w cs = not (first.isEmpty cs)
 anyText (txt k) w cs = not (first.isEmpty cs)
 anyText (enum ws) w cs = not (first.isEmpty cs)
+
+abbrev pub anyJudge : Judge
+anyJudge = judgeBy anyText
 
 -- an element without attributes, its `<` at a place, with its parts, and what follows it; characters; a leaf with its text; an amount
 abbrev pub el : ℕ → String → Inside → Inside → Inside

@@ -9,7 +9,7 @@ use Rattle.answer.specs.Table as table
 use Rattle.text.specs.Bytes.{ascii, isBlank}
 use Rattle.text.specs.Lists.{same}
 use Rattle.list.specs.Words.{has, firstFrom}
-use Rattle.list.specs.Listing.{Leaf, ref, iban, ccy, bool, num, amt, date, dtm, txt, enum, Kind, group, choice, leaf, Rule, both, Listing, rowAt, size, child, isGroup, isChoice, atMostOnce, required}
+use Rattle.list.specs.Listing.{Leaf, Kind, group, choice, leaf, Rule, both, Listing, rowAt, size, child, isGroup, atMostOnce, required}
 use Rattle.xml.specs.Message.{Attrs, Inside, nothingInside, character, element}
 use Rattle.file_walk.specs.declared.found.Found.{Found}
 use Rattle.file_walk.specs.declared.found.Found.the-variants.{Fine, Violation}
@@ -29,7 +29,7 @@ abbrev pub firstOf : List Found → Found
 firstOf [] = Fine
 firstOf (f ∷ fs) = orElse f (firstOf fs)
 
-abbrev pub isEmpty : List ℕ → Bool
+abbrev pub isEmpty : {A : Type 0} → List A → Bool
 isEmpty [] = true
 isEmpty (x ∷ xs) = false
 
@@ -77,39 +77,17 @@ bound ats = not (carries (ascii "xsi:schemaLocation") ats) || carries (ascii "xm
 abbrev pub rootAttrs : List ℕ → Attrs → Bool
 rootAttrs space ats = only (ascii "xmlns") space (unhinted ats) && bound ats
 
-abbrev pub noAttrs : Attrs → Bool
-noAttrs [] = true
-noAttrs (a ∷ ats) = false
-
 -- the characters of the one attribute that an amount has
 abbrev pub currencyGiven : Attrs → List ℕ
 currencyGiven [] = []
 currencyGiven (a ∷ ats) = a .1
 
 module _ (judge : Judge) where
-  -- "One attribute, Ccy, of type CCY"
-  abbrev pub oneCurrency : Attrs → Bool
-  oneCurrency [] = false
-  oneCurrency (a ∷ []) = same (ascii "Ccy") (a .0) && judge ccy [] (a .1)
-  oneCurrency (a ∷ b ∷ ats) = false
-
-  -- "exactly the type's"
-  abbrev pub leafAttrs : Leaf → Attrs → Bool
-  leafAttrs amt ats = oneCurrency ats
-  leafAttrs ref ats = noAttrs ats
-  leafAttrs iban ats = noAttrs ats
-  leafAttrs ccy ats = noAttrs ats
-  leafAttrs bool ats = noAttrs ats
-  leafAttrs num ats = noAttrs ats
-  leafAttrs date ats = noAttrs ats
-  leafAttrs dtm ats = noAttrs ats
-  leafAttrs (txt k) ats = noAttrs ats
-  leafAttrs (enum ws) ats = noAttrs ats
-
+  -- "below the root: attributes .. exactly the type's": of a group none
   abbrev pub attrsOk : Kind → Attrs → Bool
-  attrsOk group ats = noAttrs ats
-  attrsOk choice ats = noAttrs ats
-  attrsOk (leaf k) ats = leafAttrs k ats
+  attrsOk group ats = isEmpty ats
+  attrsOk choice ats = isEmpty ats
+  attrsOk (leaf k) ats = judge .attrs k ats
 
 module _ (l : Listing) where
   abbrev pub kindOf : ℕ → Kind
@@ -119,11 +97,12 @@ module _ (l : Listing) where
   abbrev pub isRoot : List ℕ → Attrs → Bool
   isRoot n ats = same (rowAt l 1 .name) n && rootAttrs (l .space) ats
 
-  -- "over its count, or second child in a choice"; seen: the rows of its earlier siblings, the latest first
-  abbrev pub overCount : Kind → List ℕ → ℕ → Bool
-  overCount group seen r = atMostOnce (rowAt l r .count) && has r seen
-  overCount choice seen r = not (isEmpty seen)
-  overCount (leaf k) seen r = false
+  -- 6, "later sibling already seen", and 7, "over its count, or second child in a choice" ("in a choice 6 isn't given"), by the parent's kind; seen: the
+  -- rows of its earlier siblings, the latest first
+  abbrev pub amongSiblings : Kind → List ℕ → ℕ → ℕ → Found
+  amongSiblings group seen r o = firstOf (refuse (passed r seen) (table.outOfOrder r o) ∷ refuse (atMostOnce (rowAt l r .count) && has r seen) (table.tooMany r o) ∷ [])
+  amongSiblings choice seen r o = refuse (not (isEmpty seen)) (table.tooMany r o)
+  amongSiblings (leaf k) seen r o = refuse (passed r seen) (table.outOfOrder r o)
 
   -- the lowest required child of p that is not among rs; 0 where there is none
   unfoldable pub absentRow : ℕ → List ℕ → ℕ
@@ -141,8 +120,7 @@ module _ (judge : Judge) (l : Listing) where
   abbrev pub opening : ℕ → List ℕ → ℕ → Attrs → ℕ → Found
   opening p seen r ats o = firstOf (
       refuse (eqb r 0) (table.notAChild p o) ∷
-      refuse (not (isChoice (kindOf l p)) && passed r seen) (table.outOfOrder r o) ∷
-      refuse (overCount l (kindOf l p) seen r) (table.tooMany r o) ∷
+      amongSiblings l (kindOf l p) seen r o ∷
       refuse (not (attrsOk judge (kindOf l r) ats)) (table.wrongAttributes r o) ∷ [])
 
   -- "a closing tag 11, 8, 12, 13": of a group with children of the rows rs; of a leaf with the characters cs
@@ -155,7 +133,7 @@ module _ (judge : Judge) (l : Listing) where
   abbrev pub leafEnd : Leaf → ℕ → ℕ → Attrs → List ℕ → Found
   leafEnd k r o ats cs = firstOf (
       refuse (isEmpty cs) (table.empty r o) ∷
-      refuse (not (judge k (currencyGiven ats) cs)) (table.badValue r o) ∷ [])
+      refuse (not (judge .value k (currencyGiven ats) cs)) (table.badValue r o) ∷ [])
 
   abbrev pub closing : Kind → ℕ → ℕ → Attrs → List ℕ → List ℕ → Found
   closing group r o ats rs cs = groupEnd r o rs
@@ -182,8 +160,8 @@ module _ (judge : Judge) (l : Listing) where
       inside 1 [] i ∷
       closing (kindOf l 1) 1 o ats (childRows l 1 i) (textOf i) ∷ [])
 
--- f is what is found first in a message. "value breaks its type", "bad Ccy": a judge says yes exactly where some value is spelt; who judges does not
--- matter (`first-one`)
+-- f is what is found first in a message. "value breaks its type", "attributes not exactly the type's, or bad Ccy": a judge says yes exactly where the
+-- relations hold; who judges does not matter (`first-one`)
 pub record First (t : Types) (l : Listing) (m : Inside) (f : Found) : Type 0 where
   pub judge : Judge
   pub decides : Decides t judge

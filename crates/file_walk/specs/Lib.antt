@@ -5,8 +5,6 @@ pub mod Types
 pub mod First
 -- which content a message has
 pub mod Denotes
--- kinds by their numbers
-pub mod Numbers
 -- messages against the house list, with their first violations
 pub mod Example
 -- mirrors, which say how the code goes

@@ -1,8 +1,6 @@
-// The walk: a message against any well-formed list, lent as tables, in document order.
-pub mod level; // level.rt: an open element, and the stack of those around it
+// The walk over a message, against any well-formed list, in document order: what it is, and what its steps say to each other. The steps
+// themselves are code of the crates above: `file_root`, `file_tag`, `file_step`.
+pub mod level; // level.rt: an open element
 pub mod found; // found.rt: what the tests of a tag find
-pub mod tag; // tag.rt: the tests of a tag
-pub mod attributes; // attributes.rt: the attributes of a tag below the root
-mod hints; // hints.rt: the root's attributes
-pub mod step; // step.rt: one step, over a text and the tag after it
-pub mod begin; // begin.rt: the root's tag
+pub mod hints; // hints.rt: what stands among the root's attributes
+pub mod step; // step.rt: where the walk stands, and what a step meets

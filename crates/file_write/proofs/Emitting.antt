@@ -21,16 +21,16 @@ use Rattle.list.specs.Table.{cell, kindOf, wordsIn, listOf}
 use Rattle.list.specs.Sound.{wordCount, Sound}
 use Rattle.list.proofs.rows.Rows.{size-is, parent-is, kind-is}
 use Rattle.value.specs.Value.{Value, IsValue, bytes as valued}
-use Rattle.value_to_text.specs.Script.{scriptOf}
-use Rattle.value_from_bytes.specs.Stands.{taken}
-use Rattle.value_from_bytes.specs.mirror.Ends.{width}
-use Rattle.value_from_bytes.proofs.Meaning.{ends-one}
+use Rattle.value.specs.Script.{scriptOf}
+use Rattle.value.specs.Stands.{taken}
+use Rattle.value.specs.mirror.Ends.{width}
+use Rattle.value.proofs.stored.Meaning.{ends-one}
 use Rattle.xml.specs.House.{render}
 use Rattle.image.specs.Image.{Item, valueBytes, itemsBytes, body}
 use Rattle.image.specs.Kinds.{values}
 use Rattle.image.specs.Place.{Holds}
 use Rattle.image.specs.mirror.Follow.{OfKind, ItemOk}
-use Rattle.file_walk.specs.Numbers.{isGroupIn}
+use Rattle.list.specs.Numbers.{isGroupIn}
 use Rattle.file_walk.proofs.bytes.Sound.{group-in}
 use Rattle.file_letter.specs.Letter.{textIn, coinOf, wordsIn as inWords, letterOf}
 use Rattle.file_letter.specs.mirror.Tell.{opens, shuts, closes, tell}

@@ -17,11 +17,11 @@ use Rattle.text.proofs.Puts.{puts-then, puts-as}
 use Rattle.list.specs.Listing.{Leaf, ref, iban, ccy, bool, num, amt, date, dtm, txt, enum, Kind, group, choice, leaf}
 use Rattle.list.specs.Table.{cell, kindOf, nameIn, wordsIn}
 use Rattle.value.specs.Value.{Value, IsValue, bytes}
-use Rattle.value_to_text.specs.Script.{scriptOf}
-use Rattle.value_to_text.specs.Raw.{rawOf}
-use Rattle.value_to_text.specs.mirror.Stored.{rawAt}
-use Rattle.value_to_text.proofs.Meaning.{currency-first, put-value}
-use Rattle.value_from_bytes.proofs.Numbered.{by-kind}
+use Rattle.value.specs.Script.{scriptOf}
+use Rattle.value.specs.Raw.{rawOf}
+use Rattle.value.specs.mirror.Stored.{rawAt}
+use Rattle.value.proofs.script.Meaning.{currency-first, put-value}
+use Rattle.value.proofs.stored.Numbered.{by-kind}
 use Rattle.file_letter.proofs.Good.{text-raw}
 use Rattle.file_write.specs.mirror.Tags.{startIn, openIn, shutIn, coinIn}
 use Rattle.file_write.specs.mirror.Emit.{coinText, coinAt, ValueAt, leafIn}

@@ -10,8 +10,6 @@ use lib.Dec.{eqb}
 use lib.Seq.{drop-drop, slice}
 use borrow.Author.Tests.{eq-eqb, ne-eqb, eqb-true}
 use lib.ListN.{length, getD, take, drop, length-append}
-use Rattle.answer.specs.declared.Answer.{Answer}
-use Rattle.answer.specs.Table.{tooFine, retired}
 use Rattle.text.specs.Bytes.{isNameStart, isNamePart}
 use Rattle.text.specs.Lists.{Begins}
 use Rattle.text.specs.Numbers.{bigEndian, number}
@@ -24,14 +22,16 @@ use Rattle.list.proofs.rows.Rows.{size-is, name-is}
 use Rattle.value.specs.Value.{Value, text, place, truth, natural, amount, day, moment, IsValue, bytes as valued}
 use Rattle.value.specs.Rules.{InThousandths}
 use Rattle.value.specs.Kind.{code}
-use Rattle.value_from_bytes.specs.mirror.Ends.{width}
-use Rattle.value_to_text.proofs.Meaning.{kind-number}
+use Rattle.value.specs.mirror.Ends.{width}
+use Rattle.value.proofs.script.Meaning.{kind-number}
 use Rattle.image.specs.Image.{Item, valueBytes, itemBytes, itemsBytes}
 use Rattle.image.specs.Kinds.{values}
-use Rattle.file_walk.specs.Numbers.{isGroupIn}
+use Rattle.list.specs.Numbers.{isGroupIn}
+use Rattle.file_letter.proofs.Meeting.{finer-none, finer-not, not-finer}
 use Rattle.file_letter.specs.Stale.{NoneOf, FirstAt, Withdrawn, Finer}
+use Rattle.file_answers.specs.Answers.{goneBy}
 use Rattle.file_write.specs.mirror.Emit.{ValueAt}
-use Rattle.file_write.specs.mirror.Stale.{goneBy, finerBy, notedBy, refusedBy, Lined, Searched, FirstFiner, clear, found, FirstStale, lost, kept, Stale}
+use Rattle.file_write.specs.mirror.Stale.{finerBy, notedBy, Lined, Searched, FirstFiner, clear, found, FirstStale, lost, kept, Stale}
 use Rattle.file_write.proofs.Standing.{inside, rest-there, Standing, stand-in, stand-end, Ahead, ahead, group-none, group-after, Leafed, leafed, value-at, end-is, leaf-after}
 
 -- ---- what is asked of a value's bytes
@@ -100,10 +100,6 @@ module _ (t pool : List ℕ) (x : ℕ) (lo : 0 < x) (hi : x ≤ size (listOf t p
   unfolding goneBy
   gone-not e g = true≢false (sym (eq-eqb (length (nameIn t pool x)) 0 (ap length (sym name-there ∙ g))) ∙ e)
 
-pub gone-test : (t pool : List ℕ) (r a b n : ℕ) → a ≡ cell t r 4 → b ≡ cell t r 5 → n ≡ length (slice a b pool) → eqb n 0 ≡ goneBy t pool r
-unfolding goneBy
-gone-test t pool r a b n ea eb en = ap (λ (k : ℕ). eqb k 0) (en ∙ ap₂ (λ (u v : ℕ). length (slice u v pool)) ea eb)
-
 -- ---- what is noted
 
 pub noted-before : (f k : ℕ) (run : List ℕ) (i : ℕ) → f ≢ 0 → f ≡ notedBy f k run i
@@ -120,19 +116,6 @@ module _ (f k : ℕ) (run : List ℕ) (i : ℕ) (z : f ≡ 0) (c : Bool) (e : c 
 
   pub noted-nowhere : c ≡ false → 0 ≡ notedBy f k run i
   noted-nowhere q = sym (noted-by ∙ ap (λ (x : Bool). cond x i 0) q)
-
--- ---- what is answered
-
-module _ (t pool : List ℕ) (r p : ℕ) (g : Bool) (e : g ≡ goneBy t pool r) (a : Answer) where
-  refused-by : refusedBy t pool r p ≡ cond g (retired r p) (tooFine r p)
-  unfolding refusedBy
-  refused-by = ap (λ (x : Bool). cond x (retired r p) (tooFine r p)) (sym e)
-
-  pub refused-gone : g ≡ true → a ≡ retired r p → a ≡ refusedBy t pool r p
-  refused-gone q h = h ∙ sym (refused-by ∙ ap (λ (x : Bool). cond x (retired r p) (tooFine r p)) q)
-
-  pub refused-finer : g ≡ false → a ≡ tooFine r p → a ≡ refusedBy t pool r p
-  refused-finer q h = h ∙ sym (refused-by ∙ ap (λ (x : Bool). cond x (retired r p) (tooFine r p)) q)
 
 none-then : (P : Item values → Type 0) (is : List (Item values)) (j : Item values) → NoneOf P is → (P j → ⊥) → NoneOf P (is ++ (j ∷ []))
 none-then P [] j h k = (k, tt)
@@ -209,7 +192,7 @@ module _ (t pool : List ℕ) where
       passed = (1, none) ∷ [];
       are = refl;
       clean = ((λ g. subst (Begins isNameStart isNamePart) g (so .well .rootName)), tt);
-      noted = clear refl ((λ f. f), tt);
+      noted = clear refl (finer-none 1, tt);
       place = omega (arith, ap (λ (k : Kind). length (valueBytes values l k none)) (so .well .root .1), ap length (append-nil (itemBytes values l (1, none))));
       late = omega arith;
     }
@@ -259,7 +242,7 @@ module _ (t pool : List ℕ) where
                 passed = w .passed ++ ((x, h .val) ∷ []);
                 are = onto;
                 clean = cleaner;
-                noted = noted-on l run from (w .passed) (x, h .val) f (subst (λ (v : Option Value). Finer (x, v) → ⊥) (sym (o .0)) (λ f. f)) (w .noted);
+                noted = noted-on l run from (w .passed) (x, h .val) f (subst (λ (v : Option Value). Finer (x, v) → ⊥) (sym (o .0)) (finer-none x)) (w .noted);
                 place = omega (arith, w .place, bytes-then (w .passed) (x, h .val), ap length (o .1));
                 late = omega (arith, w .late);
               }
@@ -283,8 +266,8 @@ module _ (t pool : List ℕ) where
                     clean = cleaner;
                     noted =
                         noted-leaf l run from (w .passed) (x, h .val) (cell t x 2) f g′ i eg (omega (arith, w .late)) (stand-in t pool so run i (w .stands)) ex (w .place)
-                        (λ z. subst (λ (v : Option Value). Finer (x, v)) (sym (its .some′)) (asked .so′ z))
-                        (λ z. subst (λ (v : Option Value). Finer (x, v) → ⊥) (sym (its .some′)) (λ k. k (asked .not′ z))) (w .noted);
+                        (λ z. subst (λ (v : Option Value). Finer (x, v)) (sym (its .some′)) (not-finer x (its .val) (asked .so′ z)))
+                        (λ z. subst (λ (v : Option Value). Finer (x, v) → ⊥) (sym (its .some′)) (λ k. finer-not x (its .val) k (asked .not′ z))) (w .noted);
                     place = omega (arith, w .place, bytes-then (w .passed) (x, h .val), ap length v, d);
                     late = omega (arith, w .late, d);
                   }

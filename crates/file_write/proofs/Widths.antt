@@ -3,8 +3,8 @@ use mathlib.Core.Path.{_≡_, refl}
 use mathlib.Core.List.{List}
 use Prim.Native.Nat.{ℕ, _≤_}
 use native.Mathlib.Omega.{arith}
-use Rattle.value_from_bytes.specs.mirror.Ends.{width}
-use Rattle.value_from_bytes.proofs.Numbered.{by-kind}
+use Rattle.value.specs.mirror.Ends.{width}
+use Rattle.value.proofs.stored.Numbered.{by-kind}
 
 module _ (t : List ℕ) where
   -- ENUM and BOOL

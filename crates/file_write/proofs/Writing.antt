@@ -41,8 +41,10 @@ use Rattle.file_letter.specs.Writes.{askedIn, letterIn, itemsIn, large, short, 
 use Rattle.file_letter.specs.Stale.{NoneOf, FirstAt, Withdrawn, Finer}
 use Rattle.file_letter.proofs.Has.{Rooted, rooted}
 use Rattle.file_letter.proofs.Present.{meets-present}
+use Rattle.file_answers.specs.Answers.{goneBy, refusedBy, sizedBy}
+use Rattle.file_answers.proofs.Answering.{sized-refused, sized-accepted}
 use Rattle.file_write.specs.mirror.Emit.{Held, Emits}
-use Rattle.file_write.specs.mirror.Stale.{goneBy, refusedBy, ItemOf, Lined, Searched, clear, found, FirstStale, lost, kept, Stale}
+use Rattle.file_write.specs.mirror.Stale.{ItemOf, Lined, Searched, clear, found, FirstStale, lost, kept, Stale}
 use Rattle.file_write.proofs.Standing.{fine-in}
 use Rattle.file_write.proofs.Passing.{gone-so, gone-not}
 
@@ -265,24 +267,23 @@ module _ (run : List ℕ) (x : Reading) (b : Begun run x) where
         write-long d q d′ e = puts-file d q d′ e .long
 
         -- n bytes by the pass that measures
-        module _ (d₁ : List ℕ) (n : ℕ) (d₂ : List ℕ) (e : Emits t p run (x .from) d₁ n d₂) (d : List ℕ) (a : Answer) where
+        module _ (d₁ : List ℕ) (n : ℕ) (d₂ : List ℕ) (e : Emits t p run (x .from) d₁ n d₂) (d : List ℕ) (a : Answer) (told-size : a ≡ sizedBy n (length d)) where
           length-is : n ≡ length file
           length-is = let f = puts-file d₁ n d₂ e in omega (arith, f .behind)
 
-          pub write-large : limit < n → a ≡ tooLarge n → Writes run d a d
+          pub write-unfit : a .code ≢ 0 → Writes run d a d
           unfolding file
-          write-large h q = begun (o .lim) (o .long) (o .image) (clear-of .0) (clear-of .1) (large (omega (arith, length-is)) (q ∙ ap tooLarge length-is) refl)
+          write-unfit =
+              sized-refused n (length d) a told-size (λ (b : Answer). Writes run d b d)
+              (λ h. begun (o .lim) (o .long) (o .image) (clear-of .0) (clear-of .1) (large (omega (arith, length-is)) (ap tooLarge length-is) refl))
+              (λ h k. begun (o .lim) (o .long) (o .image) (clear-of .0) (clear-of .1) (short (omega (arith, length-is)) (omega (arith, length-is)) (ap noRoom length-is) refl))
 
-          module _ (h : n ≤ limit) where
-            pub write-short : length d < n → a ≡ noRoom n → Writes run d a d
-            unfolding file
-            write-short k q = begun (o .lim) (o .long) (o .image) (clear-of .0) (clear-of .1) (short (omega (arith, length-is)) (omega (arith, length-is)) (q ∙ ap noRoom length-is) refl)
-
-            pub write-whole : n ≤ length d → a ≡ accepted n → (q : ℕ) (d′ : List ℕ) → Emits t p run (x .from) d q d′ → Writes run d a d′
-            unfolding file
-            write-whole k q v d′ f =
-                let k′ = puts-file d v d′ f in
-                let zero-on : 0 + length file ≡ length file = omega arith in
-                begun (o .lim) (o .long) (o .image) (clear-of .0) (clear-of .1)
-                (delivered (omega (arith, length-is)) (omega (arith, length-is)) (q ∙ ap accepted length-is)
-                (k′ .is (omega (arith, length-is)) ∙ pasted-yes d 0 file (omega (arith, length-is)) ∙ ap (λ (j : ℕ). file ++ drop j d) zero-on))
+          pub write-whole : a .code ≡ 0 → (q : ℕ) (d′ : List ℕ) → Emits t p run (x .from) d q d′ → Writes run d a d′
+          unfolding file
+          write-whole z v d′ f =
+              let g = sized-accepted n (length d) a told-size z in
+              let k′ = puts-file d v d′ f in
+              let zero-on : 0 + length file ≡ length file = omega arith in
+              begun (o .lim) (o .long) (o .image) (clear-of .0) (clear-of .1)
+              (delivered (omega (arith, length-is, g .0)) (omega (arith, length-is, g .1 .0)) (g .1 .1 ∙ ap accepted length-is)
+              (k′ .is (omega (arith, length-is, g .1 .0)) ∙ pasted-yes d 0 file (omega (arith, length-is, g .1 .0)) ∙ ap (λ (j : ℕ). file ++ drop j d) zero-on))

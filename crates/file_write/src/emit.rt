@@ -4,15 +4,15 @@ use crate::close::close_to;
 use crate::leaf::put_leaf;
 use crate::put::put_open;
 use crate::put::put_root;
-use file_walk::tag::is_group;
+use list::kind::is_group;
 use list::lookup::cell;
 use list::table::KIND;
 use list::table::PARENT;
-use text::number::get16;
+use text_bytes::number::get16;
 ghost use mathlib.Core.Path.{_≡_};
 ghost use Prim.Native.Nat.{_+_, _≤_};
 ghost use lib.ListN.{drop};
-ghost use Rattle.value_from_bytes.specs.mirror.Ends.{width};
+ghost use Rattle.value.specs.mirror.Ends.{width};
 ghost use Rattle.file_write.specs.mirror.Emit.{Held, Emits};
 
 pub(crate) fn wide(x: u8) -> usize

@@ -2,12 +2,13 @@
 use answer::Answer;
 use emit::emit;
 use emit::wide;
-use image_reading::first::reading;
+use file_answers::refusal;
+use file_answers::sized;
+use image_first::reading;
 use list::lay::lay;
 use list_house::by_byte::rows_of;
 use list_house::tables::pool;
 use stale::first_stale;
-use stale::refusal;
 ghost use Rattle.file_letter.specs.Writes.{Writes};
 
 mod put; // put.rt: tags, put at a place
@@ -34,13 +35,10 @@ pub fn write(run: &[u8], out: &mut [u8]) -> Answer
     }
     let mut nothing = [0u8; 1];
     let n = emit(&table, &pool, run, read.from, &mut nothing);
-    let room = out.len();
-    if Answer::LIMIT < n {
-        return Answer::too_large(n);
-    }
-    if room < n {
-        return Answer::no_room(n);
+    let answer = sized(n, out.len());
+    if answer.code != Answer::ACCEPTED {
+        return answer;
     }
     emit(&table, &pool, run, read.from, out);
-    Answer::accepted(n)
+    answer
 }

@@ -1,26 +1,16 @@
 // What an image may hold and a file may not say any more: the first item of a row that is gone, or else the first finer date-time.
 use crate::emit::after;
 use crate::emit::wide;
-use answer::Answer;
-use file_walk::tag::is_group;
+use file_answers::is_gone;
+use list::kind::is_group;
 use list::lookup::cell;
 use list::table::DTM;
 use list::table::KIND;
-use list::table::NAME;
-use list::table::NAME_END;
-use text::number::get32;
-use text::part::part_len;
+use text_bytes::number::get32;
 ghost use mathlib.Core.Path.{_≡_};
 ghost use Prim.Native.Nat.{_≤_};
-ghost use Rattle.file_write.specs.mirror.Stale.{finerBy, goneBy, notedBy, refusedBy, Searched, Stale};
+ghost use Rattle.file_write.specs.mirror.Stale.{finerBy, notedBy, Searched, Stale};
 ghost use lib.ListN.{drop};
-
-// A row without a name: no file may have it any more.
-fn is_gone(rows: &[u16], pool: &[u8], row: usize) -> bool
-    ensures { λ r. ⌜ r ≡ goneBy (now (rows .entry)) (now (pool .entry)) row ⌝ }
-{
-    part_len(pool, cell(rows, row, NAME), cell(rows, row, NAME_END)) == 0
-}
 
 // A date-time, whose bytes stand from i on, with a part of a second below a thousandth: its microseconds have the bytes 7 to 10.
 fn is_finer(kind: usize, run: &[u8], i: usize) -> bool
@@ -71,14 +61,4 @@ pub(crate) fn first_stale(rows: &[u16; 4096], pool: &[u8], run: &[u8], from: usi
             i = after(kind, run, i + 1);
         }
     }
-}
-
-// What is answered for the item of that row at that place.
-pub(crate) fn refusal(rows: &[u16; 4096], pool: &[u8], row: usize, place: usize) -> Answer
-    ensures { λ a. ⌜ a ≡ refusedBy (now (rows .entry)) (now (pool .entry)) row place ⌝ }
-{
-    if is_gone(rows, pool, row) {
-        return Answer::retired(row, place);
-    }
-    Answer::too_fine(row, place)
 }

@@ -2,9 +2,9 @@
 // picked, in hexadecimal. A run stands after 13 bytes: 1 for a read or 2 for a pick, then the row, the n and the run's length, each
 // in 32 bits, little-endian. The answers that it is held to were computed by another program.
 use answer::Answer;
-use image_reading::first::pick;
-use image_reading::first::picked;
-use image_reading::first::read;
+use image_first::pick;
+use image_first::picked;
+use image_first::read;
 use libc::STDIN_FILENO;
 use libc::STDOUT_FILENO;
 ghost use Prim.Native.Nat.{_<_};

@@ -6,8 +6,8 @@ use libc::STDOUT_FILENO;
 use list::word::word_place;
 use list_house::by_byte::REPORT;
 use list_house::by_byte::rows_of;
-use text::number::get16;
-use value_to_bytes::write::write;
+use text_bytes::number::get16;
+use value_kinds::write::write;
 ghost use Prim.Native.Nat.{_<_};
 
 fn digit(n: u8) -> u8 {

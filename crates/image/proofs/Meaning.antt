@@ -23,10 +23,10 @@ use Rattle.image.specs.Pick.{Selects}
 use Rattle.image.specs.Means.{ItemEnds, Told, SelectsAnswer, SelectsPart}
 use Rattle.image.specs.mirror.Follow.{OfKind, ItemOk}
 use Rattle.image.specs.mirror.Step.{isLeaf}
-use Rattle.value_from_bytes.specs.mirror.Ends.{valueEnd}
-use Rattle.value_from_bytes.specs.Stands.{Ends}
-use Rattle.value_from_bytes.proofs.Numbered.{by-kind}
-use Rattle.value_from_bytes.proofs.Meaning.{end-none, end-some, ends}
+use Rattle.value.specs.mirror.Ends.{valueEnd}
+use Rattle.value.specs.Stands.{Ends}
+use Rattle.value.proofs.stored.Numbered.{by-kind}
+use Rattle.value.proofs.stored.Meaning.{end-none, end-some, ends}
 use Rattle.image.specs.mirror.Ends.{itemEnd}
 use Rattle.image.specs.mirror.Run.{Behind, headOf, Chooses, Answered, Handed}
 use Rattle.image.proofs.content.Rows.{well}

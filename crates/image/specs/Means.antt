@@ -8,7 +8,7 @@ use Rattle.answer.specs.declared.Answer.{Answer}
 use Rattle.list.specs.Listing.{Leaf, leaf, size, rowAt, isGroup}
 use Rattle.list.specs.Table.{listOf}
 use Rattle.list.specs.Sound.{Sound}
-use Rattle.value_from_bytes.specs.Stands.{Ends}
+use Rattle.value.specs.Stands.{Ends}
 use Rattle.image.specs.Kinds.{values}
 use Rattle.image.specs.Place.{Holds, Tells}
 use Rattle.image.specs.Count.{Taken}

@@ -13,7 +13,6 @@
 // The functions that have a `Held` only make it or take it apart; the work is done by the others, on the slice and the place. A caller that
 // keeps the place itself, and has no `Held`, goes by `next_at`.
 use answer::Answer;
-use image_reading::first;
 ghost use mathlib.Core.Path.{_≡_};
 ghost use Prim.Native.Nat.{_≤_};
 ghost use lib.ListN.{length, drop};
@@ -48,7 +47,7 @@ fn rest(run: &[u8], at: usize) -> &[u8]
 pub(crate) fn read_at(run: &[u8], at: usize) -> Step
     ensures { λ r. ⌜ Steps (now (run .entry)) at r ⌝ }
 {
-    let a = first::read(rest(run, at));
+    let a = image_first::read(rest(run, at));
     if a.code != Answer::ACCEPTED {
         return Step { answer: a, at };
     }
@@ -62,14 +61,14 @@ pub(crate) fn read_at(run: &[u8], at: usize) -> Step
 pub(crate) fn pick_at(run: &[u8], at: usize, row: usize, n: usize) -> Answer
     ensures { λ a. ⌜ HouseAnswers (drop at (now (run .entry))) row n a ⌝ }
 {
-    first::pick(rest(run, at), row, n)
+    image_first::pick(rest(run, at), row, n)
 }
 
 // Its part.
 pub(crate) fn picked_at(run: &[u8], at: usize, row: usize, n: usize) -> &[u8]
     ensures { λ s. ⌜ HeldPicked (run .entry) at row n s ⌝ }
 {
-    first::picked(rest(run, at), row, n)
+    image_first::picked(rest(run, at), row, n)
 }
 
 // At the start of a run.

@@ -1,8 +1,8 @@
 // What stands at a place of an image, judged alone, by the list that the header of the image says. Who goes over the items of an image so
 // pays for each once, and knows of each value in which group it stands.
 use answer::Answer;
-use image::picker::head;
-use image::reader::item_end;
+use image_picker::head;
+use image_reader::item_end;
 use image_reading::front::head_of;
 use list::lookup::cell;
 use list::table::SIZE;

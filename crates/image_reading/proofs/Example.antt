@@ -12,23 +12,24 @@ use Rattle.answer.specs.Table.{accepted, brokenImage, picked}
 use Rattle.text.specs.Bytes.{ascii, isCapital}
 use Rattle.text.specs.Numbers.{bigEndian, numberFrom}
 use Rattle.text_characters.specs.mirror.Decoding.{decoded}
+use Rattle.list.specs.Numbers.{isGroupIn}
 use Rattle.list.specs.Table.{cell, listOf}
 use Rattle.list_house.specs.mirror.HouseTable.{storedHouseRows, housePool}
 use Rattle.list_house.specs.mirror.Rows.{keptRows}
 use Rattle.list_house.proofs.HouseSound.{storedHouse-sound}
 use Rattle.list_house.proofs.Lists.{stored-is}
 use Rattle.value.specs.Text.{isRef, isTxt}
-use Rattle.value_from_bytes.specs.mirror.Tests.{isByte, every, some as any, apart as slashes}
-use Rattle.value_from_bytes.specs.mirror.Chars.{charsFrom}
-use Rattle.value_from_bytes.specs.mirror.Judges.{isReference, textFrom, isWriting, isCurrency, isPlace, isAmount, isReal, isDay, isMoment}
-use Rattle.value_from_bytes.specs.mirror.Ends.{head, width, isValue, begins, valueEnd}
+use Rattle.value.specs.mirror.Tests.{isByte, every, some as any, apart as slashes}
+use Rattle.value.specs.mirror.Chars.{charsFrom}
+use Rattle.value.specs.mirror.Judges.{isReference, textFrom, isWriting, isCurrency, isPlace, isAmount, isReal, isDay, isMoment}
+use Rattle.value.specs.mirror.Ends.{head, width, isValue, begins, valueEnd}
 use Rattle.image.specs.mirror.Step.{isLeaf, again, owed, before, mated, inOrder, beside, inside, climbs, follows, rests, ended}
 use Rattle.image.specs.mirror.Ends.{itemEnd}
 use Rattle.image.specs.mirror.Run.{Turn, stop, next, Comes, halts, moves, steps, closing, headOf, turn, Behind, rooted, hunt, leaves, found}
 use Rattle.image.specs.Example.{printedBody, printed, written}
 use Rattle.image_reading.specs.Reads.{HouseReads, HouseCounts, HousePicks}
-use Rattle.image_reading.specs.Forms.{Begun}
-use Rattle.image_reading.specs.mirror.Front.{versionOf, Starts, Fronts}
+use Rattle.image_reading.specs.Forms.{Begun, Fronts}
+use Rattle.image_reading.specs.mirror.Front.{versionOf, Starts}
 use Rattle.image_reading.specs.declared.front.Reading.{Reading}
 use Rattle.image_reading.proofs.Heads.{good-kind}
 use Rattle.image_reading.proofs.House.{Says, starts-former, starts-current, front-starts, begins-with, begins-not, begun-reads, begun-counts, begun-picks}
@@ -72,11 +73,11 @@ abbrev Read : List ℕ → ℕ → Answer → ℕ → Type 0
 Read s i a n = (turns (turn storedHouseRows (itemEnd storedHouseRows s) s) 30 1 i ≡ some a) × (paces (turn storedHouseRows (itemEnd storedHouseRows s) s) 30 1 i ≡ n)
 
 printed-turns : Read printed 6 (accepted 67) 18 × Read (take 66 printed) 6 (brokenImage 66) 18
-unfolding printedBody printed turn hunt headOf follows ended isLeaf again owed before mated inOrder beside inside climbs rests cell storedHouseRows itemEnd valueEnd begins isValue width head isReference textFrom isWriting isCurrency isPlace isAmount isReal isDay isMoment charsFrom isByte every any slashes turns paces numberFrom isRef isTxt decoded isCapital
+unfolding printedBody printed turn hunt headOf follows ended isLeaf isGroupIn again owed before mated inOrder beside inside climbs rests cell storedHouseRows itemEnd valueEnd begins isValue width head isReference textFrom isWriting isCurrency isPlace isAmount isReal isDay isMoment charsFrom isByte every any slashes turns paces numberFrom isRef isTxt decoded isCapital
 printed-turns = ((refl, refl), (refl, refl))
 
 written-turns : Read written 7 (accepted 68) 18 × Read (take 67 written) 7 (brokenImage 67) 18
-unfolding printedBody written turn hunt headOf follows ended isLeaf again owed before mated inOrder beside inside climbs rests cell storedHouseRows itemEnd valueEnd begins isValue width head isReference textFrom isWriting isCurrency isPlace isAmount isReal isDay isMoment charsFrom isByte every any slashes turns paces numberFrom isRef isTxt decoded isCapital
+unfolding printedBody written turn hunt headOf follows ended isLeaf isGroupIn again owed before mated inOrder beside inside climbs rests cell storedHouseRows itemEnd valueEnd begins isValue width head isReference textFrom isWriting isCurrency isPlace isAmount isReal isDay isMoment charsFrom isByte every any slashes turns paces numberFrom isRef isTxt decoded isCapital
 written-turns = ((refl, refl), (refl, refl))
 
 -- the picker, over items from a place on: where the value of the n-th leaf of row r stands, and its part
@@ -95,14 +96,14 @@ abbrev balance : List ℕ
 balance = 0x45 ∷ 0x55 ∷ 0x52 ∷ 0x00 ∷ 0x00 ∷ 0x00 ∷ 0x00 ∷ 0x00 ∷ 0x00 ∷ 0x00 ∷ 0x00 ∷ 0x05 ∷ []
 
 printed-found : Found printed 5 4 0 9 (picked 4 11) identified × Found printed 5 19 0 46 (picked 19 46) balance
-unfolding printedBody printed turn hunt headOf follows ended isLeaf again owed before mated inOrder beside inside climbs rests cell storedHouseRows itemEnd valueEnd begins isValue width head isReference textFrom isWriting isCurrency isPlace isAmount isReal isDay isMoment charsFrom isByte every any slashes turns paces numberFrom isRef isTxt decoded isCapital
+unfolding printedBody printed turn hunt headOf follows ended isLeaf isGroupIn again owed before mated inOrder beside inside climbs rests cell storedHouseRows itemEnd valueEnd begins isValue width head isReference textFrom isWriting isCurrency isPlace isAmount isReal isDay isMoment charsFrom isByte every any slashes turns paces numberFrom isRef isTxt decoded isCapital
 printed-found = (
   record { leafy = refl; hunts = refl; some′ = omega arith; says = refl; holds = refl },
   record { leafy = refl; hunts = refl; some′ = omega arith; says = refl; holds = refl },
 )
 
 written-found : Found written 6 4 0 10 (picked 4 12) identified × Found written 6 19 0 47 (picked 19 47) balance
-unfolding printedBody written turn hunt headOf follows ended isLeaf again owed before mated inOrder beside inside climbs rests cell storedHouseRows itemEnd valueEnd begins isValue width head isReference textFrom isWriting isCurrency isPlace isAmount isReal isDay isMoment charsFrom isByte every any slashes turns paces numberFrom isRef isTxt decoded isCapital
+unfolding printedBody written turn hunt headOf follows ended isLeaf isGroupIn again owed before mated inOrder beside inside climbs rests cell storedHouseRows itemEnd valueEnd begins isValue width head isReference textFrom isWriting isCurrency isPlace isAmount isReal isDay isMoment charsFrom isByte every any slashes turns paces numberFrom isRef isTxt decoded isCapital
 written-found = (
   record { leafy = refl; hunts = refl; some′ = omega arith; says = refl; holds = refl },
   record { leafy = refl; hunts = refl; some′ = omega arith; says = refl; holds = refl },

@@ -37,8 +37,8 @@ use Rattle.image.proofs.types.Lawful.{lawful}
 use Rattle.image.proofs.Meaning.{body-means, body-some, pick-means}
 use Rattle.image.proofs.answers.Some.{picks-some}
 use Rattle.image_reading.specs.Reads.{stored, HouseAccepts, HouseReads, HouseCounts, HousePicks, HouseAnswers, HouseHands}
-use Rattle.image_reading.specs.Forms.{Headed, bare, leads, Begun, refuses, accepts}
-use Rattle.image_reading.specs.mirror.Front.{Kto, Named, versionOf, KindByte, Starts, Fronts, nothing, headed}
+use Rattle.image_reading.specs.Forms.{Headed, bare, leads, Fronts, nothing, headed, Begun, refuses, accepts}
+use Rattle.image_reading.specs.mirror.Front.{Kto, Named, versionOf, KindByte, Starts}
 use Rattle.image_reading.specs.declared.front.Reading.{Reading}
 use Rattle.image_reading.proofs.Heads.{version-first, version-second, not-first, not-second, named-some, kind-told, kind-none, kind-some, kind-header}
 

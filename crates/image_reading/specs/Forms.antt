@@ -15,6 +15,11 @@ pub data Headed (run : List ℕ) (kind from : ℕ) : Type 0 where
   bare : ((l : Listing) → Among l stored → (h s : List ℕ) → Front l h → run ≡ h ++ s → ⊥) → kind ≡ 0 → from ≡ 0 → Headed run kind from
   leads : (l : Listing) → Among l stored → (h s : List ℕ) → Front l h → run ≡ h ++ s → kind ≡ l .byte → from ≡ length h → Headed run kind from
 
+-- up to the items: no image begins here, or one of the list of this kind byte may, whose items begin after its header
+pub data Fronts (run : List ℕ) (r : Reading) : Type 0 where
+  nothing : HouseReads run (r .answer) → r .answer .code ≢ 0 → r .kind ≡ 0 → r .from ≡ 0 → HouseCounts run (r .answer) (r .count) → Fronts run r
+  headed : length run ≤ limit → (l : Listing) → Among l stored → (h s : List ℕ) → Front l h → run ≡ h ++ s → r .kind ≡ l .byte → r .from ≡ length h → Fronts run r
+
 -- the reader's answer and its count; of an image that it accepts, the kind byte of its list and where its items begin; of a refusal 0 and 0
 pub data Begun (run : List ℕ) (r : Reading) : Type 0 where
   refuses : HouseReads run (r .answer) → r .answer .code ≢ 0 → r .kind ≡ 0 → r .from ≡ 0 → HouseCounts run (r .answer) (r .count) → Begun run r

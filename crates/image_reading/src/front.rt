@@ -5,8 +5,8 @@ ghost use mathlib.Core.Path.{_≡_};
 ghost use Prim.Native.Nat.{_≤_, _<_};
 ghost use lib.ListN.{length};
 ghost use Rattle.answer.specs.Table.{accepted};
-ghost use Rattle.image_reading.specs.Forms.{Headed};
-ghost use Rattle.image_reading.specs.mirror.Front.{Named, versionOf, KindByte, Starts, Fronts};
+ghost use Rattle.image_reading.specs.Forms.{Headed, Fronts};
+ghost use Rattle.image_reading.specs.mirror.Front.{Named, versionOf, KindByte, Starts};
 
 // What is told of the image that a run begins with: the answer, the kind byte of its list and where its items begin, 0 and 0 where none
 // begins there; and how many items were taken.
@@ -26,7 +26,7 @@ pub struct Head {
 // The kind byte of a statement, which version 1 leaves out.
 const STATEMENT: usize = 1;
 
-pub(crate) fn refused(answer: Answer, count: usize) -> Reading
+pub fn refused(answer: Answer, count: usize) -> Reading
     ensures { λ r. ⌜ (r .answer ≡ answer) × (r .kind ≡ 0) × (r .from ≡ 0) × (r .count ≡ count) ⌝ }
 {
     Reading {
@@ -124,7 +124,7 @@ pub fn head_of(run: &[u8]) -> Head
 }
 
 // All that is asked of a run before its items.
-pub(crate) fn front(run: &[u8]) -> Reading
+pub fn front(run: &[u8]) -> Reading
     ensures { λ r. ⌜ Fronts (now (run .entry)) r ⌝ }
 {
     if Answer::LIMIT < run.len() {

@@ -1,3 +1,2 @@
-// Images of the house list: the first one of a run is read, and picked from.
+// Images of the lists that stored ones keep to: what a reader and a picker answer, and how a run begins.
 pub mod front; // front.rt: how a run begins
-pub mod first; // first.rt: the image that it begins with

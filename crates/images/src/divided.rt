@@ -1,10 +1,10 @@
 // What the program writes: a run divided with the reader that holds its place.
 use answer::Answer;
+use image_first::reading;
 use image_hold::held::next_at;
-use image_reading::first::reading;
 use program_line::answer_line::put_refusal;
-use text::decimal::put;
-use text::number::copy;
+use text_bytes::number::copy;
+use text_digits::decimal::put;
 ghost use mathlib.Core.Path.{_≡_};
 ghost use Prim.Native.Nat.{_+_, _≤_};
 ghost use lib.ListN.{length, take};

@@ -6,10 +6,10 @@ use Prim.Native.Nat.{ℕ, _≤_}
 use native.Mathlib.Omega.{arith}
 use lib.ListN.{length, take}
 use Rattle.io.specs.Counts.{Counts}
-use Rattle.text.specs.Pasting.{pasted}
 use Rattle.answer.specs.declared.Answer.{Answer}
 use Rattle.program_line.specs.Line.{refusal}
-use Rattle.program_line.proofs.Lines.{line-taken, counts}
+use Rattle.program_outcome.specs.Outcome.{Outcome}
+use Rattle.program_outcome.proofs.Outcomes.{outcome-written, outcome-counts}
 use Rattle.image_reading.specs.Reads.{HouseReads}
 use Rattle.file.specs.Checks.{Checks}
 use Rattle.file.proofs.Rooms.{place-fits, reads-back, rooms-alike}
@@ -25,18 +25,25 @@ module _ (input d : List ℕ) where
 
   module _ (n : length d ≡ most) (a : Answer) (d′ : List ℕ) where
     -- longer input, or a refusal
-    pub says-refused : Answered input d a d′ → a .code ≢ 0 → (x : List ℕ) (r : ℕ) → r ≡ length (refusal a) → r ≤ length d′ → x ≡ pasted d′ 0 (refusal a) → Says input (take r x)
-    says-refused (over h e) z x r f g k = longer h (line-taken a d′ x r g k f ∙ ap refusal e)
-    says-refused (within h p b) z x r f g k = refusedInput h a d d′ n p z (line-taken a d′ x r g k f)
+    says-refused : Answered input d a d′ → a .code ≢ 0 → Says input (refusal a)
+    says-refused (over h e) z = longer h (ap refusal e)
+    says-refused (within h p b) z = refusedInput h a d d′ n p z refl
 
     -- an image
-    pub says-written : Answered input d a d′ → a .code ≡ 0 → Says input (take (a .place) d′)
+    says-written : Answered input d a d′ → a .code ≡ 0 → Says input (take (a .place) d′)
     says-written (over h e) z = absurd (omega (arith, ap (λ (x : Answer). x .code) e, z))
     says-written (within h p b) z = written h a d d′ n p z refl (b z)
 
-    pub image-counts : Answered input d a d′ → a .code ≡ 0 → length d′ ≡ length d → Counts (a .place) d′
-    image-counts (over h e) z l = absurd (omega (arith, ap (λ (x : Answer). x .code) e, z))
-    image-counts (within h p b) z l = counts _ _ (omega (arith, l, place-fits input d a d′ p z))
+    image-fits : Answered input d a d′ → a .code ≡ 0 → a .place ≤ most
+    image-fits (over h e) z = absurd (omega (arith, ap (λ (x : Answer). x .code) e, z))
+    image-fits (within h p b) z = omega (arith, n, place-fits input d a d′ p z)
+
+    -- the outcome of either
+    pub says : Answered input d a d′ → length d′ ≡ most → (r : ℕ) (x : List ℕ) → Outcome a d′ r x → Says input (take r x) × Counts r x
+    says w k r x o = (
+      outcome-written a d′ r x (omega (arith, k)) (Says input) (says-written w) (says-refused w) o,
+      outcome-counts a d′ r x (omega (arith, k)) (λ z. omega (arith, image-fits w z, k)) o,
+    )
 
 -- only one output fits
 pub says-one : (input u v : List ℕ) → Says input u → Says input v → u ≡ v

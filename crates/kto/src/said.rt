@@ -1,6 +1,6 @@
 // What the program writes: the image of a good file, read back before it is written, or one line.
 use answer::Answer;
-use program_line::answer_line::put_refusal;
+use program_outcome::outcome;
 use unit::check::check;
 use unit::read::read;
 ghost use mathlib.Core.Path.{_≡_};
@@ -45,8 +45,5 @@ pub(crate) fn said(input: &[u8], out: &mut [u8]) -> usize
     ensures within { λ r. ⌜ Counts r (now (out .exit)) ⌝ }
 {
     let a = answered(input, out);
-    if a.code == Answer::ACCEPTED {
-        return a.place;
-    }
-    put_refusal(out, 0, a)
+    outcome(a, out)
 }

@@ -13,6 +13,8 @@ pub mod Within
 pub mod Changed
 -- a list as two tables of numbers
 pub mod Table
+-- kinds by their numbers
+pub mod Numbers
 -- a table over 256 rows
 pub mod Laid
 -- tables that say a well-formed list, and what follows from it

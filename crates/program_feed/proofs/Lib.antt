@@ -1,5 +1,3 @@
 -- The laws of `program_feed`.
 -- a head, number by number, and what it asks for
 pub mod Heads
--- a line, piece by piece
-pub mod Replies

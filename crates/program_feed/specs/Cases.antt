@@ -1,5 +1,5 @@
 -- A case's head: "one byte op (0 check, 1 read, 2 pick, 3 write, 6 count, 8 tidy), then three 32-bit little-endian numbers". Assumes nothing.
-use mathlib.Core.Bool.{cond}
+use mathlib.Core.Bool.{Bool, true, false, cond}
 use mathlib.Core.List.{List, [], _∷_}
 use Prim.Native.Nat.{ℕ, _+_, _*_, min}
 use lib.Dec.{ltb, eqb}
@@ -58,3 +58,13 @@ caseIn s = cond (ltb (length s) (13 + sizeOf (caseOf s))) Broken (caseOf s)
 -- its bytes after the head
 abbrev pub bytesIn : ℕ → List ℕ → List ℕ
 bytesIn size s = take size (drop 13 s)
+
+-- of a broken feed "nothing after it is read"
+abbrev pub goesOn : Case → Bool
+goesOn (Check room size) = true
+goesOn (Read size) = true
+goesOn (Pick row n size) = true
+goesOn (Write room size) = true
+goesOn (Count size) = true
+goesOn (Tidy room space size) = true
+goesOn Broken = false

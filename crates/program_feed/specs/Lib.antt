@@ -1,5 +1,3 @@
 -- The definitions of `program_feed`.
 -- what a head asks for
 pub mod Cases
--- the lines that answer a feed
-pub mod Reply

@@ -5,7 +5,7 @@ ghost use mathlib.Core.Path.{_≡_};
 ghost use Prim.Native.Nat.{_+_, _≤_, _<_, _^_, min};
 ghost use lib.ListN.{length, getD, take, drop};
 ghost use Rattle.answer.specs.Table.{limit};
-ghost use Rattle.program_feed.specs.Cases.{little, numberAt, opBy, caseOf, sizeOf, caseIn};
+ghost use Rattle.program_feed.specs.Cases.{little, numberAt, opBy, caseOf, sizeOf, caseIn, goesOn};
 
 pub enum Case {
     // A file of `size` bytes, for a buffer of `room`.
@@ -160,4 +160,27 @@ pub fn case_in(feed: &[u8]) -> Case
         return Case::Broken;
     }
     c
+}
+
+// Whether more is read after a case.
+pub fn goes_on(c: Case) -> bool
+    ensures { λ r. ⌜ r ≡ goesOn c ⌝ }
+{
+    match c {
+        Case::Check { room: _, size: _ } => true,
+        Case::Read { size: _ } => true,
+        Case::Pick {
+            row: _,
+            nth: _,
+            size: _,
+        } => true,
+        Case::Write { room: _, size: _ } => true,
+        Case::Count { size: _ } => true,
+        Case::Tidy {
+            room: _,
+            space: _,
+            size: _,
+        } => true,
+        Case::Broken => false,
+    }
 }

@@ -1,7 +1,7 @@
 // An answer as the programs write it.
 use answer::Answer;
-use text::decimal::put;
-use text::number::copy;
+use text_bytes::number::copy;
+use text_digits::decimal::put;
 ghost use mathlib.Core.Path.{_≡_};
 ghost use mathlib.Core.List.{_∷_};
 ghost use Prim.Native.Nat.{_+_, _≤_};

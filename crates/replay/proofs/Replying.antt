@@ -28,20 +28,12 @@ use Rattle.file_letter.proofs.Tidying.{tidied-fits, tidied-alike}
 use Rattle.program_feed.specs.declared.case.Case.{Case}
 use Rattle.program_feed.specs.declared.case.Case.the-variants.{Check, Read, Pick, Write, Count, Tidy, Broken}
 use Rattle.program_feed.specs.Cases.{longest, caseOf, sizeOf, caseIn, bytesIn}
-use Rattle.program_feed.specs.Reply.{answerLine, pairLine, brokenLine, Put}
+use Rattle.program_reply.specs.Reply.{answerLine, pairLine, brokenLine, heldLength, Put}
 use Rattle.program_feed.proofs.Heads.{whole, Kept, kept}
-use Rattle.program_feed.proofs.Replies.{put-taken}
+use Rattle.program_held.proofs.Holding.{held-none, held-some}
+use Rattle.program_reply.proofs.Replies.{put-taken}
 use Rattle.program_line.proofs.Lines.{counts}
-use Rattle.replay.specs.Replies.{heldLength, heldBy, ImageHeld, Filled, Checked, Measured, Tallied, Picked, Written, Tidied, Replies, checked, measured, tallied, picked, written, tidied, broken}
-
--- ---- what a buffer holds
-
-module _ (a : Answer) where
-  pub held-none : a .code ≢ 0 → 0 ≡ heldLength a
-  held-none n = ap (λ (t : Bool). cond t (a .place) 0) (sym (ne-eqb (a .code) 0 n))
-
-  pub held-some : a .code ≡ 0 → a .place ≡ heldLength a
-  held-some z = ap (λ (t : Bool). cond t (a .place) 0) (sym (eq-eqb (a .code) 0 z))
+use Rattle.replay.specs.Replies.{heldBy, ImageHeld, Filled, Checked, Measured, Tallied, Picked, Written, Tidied, Replies, checked, measured, tallied, picked, written, tidied, broken}
 
 -- ---- what check holds in a buffer, by the file's size alone
 
@@ -118,19 +110,6 @@ bytes-most s b size e h = omega (arith, ap length e, length-take size (drop 13 s
 pub take-most : (n : ℕ) (xs : List ℕ) (k : ℕ) → n ≤ k → length (take n xs) ≤ k
 take-most n xs k h = omega (arith, length-take n xs)
 
--- ---- a number in eight bytes, of which the last four are taken
-
-eight : (n : ℕ) → slice 4 8 (pasted (replicate 8 0) 0 (bigEndian 8 n)) ≡ bigEndian 4 n
-unfolding bigEndian pasted
-eight n = refl
-
-four-long : (n : ℕ) → length (bigEndian 4 n) ≡ 4
-unfolding bigEndian
-four-long n = refl
-
-pub last-four : (e : List ℕ) (n : ℕ) → e ≡ pasted (replicate 8 0) 0 (bigEndian 8 n) → slice 4 8 e ≡ bigEndian 4 n
-last-four e n f = ap (slice 4 8) f ∙ eight n
-
 -- ---- a line that fits
 
 pub put-long : (l d : List ℕ) (r : ℕ) (after : List ℕ) → length l ≤ length d → Put l d r after → r ≤ length d
@@ -139,14 +118,6 @@ put-long l d r after h p = omega (arith, p .length′ ∙ ap (λ (b : Bool). con
 pub put-fitting : (l d : List ℕ) (r : ℕ) (after : List ℕ) → length l ≤ length d → Put l d r after → (take r after ≡ l) × Counts r after
 put-fitting l d r after h p =
     (put-taken l d r after h p, counts r after (omega (arith, put-long l d r after h p, ap length (p .buffer), length-pasted d 0 l)))
-
--- a read with its count: the answer's line with four bytes
-pub put-tallied : (s : List ℕ) (a : Answer) (n : ℕ) → HouseReads s a → HouseCounts s a n → (e d : List ℕ) (r : ℕ) (after : List ℕ) → e ≡ pasted (replicate 8 0) 0 (bigEndian 8 n) → 2097218 ≤ length d
-    → length (answerLine a (slice 4 8 e)) ≤ 64 + (length (slice 4 8 e) + length (slice 4 8 e)) → Put (answerLine a (slice 4 8 e)) d r after → Tallied s (take r after) × Counts r after
-put-tallied s a n h k e d r after f m w p =
-    let b = last-four e n f in
-    let g = put-fitting (answerLine a (slice 4 8 e)) d r after (omega (arith, w, m, ap length b, four-long n)) p in
-    (record { answer = a; reads = h; count = n; counts = k; line = g .0 ∙ ap (answerLine a) b }, g .1)
 
 -- a tidying: the answer's line with what stands in either buffer
 pub put-tidied : (s d e d′ e′ : List ℕ) (a : Answer) → Tidies s d e a d′ e′ → (room m n : ℕ) → ImageHeld s room m → n ≡ heldLength a → length d ≡ room → m ≤ limit → n ≤ limit → (line : List ℕ) (r : ℕ) (after : List ℕ) → 4194369 ≤ length line

@@ -1,9 +1,7 @@
 -- The line that answers a case of a feed. Assumes nothing.
 use mathlib.Core.Path.{_≡_}
-use mathlib.Core.Bool.{Bool, true, false, cond}
 use mathlib.Core.List.{List, []}
 use Prim.Native.Nat.{ℕ}
-use lib.Dec.{eqb}
 use lib.ListN.{length, take}
 use Rattle.answer.specs.declared.Answer.{Answer}
 use Rattle.text.specs.Numbers.{bigEndian}
@@ -14,12 +12,9 @@ use Rattle.file_letter.specs.Tidies.{Tidies}
 use Rattle.program_feed.specs.declared.case.Case.{Case}
 use Rattle.program_feed.specs.declared.case.Case.the-variants.{Check, Read, Pick, Write, Count, Tidy, Broken}
 use Rattle.program_feed.specs.Cases.{caseIn, bytesIn}
-use Rattle.program_feed.specs.Reply.{answerLine, pairLine, brokenLine}
+use Rattle.program_reply.specs.Reply.{answerLine, pairLine, brokenLine, heldLength}
 
--- "HEX is the image of an accepted check .., the file of an accepted write, else nothing": the buffer's first bytes, as many as the answer says
-abbrev pub heldLength : Answer → ℕ
-heldLength a = cond (eqb (a .code) 0) (a .place) 0
-
+-- what an accepted call leaves in its buffer
 abbrev pub heldBy : Answer → List ℕ → List ℕ
 heldBy a d = take (heldLength a) d
 
@@ -80,16 +75,6 @@ pub data Replies (s : List ℕ) (k : ℕ) (l : List ℕ) : Type 0 where
   tidied : (room space size : ℕ) → caseIn s ≡ Tidy room space size → (d e d′ e′ : List ℕ) → length d ≡ room → length e ≡ space → Tidied (bytesIn size s) d e d′ e′ l → Replies s k l
   -- "A feed that breaks off, names another op or a greater length ends with the line `feed broken at case N` (N from 0)"
   broken : caseIn s ≡ Broken → l ≡ brokenLine k → Replies s k l
-
--- "and nothing after it is read"
-abbrev pub goesOn : Case → Bool
-goesOn (Check room size) = true
-goesOn (Read size) = true
-goesOn (Pick row n size) = true
-goesOn (Write room size) = true
-goesOn (Count size) = true
-goesOn (Tidy room space size) = true
-goesOn Broken = false
 
 -- n bytes of its image are what check leaves of the file s in a buffer of so much room, whatever stood there
 abbrev pub ImageHeld : List ℕ → ℕ → ℕ → Type 0

@@ -3,39 +3,15 @@ mod reply; // reply.rt: the line for a case, computed on slices
 
 use libc::STDIN_FILENO;
 use libc::STDOUT_FILENO;
-use program_feed::case::Case;
 use program_feed::case::case_in;
 use program_feed::case::case_of;
+use program_feed::case::goes_on;
 use program_feed::case::size_of;
 use reply::reply;
 ghost use mathlib.Core.Path.{_≡_};
 ghost use Prim.Native.Nat.{_+_, _≤_};
 ghost use lib.ListN.{length};
 ghost use Rattle.io.specs.Counts.{Counts};
-ghost use Rattle.replay.specs.Replies.{goesOn};
-
-// Whether more is read after a case.
-fn goes_on(c: Case) -> bool
-    ensures { λ r. ⌜ r ≡ goesOn c ⌝ }
-{
-    match c {
-        Case::Check { room: _, size: _ } => true,
-        Case::Read { size: _ } => true,
-        Case::Pick {
-            row: _,
-            nth: _,
-            size: _,
-        } => true,
-        Case::Write { room: _, size: _ } => true,
-        Case::Count { size: _ } => true,
-        Case::Tidy {
-            room: _,
-            space: _,
-            size: _,
-        } => true,
-        Case::Broken => false,
-    }
-}
 
 // Reads between two places of a buffer, as far as the feed goes; how many bytes.
 fn fill(space: &mut [u8], from: usize, end: usize) -> usize

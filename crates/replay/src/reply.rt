@@ -3,10 +3,12 @@ use answer::Answer;
 use program_feed::case::Case;
 use program_feed::case::HEAD;
 use program_feed::case::case_in;
-use program_feed::reply::put_answer;
-use program_feed::reply::put_broken;
-use program_feed::reply::put_pair;
-use text::number::put64;
+use program_held::held;
+use program_held::put_bare;
+use program_held::put_count;
+use program_reply::put_answer;
+use program_reply::put_broken;
+use program_reply::put_pair;
 use unit::check::check;
 use unit::pick::pick;
 use unit::pick::picked;
@@ -20,8 +22,8 @@ ghost use Prim.Native.Nat.{_+_, _≤_};
 ghost use lib.ListN.{length, take};
 ghost use Rattle.io.specs.Counts.{Counts};
 ghost use Rattle.program_feed.specs.Cases.{bytesIn};
-ghost use Rattle.program_feed.specs.Reply.{answerLine};
-ghost use Rattle.replay.specs.Replies.{heldLength, heldBy, ImageHeld, Checked, Measured, Tallied, Picked, Written, Tidied, Replies};
+ghost use Rattle.program_reply.specs.Reply.{answerLine};
+ghost use Rattle.replay.specs.Replies.{heldBy, ImageHeld, Checked, Measured, Tallied, Picked, Written, Tidied, Replies};
 
 // The line of an answer and the first n bytes of s, put to the start of a buffer that holds any such; how many bytes it is.
 fn put_line(a: Answer, s: &[u8], n: usize, line: &mut [u8]) -> usize
@@ -30,16 +32,6 @@ fn put_line(a: Answer, s: &[u8], n: usize, line: &mut [u8]) -> usize
     ensures within { λ r. ⌜ Counts r (now (line .exit)) ⌝ }
 {
     put_answer(a, s, 0, n, line)
-}
-
-// How many bytes an accepted call leaves in the buffer that it was lent; a refused one none.
-fn held(a: Answer) -> usize
-    ensures { λ r. ⌜ r ≡ heldLength a ⌝ }
-{
-    if a.code != Answer::ACCEPTED {
-        return 0;
-    }
-    a.place
 }
 
 // The line of a call's answer, with what it then holds in the buffer that it was lent.
@@ -73,11 +65,11 @@ fn written(run: &[u8], buffer: &mut [u8], line: &mut [u8]) -> usize
 
 // A read.
 fn measured(run: &[u8], line: &mut [u8]) -> usize
-    requires { ⌜ (length (now run) ≤ 1048577) × (2097218 ≤ length (now line)) ⌝ }
+    requires { ⌜ 2097218 ≤ length (now line) ⌝ }
     ensures is { λ r. ⌜ Measured (now (run .entry)) (take r (now (line .exit))) ⌝ }
     ensures within { λ r. ⌜ Counts r (now (line .exit)) ⌝ }
 {
-    put_line(read(run), run, 0, line)
+    put_bare(read(run), line)
 }
 
 // How many bytes of a file's image check leaves in a buffer of so much room: by the file alone, so that the buffer itself shows what was written.
@@ -111,10 +103,7 @@ fn tallied(run: &[u8], line: &mut [u8]) -> usize
     ensures within { λ r. ⌜ Counts r (now (line .exit)) ⌝ }
 {
     let told = reading(run);
-    let answer = told.answer;
-    let mut bytes = [0u8; 8];
-    put64(&mut bytes, 0, told.count as u64);
-    put_answer(answer, &bytes, 4, 8, line)
+    put_count(told.answer, told.count, line)
 }
 
 // A pick, with its part.

@@ -1,6 +1,5 @@
-// Bytes, spans and parts of bytes, numbers as bytes and as digits: what every layer above reads and writes texts with.
+// Bytes, spans and parts of bytes, compared: what every layer above reads texts with. Numbers as bytes and as digits are the code of
+// `text_bytes` and `text_digits`; what is said and proved of them stands here.
 pub mod class; // class.rt: bytes by class
 pub mod span; // span.rt: how far a class reaches
 pub mod part; // part.rt: parts of slices, compared
-pub mod number; // number.rt: numbers as bytes, and parts, written and read
-pub mod decimal; // decimal.rt: a number's digits

@@ -1,14 +1,25 @@
 -- What the program writes, case by case: nothing else fits. Assumes nothing.
-use mathlib.Core.Path.{_≡_, sym, _∙_, ap}
+use mathlib.Core.Path.{_≡_, refl, sym, _∙_, ap}
 use mathlib.Core.List.{List}
 use Prim.Native.Nat.{ℕ}
+use native.Mathlib.Omega.{arith}
 use lib.ListN.{length, take}
+use Rattle.io.specs.Counts.{Counts}
 use Rattle.answer.specs.declared.Answer.{Answer}
 use Rattle.answer.specs.Table.{limit}
 use Rattle.program_line.specs.Line.{refusal}
 use Rattle.file_letter.specs.Tidies.{Tidies}
-use Rattle.file_letter.proofs.Tidying.{tidied-alike}
+use Rattle.program_outcome.specs.Outcome.{Outcome}
+use Rattle.program_outcome.proofs.Outcomes.{outcome-written, outcome-counts}
+use Rattle.file_letter.proofs.Tidying.{tidied-fits, tidied-alike}
 use Rattle.tidy.specs.Presents.{Presents, untidied, tidied}
+
+-- the outcome of a tidying, for buffers with room for every image and every file
+pub presented : (s d e d′ e′ : List ℕ) (a : Answer) → length d ≡ limit → length e ≡ limit → length e′ ≡ limit → Tidies s d e a d′ e′ → (r : ℕ) (x : List ℕ) → Outcome a e′ r x → Presents s (take r x) × Counts r x
+presented s d e d′ e′ a i j k t r x o = (
+  outcome-written a e′ r x (omega (arith, k)) (Presents s) (λ z. tidied a d e d′ e′ i j t z refl) (λ n. untidied a d e d′ e′ i j t n refl) o,
+  outcome-counts a e′ r x (omega (arith, k)) (λ z. omega (arith, tidied-fits s d e a d′ e′ t z, j, k)) o,
+)
 
 -- only one output fits
 module _ (s u v : List ℕ) where

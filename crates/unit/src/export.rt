@@ -7,16 +7,15 @@ use crate::read::reading;
 use crate::tidy::tidy;
 use crate::write::write;
 use answer::Answer;
-ghost use Rattle.answer.specs.Table.{answer};
 ghost use Rattle.image_reading.specs.Reads.{HouseReads, HouseCounts};
 ghost use Rattle.file.specs.Checks.{Checks};
 ghost use Rattle.file_letter.specs.Tidies.{Tidies};
 ghost use Rattle.file_letter.specs.Writes.{Writes};
-ghost use Rattle.unit.specs.Exports.{PicksAt};
+ghost use Rattle.unit.specs.Exports.{handed, PicksAt};
 
 #[no_mangle]
 pub extern "C" fn kto_check(input: &[u8], out: &mut [u8], row: &mut u64, place: &mut u64) -> u64
-    ensures { λ r. ⌜ Checks (now (input .entry)) (now (out .entry)) (answer r (now (row .exit)) (now (place .exit))) (now (out .exit)) ⌝ }
+    ensures { λ r. ⌜ Checks (now (input .entry)) (now (out .entry)) (handed r (now (row .exit)) (now (place .exit))) (now (out .exit)) ⌝ }
 {
     let a = check(input, out);
     *row = a.row as u64;
@@ -26,7 +25,7 @@ pub extern "C" fn kto_check(input: &[u8], out: &mut [u8], row: &mut u64, place: 
 
 #[no_mangle]
 pub extern "C" fn kto_read(run: &[u8], place: &mut u64) -> u64
-    ensures { λ r. ⌜ HouseReads (now (run .entry)) (answer r 0 (now (place .exit))) ⌝ }
+    ensures { λ r. ⌜ HouseReads (now (run .entry)) (handed r 0 (now (place .exit))) ⌝ }
 {
     let a = read(run);
     *place = a.place as u64;
@@ -36,7 +35,7 @@ pub extern "C" fn kto_read(run: &[u8], place: &mut u64) -> u64
 // A count without its code does not say whether the items are an image's, so this answers what `kto_read` does, and the count.
 #[no_mangle]
 pub extern "C" fn kto_count(run: &[u8], place: &mut u64, count: &mut u64) -> u64
-    ensures { λ r. ⌜ HouseReads (now (run .entry)) (answer r 0 (now (place .exit))) × HouseCounts (now (run .entry)) (answer r 0 (now (place .exit))) (now (count .exit)) ⌝ }
+    ensures { λ r. ⌜ HouseReads (now (run .entry)) (handed r 0 (now (place .exit))) × HouseCounts (now (run .entry)) (handed r 0 (now (place .exit))) (now (count .exit)) ⌝ }
 {
     let r = reading(run);
     *place = r.answer.place as u64;
@@ -58,7 +57,7 @@ pub extern "C" fn kto_pick(run: &[u8], row: u64, n: u64, place: &mut u64, size: 
 
 #[no_mangle]
 pub extern "C" fn kto_write(run: &[u8], out: &mut [u8], row: &mut u64, place: &mut u64) -> u64
-    ensures { λ r. ⌜ Writes (now (run .entry)) (now (out .entry)) (answer r (now (row .exit)) (now (place .exit))) (now (out .exit)) ⌝ }
+    ensures { λ r. ⌜ Writes (now (run .entry)) (now (out .entry)) (handed r (now (row .exit)) (now (place .exit))) (now (out .exit)) ⌝ }
 {
     let a = write(run, out);
     *row = a.row as u64;
@@ -74,7 +73,7 @@ pub extern "C" fn kto_tidy(
     row: &mut u64,
     place: &mut u64,
 ) -> u64
-    ensures { λ r. ⌜ Tidies (now (input .entry)) (now (image .entry)) (now (out .entry)) (answer r (now (row .exit)) (now (place .exit))) (now (image .exit)) (now (out .exit)) ⌝ }
+    ensures { λ r. ⌜ Tidies (now (input .entry)) (now (image .entry)) (now (out .entry)) (handed r (now (row .exit)) (now (place .exit))) (now (image .exit)) (now (out .exit)) ⌝ }
 {
     let a = tidy(input, image, out);
     *row = a.row as u64;

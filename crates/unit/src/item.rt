@@ -1,9 +1,9 @@
 // The entries for items: where the items of the image that a run begins with begin, and what stands at a place of it.
 use image_items::item::Item;
 use image_reading::front::Head;
-ghost use Rattle.answer.specs.Table.{answer};
 ghost use Rattle.image_reading.specs.Forms.{Headed};
 ghost use Rattle.image_items.specs.Items.{HouseItem};
+ghost use Rattle.unit.specs.Exports.{handed};
 
 // The kind byte of its list, and the place of its first item; 0 and 0 where the run begins as no image does.
 pub fn items(run: &[u8]) -> Head
@@ -38,7 +38,7 @@ pub extern "C" fn kto_item(
     place: &mut u64,
     size: &mut u64,
 ) -> u64
-    ensures { λ r. ⌜ HouseItem (now (run .entry)) from (answer r (now (row .exit)) (now (place .exit))) (now (size .exit)) ⌝ }
+    ensures { λ r. ⌜ HouseItem (now (run .entry)) from (handed r (now (row .exit)) (now (place .exit))) (now (size .exit)) ⌝ }
 {
     let item = item_at(run, from as usize);
     *row = item.answer.row as u64;

@@ -6,12 +6,12 @@ ghost use Rattle.image_reading.specs.Reads.{HouseAnswers, HousePicked};
 pub fn pick(run: &[u8], row: usize, n: usize) -> Answer
     ensures { λ a. ⌜ HouseAnswers (now (run .entry)) row n a ⌝ }
 {
-    image_reading::first::pick(run, row, n)
+    image_first::pick(run, row, n)
 }
 
 // That part itself, without row byte and length; empty where `pick` refuses.
 pub fn picked<'a>(run: &'a [u8], row: usize, n: usize) -> &'a [u8]
     ensures { λ s. ⌜ HousePicked (run .entry) row n s ⌝ }
 {
-    image_reading::first::picked(run, row, n)
+    image_first::picked(run, row, n)
 }

@@ -5,7 +5,7 @@ ghost use Rattle.image_reading.specs.Reads.{HouseReads, HouseCounts};
 pub fn read(run: &[u8]) -> Answer
     ensures { λ a. ⌜ HouseReads (now (run .entry)) a ⌝ }
 {
-    image_reading::first::read(run)
+    image_first::read(run)
 }
 
 // The same answer with the items that were taken for it, the closing 0 among them.
@@ -18,7 +18,7 @@ pub fn reading(run: &[u8]) -> Counted
     ensures is { λ r. ⌜ HouseReads (now (run .entry)) (r .answer) ⌝ }
     ensures counts { λ r. ⌜ HouseCounts (now (run .entry)) (r .answer) (r .count) ⌝ }
 {
-    let told = image_reading::first::reading(run);
+    let told = image_first::reading(run);
     let answer = told.answer;
     Counted {
         answer,

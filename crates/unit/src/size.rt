@@ -1,8 +1,8 @@
 // The entry for a file without a buffer: how many bytes its image has, or why it has none.
 use answer::Answer;
 use file_measure::measure;
-ghost use Rattle.answer.specs.Table.{answer};
 ghost use Rattle.file.specs.Checks.{Finds};
+ghost use Rattle.unit.specs.Exports.{handed};
 
 pub fn size(input: &[u8]) -> Answer
     ensures { λ r. ⌜ Finds (now (input .entry)) r ⌝ }
@@ -13,7 +13,7 @@ pub fn size(input: &[u8]) -> Answer
 // The same for C: the code is the result.
 #[no_mangle]
 pub extern "C" fn kto_size(input: &[u8], row: &mut u64, place: &mut u64) -> u64
-    ensures { λ r. ⌜ Finds (now (input .entry)) (answer r (now (row .exit)) (now (place .exit))) ⌝ }
+    ensures { λ r. ⌜ Finds (now (input .entry)) (handed r (now (row .exit)) (now (place .exit))) ⌝ }
 {
     let a = size(input);
     *row = a.row as u64;

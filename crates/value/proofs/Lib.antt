@@ -15,3 +15,9 @@ pub mod numbers
 pub mod dates
 -- the types together: which value a text spells, and that there is one
 pub mod types
+-- from bytes back: which bytes are a value's, and where it ends
+pub mod stored
+-- the bytes that a raw text gives
+pub mod given
+-- the text that is written for a value
+pub mod script

@@ -7,12 +7,14 @@ use native.Mathlib.Omega.{arith}
 use native.Mathlib.Decide.{decLt}
 use Rattle.list.specs.Listing.{Leaf, ref, iban, ccy, bool, num, amt, date, dtm, txt, enum}
 use Rattle.value.specs.Day.{Real, dayText, nextDay}
-use Rattle.value.specs.Moment.{DateRule, former, present, clockText, noFraction, decimals, fractionText, Zone, ahead, behind, ZoneOk, zoneText, offset, Parts, ordinary, midnight}
-use Rattle.value.specs.Value.{Value, moment, IsValue, Form, Spelt}
+use Rattle.value.specs.Former.{DateRule, former, present, noFraction, decimals, fractionText, Zone, ahead, behind, ZoneOk, zoneText, offset, ordinary, midnight}
+use Rattle.value.specs.Moment.{clockText, Parts}
+use Rattle.value.specs.Value.{Value, moment, IsValue, Spelt}
+use Rattle.value.specs.Form.{Form}
 use Rattle.value.specs.Rules.{Timeless, FormBy, SpeltBy, InThousandths}
 use Rattle.value.proofs.dates.Dates.{few, moment-parts}
 use Rattle.value.proofs.dates.Spell.{read-day}
-use Rattle.value.proofs.types.Values.{value-laws}
+use Rattle.value.proofs.types.Shaped.{form-is, shaped-spelt, spelt-shaped}
 
 -- ---- one value, two texts
 -- "24:00:00 .. its content is 00:00:00 of the next day": the value of each of the two texts, and of no other kind
@@ -21,7 +23,7 @@ module _ (y m d y′ m′ d′ : ℕ) (r : Real y m d) (r′ : Real y′ m′ d�
       × Form dtm w (dayText y′ m′ d′ (84 ∷ clockText 0 0 0 (zoneText z []))) (moment y′ m′ d′ 0 0 0 0 (offset z))
   midnight-is = (
     Form.timed (midnight refl (record { year = y; month = m; date = d; day = r; next = e; real = r′; zone = z; good = ok; is = refl; clock = (refl, refl, refl); parts = (refl, refl) })),
-    Form.timed {h = 0} {mi = 0} {s = 0} (ordinary (record { day = r′; clock = record { hour = omega arith; minute = omega arith; second = omega arith }; fraction = noFraction; zone = z; good = (tt, ok); is = refl; parts = (refl, refl) })),
+    Form.timed {h = 0} {mi = 0} {s = 0} (ordinary (record { day = r′; clock = (omega arith, omega arith, omega arith); fraction = noFraction; zone = z; good = (tt, ok); is = refl; parts = (refl, refl) })),
   )
 
 -- "on 9999-12-31 it is refused"
@@ -30,7 +32,7 @@ last-day w z v (Form.timed {h = h} (ordinary m)) =
     let e = m .is in
     let b : 50 ≡ 48 + h / 10 = cc in
     let c : 52 ≡ 48 + h % 10 = cc in
-    omega (arith, m .clock .hour)
+    omega (arith, m .clock .0)
 last-day w z v (Form.timed {y} {mo} {d} (midnight i m)) =
     let t = dayText 9999 12 31 (84 ∷ clockText 24 0 0 (zoneText z [])) in
     let o = read-day t (m .year) (m .month) (m .date) _ (m .is) in
@@ -61,8 +63,8 @@ form-back k w t v (FormBy.other o f) = f
 
 pub by-present : (k : Leaf) (w cs : List ℕ) (v : Value) → SpeltBy present k w cs v ↔ Spelt k w cs v
 by-present k w cs v = (
-  (λ a. record { left = a .left; lost = a .lost; form = form-back k w (a .left) v (a .form) }),
-  (λ a. record { left = a .left; lost = a .lost; form = form-by k w (a .left) v (a .form) }),
+  (λ a. shaped-spelt k w cs v (record { left = a .left; lost = a .lost; form = form-back k w (a .left) v (a .form) })),
+  (λ s. let a = spelt-shaped k w cs v s in record { left = a .left; lost = a .lost; form = form-by k w (a .left) v (a .form) }),
 )
 
 -- ---- how fine
@@ -82,7 +84,7 @@ form-fine k w t v (Form.timed (midnight e m)) = omega (arith, m .parts .0)
 
 -- "a point and one to three digits": what a file says is no finer
 pub spelt-fine : (k : Leaf) (w cs : List ℕ) (v : Value) → Spelt k w cs v → InThousandths v
-spelt-fine k w cs v a = form-fine k w (a .left) v (a .form)
+spelt-fine k w cs v s = let a = spelt-shaped k w cs v s in form-fine k w (a .left) v (a .form)
 
 -- ---- the former rule
 
@@ -103,9 +105,9 @@ parts-former {y} {mo} {d} {h} {mi} {s} {u} {z} w p =
     )
 
 -- whichever rule it is, what is spelt is a value of the type
-form-is : (rule : DateRule) (k : Leaf) (w cs t : List ℕ) (v : Value) → FormBy rule k w t v → (Form k w t v → IsValue k v) → IsValue k v
-form-is rule k w cs t v (FormBy.timed m) g = IsValue.timed (moment-parts m)
-form-is rule k w cs t v (FormBy.other o f) g = g f
+by-form : (rule : DateRule) (k : Leaf) (w t : List ℕ) (v : Value) → FormBy rule k w t v → IsValue k v
+by-form rule k w t v (FormBy.timed m) = IsValue.timed (moment-parts m)
+by-form rule k w t v (FormBy.other o f) = form-is k w t v f
 
 pub by-is : (rule : DateRule) (k : Leaf) (w cs : List ℕ) (v : Value) → SpeltBy rule k w cs v → IsValue k v
-by-is rule k w cs v a = form-is rule k w cs (a .left) v (a .form) (λ f. value-laws .is k w cs v (record { left = a .left; lost = a .lost; form = f }))
+by-is rule k w cs v a = by-form rule k w (a .left) v (a .form)

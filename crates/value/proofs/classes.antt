@@ -5,6 +5,8 @@ pub mod Classes
 pub mod Named
 -- laws over a class of bytes, computed
 pub mod Computed
+-- at least one not a space
+pub mod Ink
 -- a loop over a class, by place
 pub mod Loops
 -- account numbers and currencies, byte by byte

@@ -5,3 +5,5 @@ pub mod Naturals
 pub mod Decimals
 -- the steps of reading an amount, and its answer
 pub mod Amounts
+-- amounts as they stand, and by parts
+pub mod Numerals

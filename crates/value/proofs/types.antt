@@ -1,6 +1,8 @@
 -- Of `value`: the types together: which value a text spells, and that there is one.
 -- the laws of values, all kinds together
 pub mod Values
+-- what is spelt, by its value and its wording, and by the forms of what is left
+pub mod Shaped
 -- types by their numbers
 pub mod Numbered
 -- a judgement that no arm of a match takes

@@ -2,10 +2,11 @@
 use mathlib.Core.Path.{_≡_}
 use mathlib.Core.Bool.{Bool, _||_}
 use mathlib.Core.List.{List, [], _++_}
-use Prim.Native.Nat.{ℕ, suc, _≤_, _<_}
-use lib.ListN.{length, getD}
+use Prim.Native.Nat.{ℕ, _≤_}
+use lib.ListN.{length}
 use Rattle.text.specs.Bytes.{isCapital, isLetter, isDigit}
 use Rattle.text.specs.Lists.{All}
+use Rattle.list.specs.Listing.{Leaf, ref, iban, ccy, bool, num, amt, date, dtm, txt, enum}
 
 unfoldable pub isLetterOrDigit : ℕ → Bool
 isLetterOrDigit x = isLetter x || isDigit x
@@ -26,9 +27,15 @@ pub record Ccy (cs : List ℕ) : Type 0 where
   pub three : length cs ≡ 3
   pub capitals : All isCapital cs
 
--- "ENUM: one listed word"; "place in its list from 1"
-pub record WordAt (ws : List (List ℕ)) (n : ℕ) (w : List ℕ) : Type 0 where
-  pub before : ℕ
-  pub from : n ≡ suc before
-  pub within : before < length ws
-  pub is : getD ws before [] ≡ w
+-- the words of a type, which ENUM alone has
+abbrev pub wordsOf : Leaf → List (List ℕ)
+wordsOf ref = []
+wordsOf iban = []
+wordsOf ccy = []
+wordsOf bool = []
+wordsOf num = []
+wordsOf amt = []
+wordsOf date = []
+wordsOf dtm = []
+wordsOf (txt k) = []
+wordsOf (enum ws) = ws

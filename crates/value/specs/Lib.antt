@@ -11,8 +11,13 @@ pub mod Amount
 pub mod Day
 -- moments, by their written parts
 pub mod Moment
+-- the same by both rules, and the amounts, by parts
+pub mod Former
+pub mod Numeral
 -- values, which text spells which, and their bytes
 pub mod Value
+-- the forms of a text, a case for each type
+pub mod Form
 -- the former and the present rule of date-times
 pub mod Rules
 -- what a judgement of a text says
@@ -29,3 +34,15 @@ pub mod Spell
 pub mod Resolved
 -- mirrors, which say how the code goes
 pub mod mirror
+-- where a stored value ends
+pub mod Stands
+-- the bytes of the value that a raw text spells, and what is written of them
+pub mod Giving
+-- what stands in a buffer once the bytes of a value were put there
+pub mod Wrote
+-- the one text of a value
+pub mod Script
+-- the values that some text spells by a date-time rule
+pub mod Spelled
+-- the bytes of characters in text
+pub mod Raw

@@ -1,105 +1,40 @@
 -- DTM: moments by their written parts. Assumes nothing.
 use mathlib.Core.Path.{_≡_}
-use mathlib.Core.Logic.{_≢_, _⊎_}
-use mathlib.Core.List.{List, [], _∷_}
-use Prim.Native.Nat.{ℕ, zero, suc, _+_, _*_, _-_, _/_, _%_, _^_, _≤_, _<_}
+use mathlib.Core.Logic.{_≢_}
+use mathlib.Core.List.{List, [], _∷_, _++_}
+use Prim.Native.Nat.{ℕ, _+_, _*_, _-_, _/_, _%_, _^_, _≤_, _<_}
+use Rattle.text.specs.Bytes.{ascii}
+use Rattle.text.specs.Digits.{padded}
 use Rattle.value.specs.Day.{Real, pair, dayText, nextDay}
-
--- "the former and the new date-time rule"
-pub data DateRule : Type 0 where
-  former present : DateRule
-
--- "`hh:mm:ss` up to 23:59:59"
-pub record Clock (h m s : ℕ) : Type 0 where
-  pub hour : h ≤ 23
-  pub minute : m ≤ 59
-  pub second : s ≤ 59
 
 abbrev pub clockText : ℕ → ℕ → ℕ → List ℕ → List ℕ
 clockText h m s t = pair h (58 ∷ pair m (58 ∷ pair s t))
 
--- none, or a point and the last k digits of n
-pub data Fraction : Type 0 where
-  noFraction : Fraction
-  decimals : (k n : ℕ) → Fraction
-
--- the last k digits of n, then t
-unfoldable pub figures : ℕ → ℕ → List ℕ → List ℕ
-figures zero n t = t
-figures (suc k) n t = figures k (n / 10) ((48 + n % 10) ∷ t)
-
-abbrev pub fractionText : Fraction → List ℕ → List ℕ
-fractionText noFraction t = t
-fractionText (decimals k n) t = 46 ∷ figures k n t
-
--- "optionally a point and three or six digits"; "now a point and one to three digits, the last not zero"
-abbrev pub FractionOk : DateRule → Fraction → Type 0
-FractionOk r noFraction = Unit {0}
-FractionOk former (decimals k n) = ((k ≡ 3) ⊎ (k ≡ 6)) × (n < 10 ^ k)
-FractionOk present (decimals k n) = ((1 ≤ k) × (k ≤ 3)) × (n < 10 ^ k) × (n % 10 ≢ 0)
-
--- "fractions count in microseconds, an absent one as 0"
-abbrev pub micros : Fraction → ℕ
-micros noFraction = 0
-micros (decimals k n) = n * 10 ^ (6 - k)
-
--- "then `Z` or sign `hh:mm`"
-pub data Zone : Type 0 where
-  zulu : Zone
-  ahead behind : ℕ → ℕ → Zone
-
-abbrev pub zoneText : Zone → List ℕ → List ℕ
-zoneText zulu t = 90 ∷ t
-zoneText (ahead h m) t = 43 ∷ pair h (58 ∷ pair m t)
-zoneText (behind h m) t = 45 ∷ pair h (58 ∷ pair m t)
-
--- "minutes at most 59, up to 14:00"
-pub record Offset (h m : ℕ) : Type 0 where
-  pub minutes : m ≤ 59
-  pub most : h * 60 + m ≤ 840
-
-abbrev pub ZoneOk : Zone → Type 0
-ZoneOk zulu = Unit {0}
-ZoneOk (ahead h m) = Offset h m
-ZoneOk (behind h m) = Offset h m
-
--- "offset minutes plus 840"; "`Z`, `+00:00`, `-00:00` are equal"
-abbrev pub offset : Zone → ℕ
-offset zulu = 840
-offset (ahead h m) = 840 + (h * 60 + m)
-offset (behind h m) = 840 - (h * 60 + m)
-
--- which parts there are: u microseconds, z minutes of offset plus 840
+-- which parts there are: "`hh:mm:ss` up to 23:59:59", u microseconds, z minutes of offset plus 840
 pub record Parts (y mo d h mi s u z : ℕ) : Type 0 where
   pub day : Real y mo d
-  pub clock : Clock h mi s
+  pub clock : (h ≤ 23) × (mi ≤ 59) × (s ≤ 59)
   pub fraction : u < 1000000
   pub zone : z ≤ 1680
 
--- "DATE, `T`, `hh:mm:ss` .., optionally a point and .. digits, then `Z` or sign `hh:mm`"
-pub record PlainText (rule : DateRule) (t : List ℕ) (y mo d h mi s u z : ℕ) : Type 0 where
-  pub day : Real y mo d
-  pub clock : Clock h mi s
-  pub fraction : Fraction
-  pub zone : Zone
-  pub good : FractionOk rule fraction × ZoneOk zone
-  pub is : t ≡ dayText y mo d (84 ∷ clockText h mi s (fractionText fraction (zoneText zone [])))
-  pub parts : (u ≡ micros fraction) × (z ≡ offset zone)
+-- none, or "a point and one to three digits, the last not zero"; "fractions count in microseconds, an absent one as 0"
+pub data FractionText (t : List ℕ) (u : ℕ) : Type 0 where
+  fractionless : t ≡ [] → u ≡ 0 → FractionText t u
+  thousandths : (k n : ℕ) → (1 ≤ k) × (k ≤ 3) → n < 10 ^ k → n % 10 ≢ 0 → t ≡ 46 ∷ padded k n → u ≡ n * 10 ^ (6 - k) → FractionText t u
 
--- "also allows 24:00:00, without fraction: its content is 00:00:00 of the next day, and on 9999-12-31 it is refused": year 10000 has no real day
-pub record MidnightText (t : List ℕ) (y mo d h mi s u z : ℕ) : Type 0 where
-  pub year : ℕ
-  pub month : ℕ
-  pub date : ℕ
-  pub day : Real year month date
-  pub next : nextDay year month date ≡ (y, mo, d)
-  pub real : Real y mo d
-  pub zone : Zone
-  pub good : ZoneOk zone
-  pub is : t ≡ dayText year month date (84 ∷ clockText 24 0 0 (zoneText zone []))
-  pub clock : (h ≡ 0) × (mi ≡ 0) × (s ≡ 0)
-  pub parts : (u ≡ 0) × (z ≡ offset zone)
+-- so many minutes as `hh:mm`
+abbrev pub hoursText : ℕ → List ℕ
+hoursText m = pair (m / 60) (58 ∷ pair (m % 60) [])
 
-pub data MomentText (rule : DateRule) (t : List ℕ) (y mo d h mi s u z : ℕ) : Type 0 where
-  ordinary : PlainText rule t y mo d h mi s u z → MomentText rule t y mo d h mi s u z
-  midnight : rule ≡ present → MidnightText t y mo d h mi s u z → MomentText rule t y mo d h mi s u z
+-- "then `Z` or sign `hh:mm`, minutes at most 59, up to 14:00"; "offset minutes plus 840"; "`Z`, `+00:00`, `-00:00` are equal"
+pub data ZoneText (t : List ℕ) (z : ℕ) : Type 0 where
+  utc : t ≡ ascii "Z" → z ≡ 840 → ZoneText t z
+  east : (m : ℕ) → m ≤ 840 → t ≡ 43 ∷ hoursText m → z ≡ 840 + m → ZoneText t z
+  west : (m : ℕ) → m ≤ 840 → t ≡ 45 ∷ hoursText m → z ≡ 840 - m → ZoneText t z
+
+-- which texts write which parts: "DATE, `T`, `hh:mm:ss` .., optionally a point and .. digits, then `Z` or sign `hh:mm`";
+-- "also allows 24:00:00, without fraction: its content is 00:00:00 of the next day, and on 9999-12-31 it is refused": year 10000 is no part
+pub data MomentText (t : List ℕ) (y mo d h mi s u z : ℕ) : Type 0 where
+  inDay : (f o : List ℕ) → FractionText f u → ZoneText o z → t ≡ dayText y mo d (84 ∷ clockText h mi s (f ++ o)) → MomentText t y mo d h mi s u z
+  dayEnd : (y′ mo′ d′ : ℕ) → Real y′ mo′ d′ → nextDay y′ mo′ d′ ≡ (y, mo, d) → (h ≡ 0) × (mi ≡ 0) × (s ≡ 0) × (u ≡ 0)
+      → (o : List ℕ) → ZoneText o z → t ≡ dayText y′ mo′ d′ (84 ∷ clockText 24 0 0 o) → MomentText t y mo d h mi s u z

@@ -25,11 +25,8 @@ unfoldable pub decimalFrom : ℕ → List ℕ → ℕ
 decimalFrom a [] = a
 decimalFrom a (x ∷ xs) = decimalFrom (a * 10 + (x - 48)) xs
 
-abbrev pub decimal : List ℕ → ℕ
-decimal s = decimalFrom 0 s
-
 -- "NUM: 1 to 18 digits"
 pub record Num (t : List ℕ) (n : ℕ) : Type 0 where
   pub lengths : (1 ≤ length t) × (length t ≤ 18)
   pub digits : All isDigit t
-  pub is : n ≡ decimal t
+  pub is : n ≡ decimalFrom 0 t

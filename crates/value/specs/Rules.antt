@@ -3,8 +3,9 @@ use mathlib.Core.Path.{_≡_}
 use mathlib.Core.List.{List}
 use Prim.Native.Nat.{ℕ, _%_}
 use Rattle.list.specs.Listing.{Leaf, ref, iban, ccy, bool, num, amt, date, dtm, txt, enum}
-use Rattle.value.specs.Moment.{DateRule, MomentText}
-use Rattle.value.specs.Value.{Value, text, place, truth, natural, amount, day, moment, Form, Left}
+use Rattle.value.specs.Former.{DateRule, MomentBy}
+use Rattle.value.specs.Value.{Value, text, place, truth, natural, amount, day, moment}
+use Rattle.value.specs.Form.{Form, Left}
 
 -- the types with one rule
 abbrev pub Timeless : Leaf → Type 0
@@ -21,7 +22,7 @@ Timeless (enum ws) = Unit {0}
 
 -- what is left of the characters spells v by the rule
 pub data FormBy (rule : DateRule) : Leaf → List ℕ → List ℕ → Value → Type 0 where
-  timed : {y mo d h mi s u z : ℕ} {w cs : List ℕ} → MomentText rule cs y mo d h mi s u z → FormBy rule dtm w cs (moment y mo d h mi s u z)
+  timed : {y mo d h mi s u z : ℕ} {w cs : List ℕ} → MomentBy rule cs y mo d h mi s u z → FormBy rule dtm w cs (moment y mo d h mi s u z)
   other : {k : Leaf} {w cs : List ℕ} {v : Value} → Timeless k → Form k w cs v → FormBy rule k w cs v
 
 -- the characters cs spell v by the rule; `SpeltBy present` is `Spelt` (proofs/Rules, `by-present`)

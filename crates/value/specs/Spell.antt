@@ -9,9 +9,10 @@ use Rattle.text.specs.Bytes.{ascii, inRange, isBlank, isCapital, isDigit}
 use Rattle.text.specs.Lists.{same}
 use Rattle.list.specs.Listing.{Leaf, ref, iban, ccy, bool, num, amt, date, dtm, txt, enum}
 pub use Rattle.list.specs.Table.{placeFrom, placeIn}
-use Rattle.value.specs.Plain.{decimal}
+use Rattle.value.specs.Numeral.{decimal}
 use Rattle.value.specs.Day.{isReal, dayText, nextDay}
-use Rattle.value.specs.Moment.{clockText, Fraction, noFraction, decimals, figures, fractionText, micros, Zone, zulu, ahead, behind, zoneText, offset}
+use Rattle.value.specs.Moment.{clockText}
+use Rattle.value.specs.Former.{Fraction, noFraction, decimals, figures, fractionText, micros, Zone, zulu, ahead, behind, zoneText, offset}
 use Rattle.value.specs.mirror.Texts.{textOf}
 use Rattle.value.specs.mirror.Layout.{ibanAt}
 use Rattle.value.specs.mirror.Reading.{readOf, answer}

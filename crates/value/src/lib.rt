@@ -1,6 +1,2 @@
-// Values: from the raw text of a leaf to its value.
+// Values: which there are, which text spells which, their bytes, the text that is written for each, and all that is proved of them.
 pub mod judged; // judged.rt: what a text is judged to be
-pub mod blanks; // blanks.rt: a part of a text, and blanks at both ends
-pub mod code; // code.rt: account numbers and currencies
-pub mod plain; // plain.rt: numbers, and yes or no
-pub mod chars; // chars.rt: references and texts

@@ -3,10 +3,10 @@
 use text::class::is_digit;
 use value::judged::Judged;
 ghost use mathlib.Core.Path.{_≡_};
+ghost use Rattle.value.specs.Day.{monthDays, Real};
 ghost use lib.ListN.{drop};
-ghost use Rattle.list.specs.Listing.{date};
-ghost use Rattle.value.specs.Day.{Real, monthDays};
 ghost use Rattle.value.specs.mirror.Digits.{Two, Mark, DayAt, NextAt};
+ghost use Rattle.list.specs.Listing.{date};
 ghost use Rattle.value.specs.Judged.{FormedAny};
 
 // How many days a month of a year has, 0 where there is no such month.

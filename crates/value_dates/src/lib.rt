@@ -1,3 +1,3 @@
-// Days and moments, from their text.
+// DATE and DTM, from their text.
 pub mod day; // day.rt: days
-pub mod moment; // moment.rt: moments
+pub mod moment; // moment.rt: the parts after the day

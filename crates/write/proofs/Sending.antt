@@ -1,14 +1,25 @@
 -- What the program writes, case by case; and that nothing else fits. Assumes nothing.
-use mathlib.Core.Path.{_≡_, sym, _∙_, ap}
+use mathlib.Core.Path.{_≡_, refl, sym, _∙_, ap}
 use mathlib.Core.List.{List}
 use Prim.Native.Nat.{ℕ}
-use lib.ListN.{length}
+use native.Mathlib.Omega.{arith}
+use lib.ListN.{length, take}
+use Rattle.io.specs.Counts.{Counts}
 use Rattle.answer.specs.declared.Answer.{Answer}
 use Rattle.answer.specs.Table.{limit}
 use Rattle.program_line.specs.Line.{refusal}
 use Rattle.file_letter.specs.Writes.{Writes}
-use Rattle.file_letter.proofs.Rooms.{written-alike}
+use Rattle.program_outcome.specs.Outcome.{Outcome}
+use Rattle.program_outcome.proofs.Outcomes.{outcome-written, outcome-counts}
+use Rattle.file_letter.proofs.Rooms.{written-fits, written-alike}
 use Rattle.write.specs.Sends.{Sends, noFile, file}
+
+-- the outcome of a writing, for a buffer with room for every file
+pub sends : (run d d′ : List ℕ) (a : Answer) → length d ≡ limit → length d′ ≡ limit → Writes run d a d′ → (r : ℕ) (x : List ℕ) → Outcome a d′ r x → Sends run (take r x) × Counts r x
+sends run d d′ a i k w r x o = (
+  outcome-written a d′ r x (omega (arith, k)) (Sends run) (λ z. file a d d′ i w z refl) (λ n. noFile a d d′ i w n refl) o,
+  outcome-counts a d′ r x (omega (arith, k)) (λ z. omega (arith, written-fits run d a d′ w z, i, k)) o,
+)
 
 -- only one output fits
 module _ (run u v : List ℕ) where

@@ -1,6 +1,5 @@
 // What the program writes: the statement file of the image that a run begins with, or one line.
-use answer::Answer;
-use program_line::answer_line::put_refusal;
+use program_outcome::outcome;
 use unit::write::write;
 ghost use mathlib.Core.Path.{_≡_};
 ghost use lib.ListN.{length, take};
@@ -14,8 +13,5 @@ pub(crate) fn sent(run: &[u8], out: &mut [u8]) -> usize
     ensures within { λ r. ⌜ Counts r (now (out .exit)) ⌝ }
 {
     let a = write(run, out);
-    if a.code == Answer::ACCEPTED {
-        return a.place;
-    }
-    put_refusal(out, 0, a)
+    outcome(a, out)
 }

@@ -31,8 +31,8 @@ use Rattle.file_walk.specs.declared.found.Found.{Found}
 use Rattle.file_walk.specs.declared.found.Found.the-variants.{Fine, Violation}
 use Rattle.file_walk.specs.Types.{Judge}
 use Rattle.file_walk.specs.First.{refuse, orElse, isEmpty, currencyGiven, kindOf}
-use Rattle.file_walk.specs.mirror.Machine.{Speller, judgeOf, at, pop, openTest, closeTest, run}
-use Rattle.file_walk.specs.Numbers.{isGroupIn}
+use Rattle.file_walk.specs.mirror.Machine.{Speller, verdictOf, judgeOf, at, pop, openTest, closeTest, run}
+use Rattle.list.specs.Numbers.{isGroupIn}
 use Rattle.file_walk.specs.mirror.Tables.{openingIn, groupEndIn}
 use Rattle.file_walk.specs.mirror.Stride.{inkBefore, endIn, rowIn, ownIn}
 use Rattle.file_walk.proofs.violation.Answers.{or-right, or-assoc}
@@ -49,7 +49,7 @@ text-empty (p ∷ ps) = sym (ne-eqb (length (spell p ++ spells ps)) 0 (omega (ar
 abbrev pub judged : Judge → Kind → ℕ → ℕ → Attrs → List ℕ → Found
 judged j group r o ats cs = Fine
 judged j choice r o ats cs = Fine
-judged j (leaf k) r o ats cs = refuse (not (j k (currencyGiven ats) cs)) (table.badValue r o)
+judged j (leaf k) r o ats cs = refuse (not (j .value k (currencyGiven ats) cs)) (table.badValue r o)
 
 -- the characters that are kept of a text
 abbrev pub kept : Bool → List Piece → List ℕ
@@ -122,4 +122,4 @@ module _ (T : Speller) (t pool s : List ℕ) (sd : Sound t pool) where
       open-run =
           let r = child l (lv .row) n in
           sym (opening-in t pool sd T lv r (ownIn t s r (k .attributes) (k .first)) new (k .less) pl (its r refl)
-          (λ h. own-is (judgeOf T) t pool s r h (subst (λ z. r ≤ z) (size-is t pool) (child-found l (lv .row) n r refl h .its .last)) m k n new g))
+          (λ h. own-is (verdictOf T) t pool s r h (subst (λ z. r ≤ z) (size-is t pool) (child-found l (lv .row) n r refl h .its .last)) m k n new g))

@@ -34,7 +34,7 @@ use Rattle.file_walk.specs.declared.step.Here.{Here}
 use Rattle.file_walk.specs.declared.step.Turn.{Turn}
 use Rattle.file_walk.specs.declared.step.Met.{Met}
 use Rattle.file_walk.specs.declared.step.Met.the-variants.{Opened, Closed, Refused, Lost}
-use Rattle.file_walk.specs.Numbers.{isGroupIn}
+use Rattle.list.specs.Numbers.{isGroupIn}
 use Rattle.file_walk.specs.mirror.Tables.{openingIn}
 use Rattle.file_walk.specs.mirror.Stride.{ownIn, inkBefore, endIn, refusedAt, lostAt, outer, closedBy, closedIn, rowIn, inner, enteredBy, enteredIn, vacantBy, vacantIn, metIn, inkAhead, stepBy, stepIn}
 

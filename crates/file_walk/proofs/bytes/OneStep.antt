@@ -34,10 +34,11 @@ use Rattle.file_walk.specs.declared.step.Here.{Here}
 use Rattle.file_walk.specs.declared.step.Turn.{Turn}
 use Rattle.file_walk.specs.declared.step.Met.the-variants.{Opened, Closed}
 use Rattle.file_walk.specs.First.{refuse, orElse, firstOf, currencyGiven, attrsOk, kindOf}
-use Rattle.file_walk.specs.mirror.Machine.{Speller, judgeOf, State, at, pop, fresh, advance, closeTest, run, opens, closes, emits}
-use Rattle.file_walk.specs.Numbers.{isGroupIn}
+use Rattle.file_walk.specs.mirror.Machine.{Speller, verdictOf, judgeOf, State, at, pop, fresh, advance, closeTest, run, opens, closes, emits}
+use Rattle.list.specs.Numbers.{isGroupIn}
+use Rattle.value.specs.mirror.Judges.{isCurrency}
 use Rattle.file_walk.specs.mirror.Tables.{freshIn, advanceIn, passedIn, againIn, openingIn, levelAt, pushed, levels}
-use Rattle.file_walk.specs.mirror.Stride.{isCurrency, ownIn, inkBefore, endIn, rowIn, refusedAt, closedIn, enteredIn, belowIn, vacantIn, stepIn, stackIn}
+use Rattle.file_walk.specs.mirror.Stride.{ownIn, inkBefore, endIn, rowIn, refusedAt, closedIn, enteredIn, belowIn, vacantIn, stepIn, stackIn}
 use Rattle.file_walk.proofs.violation.Answers.{or-fine, refuse-no, attrs-group}
 use Rattle.file_walk.proofs.bytes.Sound.{fresh-in, advance-in}
 use Rattle.file_walk.proofs.events.Items.{closes-group}
@@ -301,7 +302,7 @@ module _ (T : Speller) (t pool s : List ℕ) (sd : Sound t pool) (m : Coins (jud
             some e = elim (decLt 0 r) [ yes p ↦ p | no p ↦ absurd (eqb-false r 0 e (omega arith)) ]
 
         fits : attrsOk (judgeOf T) (kindOf l r) new ≡ true
-        fits = sym (own-is (judgeOf T) t pool s r (its .first) (subst (λ y. r ≤ y) (size-is t pool) (its .last)) m k n new g) ∙ opening-fits t lv r ok (k .less) z .1
+        fits = sym (own-is (verdictOf T) t pool s r (its .first) (subst (λ y. r ≤ y) (size-is t pool) (its .last)) m k n new g) ∙ opening-fits t lv r ok (k .less) z .1
 
         fresh-is : freshIn t r (k .less) ≡ fresh l r (k .less)
         fresh-is = fresh-in t pool sd r (k .less) (its .last)
@@ -323,7 +324,7 @@ module _ (T : Speller) (t pool s : List ℕ) (sd : Sound t pool) (m : Coins (jud
         nested-child = (its, record { low = w .placed .low; high = w .placed .high; last = inr its }, w .nested)
 
         coined-in : kindOf l r ≡ leaf amt → (isCurrency (slice (k .first .value) (k .first .quote) s) ≡ true) × (currencyGiven new ≡ slice (k .first .value) (k .first .quote) s)
-        coined-in e = coined (judgeOf T) m s k n new g (subst (λ q. attrsOk (judgeOf T) q new ≡ true) e fits)
+        coined-in e = coined (verdictOf T) m s k n new g (subst (λ q. attrsOk (judgeOf T) q new ≡ true) e fits)
 
         stands-in : Tells s (k .end) more → Stands T t pool s sd st′ in′ (advance l lv r ∷ below) new more
         stands-in tells = record {

@@ -5,9 +5,9 @@ use mathlib.Core.List.{List, [], _∷_}
 use Prim.Native.Nat.{ℕ, zero, suc, _≤_, _<_}
 use native.Mathlib.Omega.{arith}
 use lib.Dec.{eqb}
-use lib.ListN.{length, getD}
+use lib.ListN.{length}
 use lib.Seq.{slice}
-use borrow.Author.Tests.{eqb-true, eq-eqb, ne-eqb}
+use borrow.Author.Tests.{eq-eqb, ne-eqb}
 use Rattle.text.specs.Bytes.{ascii, isCapital, isUnmarked}
 use Rattle.text.specs.Lists.{All, same}
 use Rattle.text_characters.specs.Pieces.{Spells}
@@ -16,22 +16,25 @@ use Rattle.text_characters.proofs.Unmarked.{unmarked, unmarked-is, unmarked-sam
 use Rattle.list.specs.Listing.{ccy, rowAt}
 use Rattle.list.specs.Table.{cell, kindOf, wordsIn, listOf}
 use Rattle.list.proofs.rows.Rows.{kind-is}
+use Rattle.value.specs.mirror.Judges.{isCurrency}
+use Rattle.value.proofs.stored.Codes.{currency-exactly}
 use Rattle.xml.specs.Message.{Attrs}
 use Rattle.xml_tags.specs.declared.attribute.Attribute.{Attribute}
 use Rattle.xml_tags.specs.declared.token.Token.{Token}
 use Rattle.xml_tags.specs.Story.{attributeIn, Finds, Tagged}
 use Rattle.file_walk.specs.Types.{Judge}
-use Rattle.file_walk.specs.First.{noAttrs, currencyGiven, oneCurrency, attrsOk}
+use Rattle.file_walk.specs.First.{isEmpty, currencyGiven, attrsOk}
+use Rattle.file_walk.specs.mirror.Machine.{Verdict, oneCurrency, judgeBy}
 use Rattle.file_walk.proofs.violation.Answers.{iff-same}
-use Rattle.file_walk.specs.mirror.Stride.{isCurrency, named, ownIn}
+use Rattle.file_walk.specs.mirror.Stride.{named, ownIn}
 
 -- a currency by its raw bytes: three capitals spell themselves
 pub record Coins (j : Judge) : Type 0 where
-  pub ccy : (s w : List ℕ) → Spells s w → isCurrency s ≡ j ccy [] w
+  pub ccy : (s w : List ℕ) → Spells s w → isCurrency s ≡ j .value ccy [] w
 
-module _ (j : Judge) where
+module _ (j : Verdict) where
   -- AMT alone has one
-  attrs-code : (c k : ℕ) (ws : List (List ℕ)) (ats : Attrs) → attrsOk j (kindOf c k ws) ats ≡ cond (eqb c 9) (oneCurrency j ats) (noAttrs ats)
+  attrs-code : (c k : ℕ) (ws : List (List ℕ)) (ats : Attrs) → attrsOk (judgeBy j) (kindOf c k ws) ats ≡ cond (eqb c 9) (oneCurrency j ats) (isEmpty ats)
   attrs-code zero k ws ats = refl
   attrs-code (suc zero) k ws ats = refl
   attrs-code (suc (suc zero)) k ws ats = refl
@@ -45,13 +48,13 @@ module _ (j : Judge) where
   attrs-code (suc (suc (suc (suc (suc (suc (suc (suc (suc (suc zero)))))))))) k ws ats = refl
   attrs-code (suc (suc (suc (suc (suc (suc (suc (suc (suc (suc (suc zero))))))))))) k ws ats = refl
   attrs-code (suc (suc (suc (suc (suc (suc (suc (suc (suc (suc (suc (suc c)))))))))))) k ws ats =
-      ap (λ (b : Bool). cond b (oneCurrency j ats) (noAttrs ats)) (sym (ne-eqb (suc (suc (suc (suc (suc (suc (suc (suc (suc (suc (suc (suc c)))))))))))) 9 (λ e. omega arith)))
+      ap (λ (b : Bool). cond b (oneCurrency j ats) (isEmpty ats)) (sym (ne-eqb (suc (suc (suc (suc (suc (suc (suc (suc (suc (suc (suc (suc c)))))))))))) 9 (λ e. omega arith)))
 
-  none-by : (ats : Attrs) (n : ℕ) → n ≡ length ats → eqb n 0 ≡ noAttrs ats
+  none-by : (ats : Attrs) (n : ℕ) → n ≡ length ats → eqb n 0 ≡ isEmpty ats
   none-by [] n e = eq-eqb n 0 e
   none-by (a ∷ ats) n e = ne-eqb n 0 (λ z. omega arith)
 
-  module _ (m : Coins j) (s : List ℕ) (o : ℕ) where
+  module _ (m : Coins (judgeBy j)) (s : List ℕ) (o : ℕ) where
     one-by : (ats : Attrs) (n : ℕ) → n ≡ length ats → Finds s o ats
         → (eqb n 1 && (named (ascii "Ccy") s (attributeIn s o .name) (attributeIn s o .stop) && isCurrency (slice (attributeIn s o .value) (attributeIn s o .quote) s))) ≡ oneCurrency j ats
     unfolding named
@@ -61,37 +64,29 @@ module _ (j : Judge) where
     one-by (a ∷ b ∷ ats) n e f = rw (ne-eqb n 1 (λ z. omega arith))
 
   -- for a row of the tables
-  pub own-is : (t pool s : List ℕ) (r : ℕ) → 0 < r → r ≤ cell t 0 0 → Coins j → (k : Token) (n : List ℕ) (ats : Attrs) → Tagged s k n ats
-      → ownIn t s r (k .attributes) (k .first) ≡ attrsOk j (rowAt (listOf t pool) r .kind) ats
+  pub own-is : (t pool s : List ℕ) (r : ℕ) → 0 < r → r ≤ cell t 0 0 → Coins (judgeBy j) → (k : Token) (n : List ℕ) (ats : Attrs) → Tagged s k n ats
+      → ownIn t s r (k .attributes) (k .first) ≡ attrsOk (judgeBy j) (rowAt (listOf t pool) r .kind) ats
   unfolding ownIn
   own-is t pool s r a b m k n ats g =
       ap (λ (x : Attribute). cond (eqb (cell t r 2) 9) (eqb (k .attributes) 1 && (named (ascii "Ccy") s (x .name) (x .stop) && isCurrency (slice (x .value) (x .quote) s))) (eqb (k .attributes) 0)) (g .first)
       ∙ ap₂ (λ (x y : Bool). cond (eqb (cell t r 2) 9) x y) (one-by m s (k .stop) ats (k .attributes) (g .count) (g .attributes)) (none-by ats (k .attributes) (g .count))
       ∙ sym (attrs-code (cell t r 2) (cell t r 3) (wordsIn t pool r) ats)
-      ∙ ap (λ x. attrsOk j x ats) (sym (kind-is t pool r a b))
+      ∙ ap (λ x. attrsOk (judgeBy j) x ats) (sym (kind-is t pool r a b))
 
 -- ---- three capitals
 
 capital-own : (x : ℕ) → isCapital x ≡ true → isUnmarked x ≡ true
 capital-own x e = let w = is-in capital x e in sym (yes unmarked 65 26 refl (w .0) (omega (arith, w .1)))
 
-three : (cs : List ℕ) → length cs ≡ 3 → isCapital (getD cs 0 0) ≡ true → isCapital (getD cs 1 0) ≡ true → isCapital (getD cs 2 0) ≡ true → All isUnmarked cs
-three [] n a b c = absurd (omega arith)
-three (x ∷ []) n a b c = absurd (omega arith)
-three (x ∷ y ∷ []) n a b c = absurd (omega arith)
-three (x ∷ y ∷ z ∷ []) n a b c = (capital-own x a, (capital-own y b, (capital-own z c, tt)))
-three (x ∷ y ∷ z ∷ w ∷ cs) n a b c = absurd (omega arith)
+all-own : (cs : List ℕ) → All isCapital cs → All isUnmarked cs
+all-own [] a = tt
+all-own (x ∷ cs) a = (capital-own x (a .0), all-own cs (a .1))
 
 currency-unmarked : (cs : List ℕ) → isCurrency cs ≡ true → All isUnmarked cs
-unfolding isCurrency
-currency-unmarked cs e =
-    let f = and-is (eqb (length cs) 3) _ e in
-    let g = and-is (isCapital (getD cs 0 0)) _ (f .1) in
-    let h = and-is (isCapital (getD cs 1 0)) (isCapital (getD cs 2 0)) (g .1) in
-    three cs (eqb-true (length cs) 3 (f .0)) (g .0) (h .0) (h .1)
+currency-unmarked cs e = all-own cs (currency-exactly cs .0 e .capitals)
 
 -- an amount's one attribute: its raw bytes are three capitals, and its characters are those
-pub coined : (j : Judge) (m : Coins j) (s : List ℕ) (k : Token) (n : List ℕ) (ats : Attrs) → Tagged s k n ats → oneCurrency j ats ≡ true
+pub coined : (j : Verdict) (m : Coins (judgeBy j)) (s : List ℕ) (k : Token) (n : List ℕ) (ats : Attrs) → Tagged s k n ats → oneCurrency j ats ≡ true
     → (isCurrency (slice (k .first .value) (k .first .quote) s) ≡ true) × (currencyGiven ats ≡ slice (k .first .value) (k .first .quote) s)
 coined j m s k n [] g e = absurd (false≢true e)
 coined j m s k n (a ∷ []) g e =
@@ -102,7 +97,7 @@ coined j m s k n (a ∷ []) g e =
 coined j m s k n (a ∷ b ∷ ats) g e = absurd (false≢true e)
 
 -- three capitals are written in one way only, so it is enough to know which characters are a currency
-pub coins-of : (j : Judge) → ((w : List ℕ) → isCurrency w ≡ j ccy [] w) → Coins j
+pub coins-of : (j : Judge) → ((w : List ℕ) → isCurrency w ≡ j .value ccy [] w) → Coins j
 coins-of j f = record { ccy = λ s w x. same-as s w x ∙ f w }
   where
     same-as : (s w : List ℕ) → Spells s w → isCurrency s ≡ isCurrency w

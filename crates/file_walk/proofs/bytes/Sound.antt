@@ -20,7 +20,7 @@ use Rattle.file_walk.specs.declared.level.Level.{Level}
 use Rattle.file_walk.specs.First.{refuse, firstOf, attrsOk}
 use Rattle.file_walk.specs.First.{kindOf as kindIn}
 use Rattle.file_walk.specs.mirror.Machine.{Speller, judgeOf, misses, fresh, advance, again, openTest, groupTest}
-use Rattle.file_walk.specs.Numbers.{isGroupIn}
+use Rattle.list.specs.Numbers.{isGroupIn}
 use Rattle.file_walk.specs.mirror.Tables.{freshIn, advanceIn, passedIn, againIn, openingIn, brokenIn, groupEndIn}
 
 module _ (t pool : List ℕ) (s : Sound t pool) where

@@ -23,7 +23,7 @@ use Rattle.file_walk.specs.declared.found.Found.the-variants.{Fine, Viol
 use Rattle.file_walk.specs.First.{orElse, currencyGiven, attrsOk, kindOf}
 use Rattle.file_walk.specs.mirror.Machine.{Speller, judgeOf, before, at, advance, run, opens, closes, emits}
 use Rattle.file_walk.specs.mirror.Tables.{levels}
-use Rattle.file_walk.specs.mirror.Stride.{isCurrency}
+use Rattle.value.specs.mirror.Judges.{isCurrency}
 use Rattle.file_walk.proofs.bytes.Sound.{Placed}
 use Rattle.file_walk.proofs.bytes.Joint.{judged}
 

@@ -5,18 +5,21 @@ use mathlib.Core.List.{List}
 use mathlib.Core.Logic.{_≢_}
 use Prim.Native.Nat.{ℕ, zero, suc, _+_, _-_, _≤_, _<_, min}
 use native.Mathlib.Nat.{min-eq-left}
-use native.Mathlib.Omega.{arith}
 use lib.Dec.{eqb, ltb}
-use lib.ListN.{length, getD, drop}
+use lib.ListN.{length, drop}
 use lib.Seq.{slice}
 use borrow.Author.Tests.{eq-eqb, ne-eqb, lt-ltb, le-ltb}
 use Rattle.answer.specs.declared.Answer.{Answer}
 use Rattle.answer.specs.Table as table
-use Rattle.text.specs.Bytes.{ascii, isBlank, isCapital}
+use Rattle.text.specs.Bytes.{ascii, isBlank}
 use Rattle.text.specs.Lists.{span}
-use Rattle.text.proofs.Parts.{part-at, part-room}
 use Rattle.list.specs.Table.{cell}
 use Rattle.list.specs.mirror.Lookup.{childAlong}
+use Rattle.value.specs.Code.{Ccy}
+use Rattle.value.specs.Judged.{Exactly}
+use Rattle.value.specs.mirror.Judges.{isCurrency}
+use Rattle.value.proofs.types.Ones.{exactly-one}
+use Rattle.value.proofs.stored.Codes.{currency-exactly}
 use Rattle.xml_tags.specs.declared.attribute.Attribute.{Attribute}
 use Rattle.xml_tags.specs.declared.token.Kind.{Kind}
 use Rattle.xml_tags.specs.declared.token.Kind.the-variants.{Open, Empty, Close, End}
@@ -31,9 +34,9 @@ use Rattle.file_walk.specs.declared.found.Found.the-variants.{Fine, Viol
 use Rattle.file_walk.specs.declared.step.Here.{Here}
 use Rattle.file_walk.specs.declared.step.Turn.{Turn}
 use Rattle.file_walk.specs.declared.step.Met.the-variants.{Opened, Closed}
-use Rattle.file_walk.specs.Numbers.{isGroupIn}
+use Rattle.list.specs.Numbers.{isGroupIn}
 use Rattle.file_walk.specs.mirror.Tables.{freshIn, advanceIn, openingIn, groupEndIn, pushed}
-use Rattle.file_walk.specs.mirror.Stride.{isCurrency, named, ownIn, inkBefore, textFrom, inkFrom, endIn, refusedAt, lostAt, outer, closedBy, closedIn, rowIn, enteredBy, enteredIn, belowBy, belowIn, vacantBy, vacantIn, inner, numberOf, metIn, leftIn, inkAhead, stepBy, stackBy, stepIn, stackIn}
+use Rattle.file_walk.specs.mirror.Stride.{named, ownIn, inkBefore, textFrom, inkFrom, endIn, refusedAt, lostAt, outer, closedBy, closedIn, rowIn, enteredBy, enteredIn, belowBy, belowIn, vacantBy, vacantIn, inner, numberOf, metIn, leftIn, inkAhead, stepBy, stackBy, stepIn, stackIn}
 
 -- ---- a kind by its number
 
@@ -64,34 +67,9 @@ open-by End n e f g h = absurd (g e)
 
 -- ---- attributes
 
-module _ (s : List ℕ) (a b n : ℕ) (e : n ≡ length (slice a b s)) where
-  pub currency-length : (n ≡ 3 → ⊥) → false ≡ isCurrency (slice a b s)
-  unfolding isCurrency
-  currency-length h = rw (ne-eqb (length (slice a b s)) 3 (λ z. h (e ∙ z)))
-
-  module _ (h : n ≡ 3) where
-    at-part : (k : ℕ) → k < 3 → getD (slice a b s) k 0 ≡ getD s (a + k) 0
-    at-part k l = part-at a b k s (omega arith)
-
-    pub currency-room : a + 2 < length s
-    currency-room = part-room a b 2 s (omega arith)
-
-    first : getD (slice a b s) 0 0 ≡ getD s a 0
-    first = at-part 0 (omega arith) ∙ ap (λ i. getD s i 0) (let z : a + 0 ≡ a = omega arith in z)
-
-    module _ (x : Bool) (f : x ≡ isCapital (getD s a 0)) where
-      pub currency-first : x ≡ false → false ≡ isCurrency (slice a b s)
-      unfolding isCurrency
-      currency-first g = rw (eq-eqb (length (slice a b s)) 3 (sym e ∙ h), first, sym f ∙ g)
-
-      module _ (g : x ≡ true) (y : Bool) (k : y ≡ isCapital (getD s (a + 1) 0)) where
-        pub currency-second : y ≡ false → false ≡ isCurrency (slice a b s)
-        unfolding isCurrency
-        currency-second m = rw (eq-eqb (length (slice a b s)) 3 (sym e ∙ h), first, sym f ∙ g, at-part 1 (omega arith), sym k ∙ m)
-
-        pub currency-third : (z : Bool) → y ≡ true → z ≡ isCapital (getD s (a + 2) 0) → z ≡ isCurrency (slice a b s)
-        unfolding isCurrency
-        currency-third z m o = rw (eq-eqb (length (slice a b s)) 3 (sym e ∙ h), first, sym f ∙ g, at-part 1 (omega arith), sym k ∙ m, at-part 2 (omega arith)) o
+-- three capitals, as `value` tests them
+pub coin-told : {u cs : List ℕ} {r : Bool} → u ≡ cs → Exactly r (Ccy u) → r ≡ isCurrency cs
+coin-told {u} {cs} {r} e h = exactly-one r (isCurrency cs) (subst (λ (w : List ℕ). Exactly r (Ccy w)) e h) (currency-exactly cs)
 
 module _ (t s : List ℕ) (r count : ℕ) (a : Attribute) (k : ℕ) (e : k ≡ cell t r 2) where
   pub own-none : (k ≡ 9 → ⊥) → eqb count 0 ≡ ownIn t s r count a

@@ -1,34 +1,16 @@
 -- The tests of a tag over the tables, from what the code's calls told. Assumes nothing.
 use mathlib.Core.Path.{_≡_, sym, _∙_, ap}
 use mathlib.Core.Bool.{Bool, true, false, _||_, not}
-use mathlib.Core.List.{List, []}
+use mathlib.Core.List.{List}
 use Prim.Native.Nat.{ℕ, _≤_, _<_}
-use lib.Dec.{eqb, ltb, leb}
-use borrow.Author.Tests.{eq-eqb, ne-eqb, lt-ltb, le-ltb, le-leb, lt-leb}
+use lib.Dec.{eqb, ltb}
+use borrow.Author.Tests.{eq-eqb, ne-eqb, lt-ltb, le-ltb}
 use Rattle.answer.specs.declared.Answer.{Answer}
 use Rattle.answer.specs.Table as table
-use Rattle.text.specs.Bytes.{inRange}
 use Rattle.list.specs.Table.{cell}
-use Rattle.list.proofs.rows.Codes.{group-is}
 use Rattle.file_walk.specs.declared.level.Level.{Level}
 use Rattle.file_walk.specs.declared.found.Found.the-variants.{Fine, Violation}
-use Rattle.file_walk.specs.Numbers.{isGroupIn}
 use Rattle.file_walk.specs.mirror.Tables.{passedIn, againIn, openingIn, brokenIn, groupEndIn}
-
--- by the number, between those of leaves or not
-module _ (c : ℕ) where
-  kind-is : isGroupIn c ≡ not (inRange 2 11 c)
-  unfolding isGroupIn
-  kind-is = group-is 0 [] c
-
-  pub leaf-kind : 2 ≤ c → c ≤ 11 → false ≡ isGroupIn c
-  leaf-kind a b = rw (kind-is, le-leb 2 c a, le-leb c 11 b)
-
-  pub low-kind : c < 2 → true ≡ isGroupIn c
-  low-kind a = rw (kind-is, lt-leb 2 c a)
-
-  pub high-kind : 2 ≤ c → 11 < c → true ≡ isGroupIn c
-  high-kind a b = rw (kind-is, le-leb 2 c a, lt-leb c 11 b)
 
 module _ (t : List ℕ) (lv : Level) where
   module _ (k : ℕ) (e : k ≡ cell t (lv .row) 2) (r : ℕ) where

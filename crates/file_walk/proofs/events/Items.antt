@@ -12,7 +12,8 @@ use Rattle.xml_tags.specs.Story.{Event, char as text, leave, events}
 use Rattle.file_walk.specs.declared.level.Level.{Level}
 use Rattle.file_walk.specs.Types.{Types}
 use Rattle.file_walk.specs.First.{textOf, currencyGiven, kindOf}
-use Rattle.file_walk.specs.Denotes.{plain, Spells, Denotes, Has}
+use Rattle.file_walk.specs.Denotes.{Denotes, Has}
+use Rattle.file_walk.proofs.violation.Spells.{plain, Spells, spells-of}
 use Rattle.file_walk.specs.mirror.Machine.{Speller, spellerOf, Computes, before, at, pop, fresh, advance, opens, closes, emits}
 use Rattle.list.proofs.rows.Child.{child-is}
 
@@ -63,7 +64,7 @@ module _ (t : Types) (sp : Leaf → List ℕ → List ℕ → Option (t .A)) (y 
   group-emits (element o n ats i k) end lv below rest g d = absurd d
   group-emits (element o n ats i k) (value r v c) lv below rest g d =
       let e : child l (lv .row) n ≡ r = child-is l (lv .row) n w r (record { its = d .0 .0; name = d .0 .1 }) in
-      let s = single (kindOf l r) r ats i v (w .kinds (lv .row) r (d .0 .0)) (d .1) in
+      let s = single (kindOf l r) r ats i v (w .kinds (lv .row) r (d .0 .0)) (spells-of t l r ats i v (d .1)) in
       let lv₂ = advance l lv r in
       let tail = events k (leave ∷ rest) in
       ap (λ q. opens T l (kindOf l q) q ++ emits T l (at (fresh l q o) (advance l lv q ∷ below) ats []) (events i (leave ∷ tail))) e

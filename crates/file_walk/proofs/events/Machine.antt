@@ -22,12 +22,13 @@ use Rattle.file_walk.specs.declared.level.Level.{Level}
 use Rattle.file_walk.specs.declared.found.Found.{Found}
 use Rattle.file_walk.specs.declared.found.Found.the-variants.{Fine}
 use Rattle.file_walk.specs.Types.{Judge}
-use Rattle.file_walk.specs.First.{refuse, orElse, firstOf, isEmpty, passed, breaks, textOf, attrsOk, kindOf, isRoot, overCount, absentRow, childRows, opening, closing, inside, firstViolation}
+use Rattle.file_walk.specs.First.{refuse, orElse, firstOf, isEmpty, passed, breaks, textOf, attrsOk, kindOf, isRoot, absentRow, childRows, opening, closing, inside, firstViolation}
 use Rattle.file_walk.specs.Denotes.{OneElement}
 use Rattle.file_walk.specs.mirror.Machine.{Speller, judgeOf, at, pop, fresh, advance, again, openTest, closeTest, run, walk, misses}
 use Rattle.file_walk.proofs.violation.Answers.{or-right, or-when, or-assoc, refuse-no, passed-no, no-passed, group-attrs, kinds}
 use Rattle.list.proofs.rows.Child.{child-found}
 use Rattle.file_walk.proofs.violation.Tests.{no-child}
+use Rattle.file_walk.proofs.violation.Opening.{overCount, openTests, opening-is}
 use Rattle.file_walk.proofs.violation.Steps.{Fits}
 use Rattle.file_walk.proofs.violation.Tests.{Opened, opened}
 use Rattle.file_walk.proofs.violation.Rules.{latest, Odd, odd-ends, step-to, step-from}
@@ -111,7 +112,7 @@ module _ (T : Speller) (l : Listing) where
 
   open-same : (kp kr : Kind) (p last r o : ℕ) (seen : List ℕ) (ats : Attrs) → Each (Child l p) seen → Each (λ x. x ≤ latest seen) seen → last ≡ latest seen
       → firstOf (refuse (eqb r 0) (table.notAChild p o) ∷ refuse (not (isChoice kp) && ltb r last) (table.outOfOrder r o) ∷ refuse (again l kp last r) (table.tooMany r o) ∷ refuse (not (attrsOk j kr ats)) (table.wrongAttributes r o) ∷ [])
-      ≡ firstOf (refuse (eqb r 0) (table.notAChild p o) ∷ refuse (not (isChoice kp) && passed r seen) (table.outOfOrder r o) ∷ refuse (overCount l kp seen r) (table.tooMany r o) ∷ refuse (not (attrsOk j kr ats)) (table.wrongAttributes r o) ∷ [])
+      ≡ openTests j l kp kr p seen r ats o
   open-same kp kr p last r o seen ats c a e =
       rw (e, passed-latest r seen a)
       (or-when (refuse (eqb r 0) (table.notAChild p o)) _ _ (λ z. or-when (refuse (not (isChoice kp) && passed r seen) (table.outOfOrder r o)) _ _ (λ y.
@@ -250,9 +251,9 @@ module _ (T : Speller) (l : Listing) where
         let shut = closing j l (kindOf l r) r o ats (childRows l r i) (textOf i) in
         let ended = closing j l (kindOf l p) p (lv .place) [] (r ∷ (childRows l p k ++ seen)) [] in
         ap (λ a. orElse a (run T l (at (fresh l r o) (lv₂ ∷ below) ats []) (events i (leave ∷ tail))))
-        (open-same (kindOf l p) (kindOf l r) p (lv .last) r o seen ats (s .theirs) (s .top) (s .last))
+        (open-same (kindOf l p) (kindOf l r) p (lv .last) r o seen ats (s .theirs) (s .top) (s .last) ∙ sym (opening-is j l p seen r ats o))
         ∙ or-when open′ (run T l (at (fresh l r o) (lv₂ ∷ below) ats []) (events i (leave ∷ tail))) (orElse (inside j l r [] i) (orElse shut (orElse (inside j l p (r ∷ seen) k) (orElse ended done))))
-        (λ z. let op = opened j l (kindOf l p) (kindOf l r) p seen r ats o g z in
+        (λ z. let op = opened j l (kindOf l p) (kindOf l r) p seen r ats o g (sym (opening-is j l p seen r ats o) ∙ z) in
         let its = child-found l p n r refl (op .row) .its in
         part-run lv below seen rest s o ats i k r its op (λ y. group-run i (fresh l r o) (lv₂ ∷ below) [] tail (stands-fresh r o) y)
         ∙ ap (λ x. orElse (inside j l r [] i) (orElse shut x)) (rest-run lv below seen rest s o ats i k r its op (λ s₂. group-run k lv₂ below (r ∷ seen) rest s₂ g)))

@@ -8,7 +8,7 @@ use lib.Dec.{eqb}
 use borrow.Author.Tests.{eq-eqb, not-false}
 use Rattle.answer.specs.Table as table
 use Rattle.text.specs.Bytes.{isBlank}
-use Rattle.text.specs.Lists.{Each, same}
+use Rattle.text.specs.Lists.{Each}
 use Rattle.list.specs.Listing.{Leaf, Kind, group, choice, leaf, Listing, rowAt, Child, child, isGroup}
 use Rattle.list.specs.WellFormed.{LeafOk, KindOk, WellFormed}
 use Rattle.list.specs.Content.{Content, end, value, node, rows, ValueOf, GroupOf, Good, Meets}
@@ -16,13 +16,12 @@ use Rattle.xml.specs.Message.{Attrs, Inside, nothingInside, character, element}
 use Rattle.file_walk.specs.declared.found.Found.{Found}
 use Rattle.file_walk.specs.declared.found.Found.the-variants.{Fine}
 use Rattle.file_walk.specs.Types.{Types, Judge, Decides, Spelling}
-use Rattle.file_walk.specs.First.{First, refuse, firstOf, isEmpty, textOf, rootAttrs, currencyGiven, attrsOk, kindOf, isRoot, childRows, opening, leafEnd, closing, inside, firstViolation}
-use Rattle.file_walk.specs.Denotes.{plain, OneElement, Spells, Denotes, Has}
-use Rattle.text.proofs.Classes.{and-is}
+use Rattle.file_walk.specs.First.{First, refuse, firstOf, isEmpty, textOf, currencyGiven, attrsOk, kindOf, isRoot, childRows, opening, leafEnd, closing, inside, firstViolation}
+use Rattle.file_walk.specs.Denotes.{OneElement, Denotes, Has}
 use Rattle.list.proofs.sound.Tests.{clash}
-use Rattle.list.proofs.rows.Words.{same-eq, same-of}
 use Rattle.file_walk.proofs.violation.Answers.{or-fine, refuse-no, group-attrs, attrs-group, kinds}
-use Rattle.file_walk.proofs.violation.Attrs.{leaf-mean, root-mean}
+use Rattle.file_walk.proofs.violation.Opening.{opening-is}
+use Rattle.file_walk.proofs.violation.Spells.{plain, Spells, spells-of, of-spells}
 use Rattle.list.proofs.rows.Child.{child-found, child-is}
 use Rattle.file_walk.proofs.violation.Tests.{no-child}
 use Rattle.file_walk.proofs.violation.Steps.{Fits, Steps}
@@ -70,7 +69,7 @@ module _ (t : Types) (y : Spelling t) (j : Judge) (d : Decides t j) (l : Listing
   spells (leaf g) f ats i v e a b c =
       let z : g ≡ f = cc in
       let s : t .Spelt g (currencyGiven ats) (textOf i) v = subst (λ x. t .Spelt x (currencyGiven ats) (textOf i) v) (sym z) c in
-      ((a, leaf-mean t j d g ats .0 b, s), y .is g (currencyGiven ats) (textOf i) v s)
+      ((a, d .attrs g ats .0 b, s), y .is g (currencyGiven ats) (textOf i) v s)
 
   -- one element of row r, found good, and what follows it
   module _ (p : ℕ) (seen : List ℕ) (o : ℕ) (n : List ℕ) (ats : Attrs) (i k : Inside) (c : Child l p (child l p n)) (nm : rowAt l (child l p n) .name ≡ n)
@@ -97,13 +96,13 @@ module _ (t : Types) (y : Spelling t) (j : Judge) (d : Decides t j) (l : Listing
     as-value f e y z =
         let r = child l p n in
         let z′ : leafEnd j l f r o ats (textOf i) ≡ Fine = subst (λ q. closing j l q r o ats (childRows l r i) (textOf i) ≡ Fine) e z in
-        let b = j f (currencyGiven ats) (textOf i) in
+        let b = j .value f (currencyGiven ats) (textOf i) in
         let a = or-fine (refuse (not b) (table.badValue r o)) Fine (or-fine (refuse (isEmpty (textOf i)) (table.empty r o)) _ z′ .1) in
-        let v = d .right f (currencyGiven ats) (textOf i) .0 (not-false b (refuse-no (not b) (table.badValue r o) (a .0))) in
+        let v = d .value f (currencyGiven ats) (textOf i) .0 (not-false b (refuse-no (not b) (table.badValue r o) (a .0))) in
         let s = spells (kindOf l r) f ats i (v .0) e y (op .attrs) (v .1) in
         record {
           content = value (child l p n) (v .0) (after .content);
-          denotes = ((c, nm), s .0, after .denotes);
+          denotes = ((c, nm), of-spells t l r ats i (v .0) (kindOf l r) refl (s .0), after .denotes);
           good = (s .1, after .good);
           steps = (op .fits, after .steps);
           theirs = (c, after .theirs);
@@ -125,7 +124,7 @@ module _ (t : Types) (y : Spelling t) (j : Judge) (d : Decides t j) (l : Listing
       let b = or-fine (inside j l r [] i) _ (a .1) in
       let c = or-fine (closing j l (kindOf l r) r o ats (childRows l r i) (textOf i)) _ (b .1) in
       let d = or-fine (inside j l p (r ∷ seen) k) Fine (c .1) in
-      let op = opened j l (kindOf l p) (kindOf l r) p seen r ats o g (a .0) in
+      let op = opened j l (kindOf l p) (kindOf l r) p seen r ats o g (sym (opening-is j l p seen r ats o) ∙ a .0) in
       let f = child-found l p n r refl (op .row) in
       let after = accepts k p (r ∷ seen) h g (d .0) in
       kinds (kindOf l r)
@@ -154,7 +153,7 @@ module _ (t : Types) (y : Spelling t) (j : Judge) (d : Decides t j) (l : Listing
   leafy group r o ats rs i v h s = absurd s
   leafy choice r o ats rs i v h s = absurd s
   leafy (leaf f) r o ats rs i v h s =
-      record { attrs = leaf-mean t j d f ats .1 (s .1); plainly = s .0; noGroup = refl; shuts = rw (some-text f (currencyGiven ats) (textOf i) v h (s .2), d .right f (currencyGiven ats) (textOf i) .1 (v, s .2)) }
+      record { attrs = d .attrs f ats .1 (s .1); plainly = s .0; noGroup = refl; shuts = rw (some-text f (currencyGiven ats) (textOf i) v h (s .2), d .value f (currencyGiven ats) (textOf i) .1 (v, s .2)) }
 
   record Back (p : ℕ) (seen : List ℕ) (i : Inside) (rs : List ℕ) : Type 0 where
     passes : inside j l p seen i ≡ Fine
@@ -168,7 +167,7 @@ module _ (t : Types) (y : Spelling t) (j : Judge) (d : Decides t j) (l : Listing
     back-element = record {
       passes = subst (λ q. firstOf (opening j l p seen q ats o ∷ inside j l q [] i ∷ closing j l (kindOf l q) q o ats (childRows l q i) (textOf i) ∷ inside j l p (q ∷ seen) k ∷ []) ≡ Fine) (sym is)
           (firstOf4 (opening j l p seen r ats o) (inside j l r [] i) (closing j l (kindOf l r) r o ats (childRows l r i) (textOf i)) (inside j l p (r ∷ seen) k)
-          (opens j l (kindOf l p) (kindOf l r) p seen r ats o (record { row = pos; fits = fits; attrs = attrs })) within close (after .passes));
+          (opening-is j l p seen r ats o ∙ opens j l (kindOf l p) (kindOf l r) p seen r ats o (record { row = pos; fits = fits; attrs = attrs })) within close (after .passes));
       rowed = ap₂ _∷_ is (after .rowed);
     }
 
@@ -183,7 +182,7 @@ module _ (t : Types) (y : Spelling t) (j : Judge) (d : Decides t j) (l : Listing
       record { passes = rw (z, b .passes); rowed = b .rowed }
   back (element o n ats i k) p seen end d g s = absurd d
   back (element o n ats i k) p seen (value r v c) d g s =
-      let f = leafy (kindOf l r) r o ats (childRows l r i) i v (w .kinds p r (d .0 .0)) (d .1) in
+      let f = leafy (kindOf l r) r o ats (childRows l r i) i v (w .kinds p r (d .0 .0)) (spells-of t l r ats i v (d .1)) in
       back-element p seen o n ats i k r (rows c) (child-is l p n w r (record { its = d .0 .0; name = d .0 .1 })) (d .0 .0 .first) (s .0) (f .attrs) (plain-leaf i r [] (f .noGroup) (f .plainly)) (f .shuts)
       (back k p (r ∷ seen) c (d .2) (g .1) (s .1))
   back (element o n ats i k) p seen (node r e c) d g s =
@@ -207,12 +206,11 @@ module _ (t : Types) (y : Spelling t) (j : Judge) (d : Decides t j) (l : Listing
       let b = or-fine (inside j l 1 [] i) _ (a .1) in
       let c = or-fine (closing j l (kindOf l 1) 1 o ats (childRows l 1 i) (textOf i)) Fine (b .1) in
       let f = accepts i 1 [] (omega arith) root-group (b .0) in
-      let y = and-is (same (rowAt l 1 .name) n) (rootAttrs (l .space) ats) (not-false (isRoot l n ats) (refuse-no (not (isRoot l n ats)) (table.wrongRoot o) (a .0))) in
       let k = closed j l w (kindOf l 1) 1 o ats (rows (f .content)) (textOf i) root-group refl (f .steps) (f .theirs)
       (subst (λ rs. closing j l (kindOf l 1) 1 o ats rs (textOf i) ≡ Fine) (f .rowed) (c .0)) in (
         node 1 (f .content) end,
         record { root = refl; good = ((group-of t l (kindOf l 1) root-group, k), f .good, tt) },
-        record { name = same-eq (rowAt l 1 .name) n (y .0); attrs = root-mean (l .space) ats .0 (y .1); alone = one; kids = f .content; is = refl; parts = f .denotes },
+        record { root = not-false (isRoot l n ats) (refuse-no (not (isRoot l n ats)) (table.wrongRoot o) (a .0)); alone = one; kids = f .content; is = refl; parts = f .denotes },
       )
 
   -- a content that meets the list, and is the message's: no violation
@@ -225,7 +223,7 @@ module _ (t : Types) (y : Spelling t) (j : Judge) (d : Decides t j) (l : Listing
       let z = closes j l w (kindOf l 1) 1 o ats (rows (h .kids)) (textOf i) root-group refl (g .0 .1) in
       let b = back i 1 [] (h .kids) (h .parts) (g .1) (z .1) in
       let y = subst (λ rs. closing j l (kindOf l 1) 1 o ats rs (textOf i) ≡ Fine) (sym (b .rowed)) (z .0) in
-      rw (same-of (rowAt l 1 .name) n (h .name), root-mean (l .space) ats .1 (h .attrs), b .passes, y)
+      rw (h .root, b .passes, y)
 
 module _ (t : Types) (y : Spelling t) (l : Listing) (w : WellFormed l) where
   -- nothing is found: a content that meets the list, and is the message's
@@ -263,12 +261,12 @@ module _ (t : Types) (y : Spelling t) (l : Listing) (w : WellFormed l) where
   one-content (element o n ats i k) p (node r x a) end d e = absurd e
   one-content (element o n ats i k) p (value r u a) (value q v b) d e =
       let z : r ≡ q = same-row p r q n (d .0) (e .0) in
-      let y = spells-one (kindOf l r) ats i u v (w .kinds p r (d .0 .0)) (d .1) (subst (λ m. Spells t l (kindOf l m) ats i v) (sym z) (e .1)) in
+      let y = spells-one (kindOf l r) ats i u v (w .kinds p r (d .0 .0)) (spells-of t l r ats i u (d .1)) (subst (λ m. Spells t l (kindOf l m) ats i v) (sym z) (spells-of t l q ats i v (e .1))) in
       let x = one-content k p a b (d .2) (e .2) in cc
   one-content (element o n ats i k) p (value r u a) (node q y b) d e =
-      no-both (kindOf l r) ats i u (d .1) (subst (λ m. isGroup (kindOf l m) ≡ true) (sym (same-row p r q n (d .0) (e .0))) (e .1 .0))
+      no-both (kindOf l r) ats i u (spells-of t l r ats i u (d .1)) (subst (λ m. isGroup (kindOf l m) ≡ true) (sym (same-row p r q n (d .0) (e .0))) (e .1 .0))
   one-content (element o n ats i k) p (node r x a) (value q v b) d e =
-      no-both (kindOf l q) ats i v (e .1) (subst (λ m. isGroup (kindOf l m) ≡ true) (same-row p r q n (d .0) (e .0)) (d .1 .0))
+      no-both (kindOf l q) ats i v (spells-of t l q ats i v (e .1)) (subst (λ m. isGroup (kindOf l m) ≡ true) (same-row p r q n (d .0) (e .0)) (d .1 .0))
   one-content (element o n ats i k) p (node r x a) (node q y b) d e =
       let z : r ≡ q = same-row p r q n (d .0) (e .0) in
       let f = one-content i r x y (d .2) (subst (λ m. Denotes t l m i y) (sym z) (e .2)) in

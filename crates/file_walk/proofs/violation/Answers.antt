@@ -16,7 +16,7 @@ use Rattle.file_walk.specs.declared.found.Found.{Found}
 use Rattle.file_walk.specs.declared.found.Found.the-variants.{Fine, Violation}
 use Rattle.file_walk.specs.Types.{Judge}
 use Rattle.file_walk.specs.mirror.Machine.{isNone}
-use Rattle.file_walk.specs.First.{refuse, orElse, isEmpty, passed, only, noAttrs, attrsOk}
+use Rattle.file_walk.specs.First.{refuse, orElse, isEmpty, passed, only, attrsOk}
 use Rattle.text.proofs.Classes.{and-is, or-not}
 use Rattle.list.proofs.rows.Words.{same-eq, same-refl}
 
@@ -68,7 +68,7 @@ pub no-empty : (rs : List ℕ) → 0 < length rs → isEmpty rs ≡ false
 no-empty [] h = absurd (omega arith)
 no-empty (r ∷ rs) h = refl
 
-pub empty-yes : (rs : List ℕ) → isEmpty rs ≡ true → rs ≡ []
+pub empty-yes : {A : Type 0} (rs : List A) → isEmpty rs ≡ true → rs ≡ []
 empty-yes [] e = refl
 empty-yes (r ∷ rs) e = absurd (false≢true e)
 
@@ -91,14 +91,10 @@ only-yes n v (a ∷ b ∷ ats) e = absurd (false≢true e)
 pub yes-only : (n v : List ℕ) (ats : Attrs) → ats ≡ (n, v) ∷ [] → only n v ats ≡ true
 yes-only n v ats e = rw (e, same-refl n, same-refl v)
 
-pub no-attrs : (ats : Attrs) → noAttrs ats ≡ true → ats ≡ []
-no-attrs [] e = refl
-no-attrs (a ∷ ats) e = absurd (false≢true e)
-
 -- a group has no attributes
 pub group-attrs : (j : Judge) (k : Kind) (ats : Attrs) → isGroup k ≡ true → attrsOk j k ats ≡ true → ats ≡ []
-group-attrs j group ats g e = no-attrs ats e
-group-attrs j choice ats g e = no-attrs ats e
+group-attrs j group ats g e = empty-yes ats e
+group-attrs j choice ats g e = empty-yes ats e
 group-attrs j (leaf f) ats g e = absurd (false≢true g)
 
 pub attrs-group : (j : Judge) (k : Kind) (ats : Attrs) → isGroup k ≡ true → ats ≡ [] → attrsOk j k ats ≡ true

@@ -7,8 +7,8 @@ use Rattle.list.specs.Words.{firstFrom}
 use Rattle.list.specs.Listing.{rowAt, child}
 use Rattle.list_house.specs.House.{house}
 use Rattle.file_walk.specs.First.{absentRow, childRows, inside, firstViolation}
-use Rattle.file_walk.specs.Example.{anyText, examples}
+use Rattle.file_walk.specs.Example.{anyJudge, examples}
 
-pub examples-right : Each (λ c. firstViolation anyText house (c .0) ≡ c .1) examples
+pub examples-right : Each (λ c. firstViolation anyJudge house (c .0) ≡ c .1) examples
 unfolding house examples firstViolation inside childRows absentRow child firstFrom same rowAt isBlank xor
 examples-right = (refl, (refl, (refl, (refl, (refl, (refl, (refl, (refl, (refl, (refl, (refl, (refl, (refl, (refl, (refl, (refl, (refl, (refl, (refl, (refl, (refl, (refl, (refl, (refl, (refl, (refl, (refl, (refl, (refl, (refl, (refl, (refl, tt))))))))))))))))))))))))))))))))

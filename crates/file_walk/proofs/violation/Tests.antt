@@ -16,14 +16,14 @@ use Rattle.list.specs.Listing.{Leaf, Kind, group, choice, leaf, Count, alternat
 use Rattle.list.specs.WellFormed.{WellFormed}
 use Rattle.list.specs.Content.{CountOk, Keeps, Children}
 use Rattle.xml.specs.Message.{Attrs}
-use Rattle.file_walk.specs.declared.found.Found.{Found}
 use Rattle.file_walk.specs.declared.found.Found.the-variants.{Fine}
 use Rattle.file_walk.specs.Types.{Judge}
-use Rattle.file_walk.specs.First.{refuse, firstOf, isEmpty, passed, breaks, attrsOk, overCount, absentRow, groupEnd, closing}
+use Rattle.file_walk.specs.First.{refuse, isEmpty, passed, breaks, attrsOk, absentRow, groupEnd, closing}
 use Rattle.text.proofs.Classes.{or-not}
 use Rattle.list.proofs.rows.Child.{child-zero}
 use Rattle.list.proofs.rows.Words.{firstFrom-none, firstFrom-zero, times-hit, times-miss}
 use Rattle.file_walk.proofs.violation.Answers.{or-fine, refuse-no, and-not, imp-and, empty-no, no-empty, empty-yes, passed-no, no-passed}
+use Rattle.file_walk.proofs.violation.Opening.{overCount, openTests}
 use Rattle.file_walk.proofs.violation.Steps.{Fits, Steps, ordered, at-most, steps, one-step, step-one, counted, limit, need}
 
 -- ---- the opening tests
@@ -49,12 +49,7 @@ module _ (j : Judge) (l : Listing) where
   of-fits (leaf k) seen r f = absurd f
 
   module _ (kp kr : Kind) (p : ℕ) (seen : List ℕ) (r : ℕ) (ats : Attrs) (o : ℕ) where
-    -- the tests of an opening tag, its parent's kind and its own being kp and kr
-    abbrev tests : Found
-    tests = firstOf (
-        refuse (eqb r 0) (table.notAChild p o) ∷ refuse (not (isChoice kp) && passed r seen) (table.outOfOrder r o) ∷ refuse (overCount l kp seen r) (table.tooMany r o) ∷ refuse (not (attrsOk j kr ats)) (table.wrongAttributes r o) ∷ [])
-
-    pub opened : isGroup kp ≡ true → tests ≡ Fine → Opened j l kp kr seen r ats
+    pub opened : isGroup kp ≡ true → openTests j l kp kr p seen r ats o ≡ Fine → Opened j l kp kr seen r ats
     opened g e =
         let a = or-fine (refuse (eqb r 0) (table.notAChild p o)) _ e in
         let b = or-fine (refuse (not (isChoice kp) && passed r seen) (table.outOfOrder r o)) _ (a .1) in
@@ -67,7 +62,7 @@ module _ (j : Judge) (l : Listing) where
           attrs = not-false (attrsOk j kr ats) (refuse-no (not (attrsOk j kr ats)) (table.wrongAttributes r o) (d .0));
         }
 
-    pub opens : Opened j l kp kr seen r ats → tests ≡ Fine
+    pub opens : Opened j l kp kr seen r ats → openTests j l kp kr p seen r ats o ≡ Fine
     opens w =
         let f = of-fits kp seen r (w .fits) in
         let z : r ≢ 0 = omega (arith, w .row) in

@@ -6,8 +6,9 @@ use mathlib.Core.Option.{Option}
 use Prim.Native.Nat.{ℕ}
 use lib.Dec.{eqb, ltb}
 use Rattle.answer.specs.Table as table
-use Rattle.text.specs.Bytes.{isBlank}
-use Rattle.list.specs.Listing.{Leaf, Kind, group, choice, leaf, Listing, rowAt, child, isGroup, isChoice, atMostOnce, nextDue}
+use Rattle.text.specs.Bytes.{ascii, isBlank}
+use Rattle.text.specs.Lists.{same}
+use Rattle.list.specs.Listing.{Leaf, ref, iban, ccy, bool, num, amt, date, dtm, txt, enum, Kind, group, choice, leaf, Listing, rowAt, child, isGroup, isChoice, atMostOnce, nextDue}
 use Rattle.list.specs.WellFormed.{LeafOk}
 use Rattle.list.specs.Sound.{firstOf as mate, secondOf as pair}
 use Rattle.xml.specs.Message.{Attrs, Inside}
@@ -16,7 +17,7 @@ use Rattle.file_walk.specs.declared.level.Level.{Level}
 use Rattle.file_walk.specs.declared.found.Found.{Found}
 use Rattle.file_walk.specs.declared.found.Found.the-variants.{Fine}
 use Rattle.file_walk.specs.Types.{Types, Judge}
-use Rattle.file_walk.specs.First.{refuse, orElse, firstOf, currencyGiven, attrsOk, kindOf, isRoot, leafEnd}
+use Rattle.file_walk.specs.First.{refuse, orElse, firstOf, isEmpty, currencyGiven, attrsOk, kindOf, isRoot, leafEnd}
 
 -- values, and a way to compute which of them is spelt
 pub record Speller : Type 1 where
@@ -27,9 +28,41 @@ abbrev pub isNone : {A : Type 0} → Option A → Bool
 isNone Option.none = true
 isNone (Option.some v) = false
 
+-- yes or no, of a type, the characters of a currency, and those of a text
+abbrev pub Verdict : Type 0
+Verdict = Leaf → List ℕ → List ℕ → Bool
+
+module _ (says : Verdict) where
+  -- "One attribute, Ccy, of type CCY"
+  abbrev pub oneCurrency : Attrs → Bool
+  oneCurrency [] = false
+  oneCurrency (a ∷ []) = same (ascii "Ccy") (a .0) && says ccy [] (a .1)
+  oneCurrency (a ∷ b ∷ ats) = false
+
+  -- "exactly the type's"
+  abbrev pub leafAttrs : Leaf → Attrs → Bool
+  leafAttrs amt ats = oneCurrency ats
+  leafAttrs ref ats = isEmpty ats
+  leafAttrs iban ats = isEmpty ats
+  leafAttrs ccy ats = isEmpty ats
+  leafAttrs bool ats = isEmpty ats
+  leafAttrs num ats = isEmpty ats
+  leafAttrs date ats = isEmpty ats
+  leafAttrs dtm ats = isEmpty ats
+  leafAttrs (txt k) ats = isEmpty ats
+  leafAttrs (enum ws) ats = isEmpty ats
+
+-- the judge that goes by it
+abbrev pub judgeBy : Verdict → Judge
+judgeBy says = record { attrs = leafAttrs says; value = says }
+
+-- there is a value
+abbrev pub verdictOf : Speller → Verdict
+verdictOf T k w cs = not (isNone (T .spell k w cs))
+
 -- the judge that asks it
 abbrev pub judgeOf : Speller → Judge
-judgeOf T k w cs = not (isNone (T .spell k w cs))
+judgeOf T = judgeBy (verdictOf T)
 
 -- of types
 abbrev pub spellerOf : (t : Types) → (Leaf → List ℕ → List ℕ → Option (t .A)) → Speller

@@ -3,13 +3,14 @@ use mathlib.Core.Bool.{Bool, cond, _&&_}
 use mathlib.Core.List.{List}
 use Prim.Native.Nat.{ℕ, _+_, _-_}
 use lib.Dec.{eqb, ltb}
-use lib.ListN.{length, getD, drop}
+use lib.ListN.{length, drop}
 use lib.Seq.{slice}
 use Rattle.answer.specs.declared.Answer.{Answer}
 use Rattle.answer.specs.Table as table
-use Rattle.text.specs.Bytes.{ascii, isBlank, isCapital}
+use Rattle.text.specs.Bytes.{ascii, isBlank}
 use Rattle.text.specs.Lists.{same, span}
 use Rattle.list.specs.Table.{cell}
+use Rattle.value.specs.mirror.Judges.{isCurrency}
 use Rattle.list.specs.mirror.Lookup.{childAlong}
 use Rattle.xml_tags.specs.declared.attribute.Attribute.{Attribute}
 use Rattle.xml_tags.specs.declared.token.Kind.{Kind}
@@ -24,14 +25,10 @@ use Rattle.file_walk.specs.declared.step.Here.{Here}
 use Rattle.file_walk.specs.declared.step.Turn.{Turn}
 use Rattle.file_walk.specs.declared.step.Met.the-variants.{Opened, Closed, Refused, Lost}
 use Rattle.file_walk.specs.First.{refuse}
-use Rattle.file_walk.specs.Numbers.{isGroupIn}
+use Rattle.list.specs.Numbers.{isGroupIn}
 use Rattle.file_walk.specs.mirror.Tables.{freshIn, advanceIn, openingIn, groupEndIn, levelAt, pushed}
 
 -- ---- attributes
-
--- three capitals
-unfoldable pub isCurrency : List ℕ → Bool
-isCurrency cs = eqb (length cs) 3 && (isCapital (getD cs 0 0) && (isCapital (getD cs 1 0) && isCapital (getD cs 2 0)))
 
 -- s from a to b is this word
 unfoldable pub named : List ℕ → List ℕ → ℕ → ℕ → Bool

@@ -5,7 +5,7 @@ use Rattle.file_write.proofs.write.Tie as tie
 use native.Mathlib.Omega.{arith}
 use mathlib.Core.Path.{refl}
 use Rattle.list.proofs.Laid.{laid-over}
-use Rattle.file_write.proofs.Writing.{laid-asks, write-unread, write-searched, write-there, write-stale, write-held, write-long, write-large, write-short, write-whole}
+use Rattle.file_write.proofs.Writing.{laid-asks, write-unread, write-searched, write-there, write-stale, write-held, write-long, write-unfit, write-whole}
 
 reading-requires : tie.Need-reading-requires
 reading-requires c κs = search needs
@@ -96,13 +96,14 @@ emit-requires c κs =
     (laid-asks _ _ (laid-over _ _ _ _ (at-rows .rows-of .ensures) refl (at-lay .lay .ensures))) _ (at-pool .pool .ensures)
     _ (at-first-stale .first-stale .ensures) (at-if2 .if2 .left)
 
-too-large-requires : tie.Need-too-large-requires
-too-large-requires c κs = search needs
+sized-requires : tie.Need-sized-requires
+sized-requires c κs = search needs
 
 returns-3 : tie.Need-returns-3
 returns-3 c =
-    let at-if3 = c .before in
-    let at-emit = at-if3 .before .before in
+    let at-if3 = c in
+    let at-sized = at-if3 .before .before in
+    let at-emit = at-sized .before .before in
     let at-if2 = at-emit .before .before .before .before in
     let at-first-stale = at-if2 .before in
     let at-pool = at-first-stale .before .before .before in
@@ -110,37 +111,18 @@ returns-3 c =
     let at-rows = at-lay .before .before .before in
     let at-if1 = at-rows .before in
     let at-reading = at-if1 .before .before in
-    write-large _ _ (at-reading .reading .ensures) (omega (arith, at-if1 .if1 .left)) _
+    write-unfit _ _ (at-reading .reading .ensures) (omega (arith, at-if1 .if1 .left)) _
     (laid-asks _ _ (laid-over _ _ _ _ (at-rows .rows-of .ensures) refl (at-lay .lay .ensures))) _ (at-pool .pool .ensures)
-    _ (at-first-stale .first-stale .ensures) (at-if2 .if2 .left) _ _ _ (at-emit .emit .ensures) _ _ (at-if3 .if3 .taken) (c .too-large .ensures)
-
-no-room-requires : tie.Need-no-room-requires
-no-room-requires c κs = search needs
-
-returns-4 : tie.Need-returns-4
-returns-4 c =
-    let at-if4 = c .before in
-    let at-if3 = at-if4 .before in
-    let at-emit = at-if3 .before .before in
-    let at-if2 = at-emit .before .before .before .before in
-    let at-first-stale = at-if2 .before in
-    let at-pool = at-first-stale .before .before .before in
-    let at-lay = at-pool .before in
-    let at-rows = at-lay .before .before .before in
-    let at-if1 = at-rows .before in
-    let at-reading = at-if1 .before .before in
-    write-short _ _ (at-reading .reading .ensures) (omega (arith, at-if1 .if1 .left)) _
-    (laid-asks _ _ (laid-over _ _ _ _ (at-rows .rows-of .ensures) refl (at-lay .lay .ensures))) _ (at-pool .pool .ensures)
-    _ (at-first-stale .first-stale .ensures) (at-if2 .if2 .left) _ _ _ (at-emit .emit .ensures) _ _ (omega (arith, at-if3 .if3 .left)) (at-if4 .if4 .taken) (c .no-room .ensures)
+    _ (at-first-stale .first-stale .ensures) (at-if2 .if2 .left) _ _ _ (at-emit .emit .ensures) _ _ (at-sized .sized .ensures) (at-if3 .if3 .taken)
 
 slice-aggregate-emit-3 : tie.Need-slice-aggregate-emit-3
 slice-aggregate-emit-3 c = search needs
 
 emit-requires-2 : tie.Need-emit-requires-2
 emit-requires-2 c κs =
-    let at-if4 = c .before .before .before in
-    let at-if3 = at-if4 .before in
-    let at-emit = at-if3 .before .before in
+    let at-if3 = c .before .before .before in
+    let at-sized = at-if3 .before .before in
+    let at-emit = at-sized .before .before in
     let at-if2 = at-emit .before .before .before .before in
     let at-first-stale = at-if2 .before in
     let at-pool = at-first-stale .before .before .before in
@@ -152,15 +134,12 @@ emit-requires-2 c κs =
     (laid-asks _ _ (laid-over _ _ _ _ (at-rows .rows-of .ensures) refl (at-lay .lay .ensures))) _ (at-pool .pool .ensures)
     _ (at-first-stale .first-stale .ensures) (at-if2 .if2 .left)
 
-accepted-requires : tie.Need-accepted-requires
-accepted-requires c κs = search needs
-
 same-length : tie.Need-same-length
 same-length c =
-    let at-emit2 = c .before .before .before in
-    let at-if4 = at-emit2 .before .before .before .before in
-    let at-if3 = at-if4 .before in
-    let at-emit = at-if3 .before .before in
+    let at-emit2 = c .before .before in
+    let at-if3 = at-emit2 .before .before .before .before in
+    let at-sized = at-if3 .before .before in
+    let at-emit = at-sized .before .before in
     let at-if2 = at-emit .before .before .before .before in
     let at-first-stale = at-if2 .before in
     let at-pool = at-first-stale .before .before .before in
@@ -173,12 +152,12 @@ same-length c =
     _ (at-first-stale .first-stale .ensures) (at-if2 .if2 .left) _ _ _
     (at-emit2 .emit2 .ensures)
 
-returns-5 : tie.Need-returns-5
-returns-5 c =
-    let at-emit2 = c .before .before .before in
-    let at-if4 = at-emit2 .before .before .before .before in
-    let at-if3 = at-if4 .before in
-    let at-emit = at-if3 .before .before in
+returns-4 : tie.Need-returns-4
+returns-4 c =
+    let at-emit2 = c .before .before in
+    let at-if3 = at-emit2 .before .before .before .before in
+    let at-sized = at-if3 .before .before in
+    let at-emit = at-sized .before .before in
     let at-if2 = at-emit .before .before .before .before in
     let at-first-stale = at-if2 .before in
     let at-pool = at-first-stale .before .before .before in
@@ -188,8 +167,7 @@ returns-5 c =
     let at-reading = at-if1 .before .before in
     write-whole _ _ (at-reading .reading .ensures) (omega (arith, at-if1 .if1 .left)) _
     (laid-asks _ _ (laid-over _ _ _ _ (at-rows .rows-of .ensures) refl (at-lay .lay .ensures))) _ (at-pool .pool .ensures)
-    _ (at-first-stale .first-stale .ensures) (at-if2 .if2 .left) _ _ _ (at-emit .emit .ensures) _ _ (omega (arith, at-if3 .if3 .left))
-    (omega (arith, at-if4 .if4 .left)) (c .accepted .ensures) _ _ (at-emit2 .emit2 .ensures)
+    _ (at-first-stale .first-stale .ensures) (at-if2 .if2 .left) _ _ _ (at-emit .emit .ensures) _ _ (at-sized .sized .ensures) (omega (arith, at-if3 .if3 .left)) _ _ (at-emit2 .emit2 .ensures)
 
 pub write-spec : {M : Type 1} → statement M
 write-spec =
@@ -211,12 +189,9 @@ write-spec =
     slice-aggregate-emit
     slice-aggregate-emit-2
     emit-requires
-    too-large-requires
+    sized-requires
     returns-3
-    no-room-requires
-    returns-4
     slice-aggregate-emit-3
     emit-requires-2
-    accepted-requires
     same-length
-    returns-5)
+    returns-4)

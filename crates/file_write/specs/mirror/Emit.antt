@@ -14,7 +14,7 @@ use Rattle.list.specs.WellFormed.{LeafOk}
 use Rattle.list.specs.Table.{cell, kindOf, wordsIn, listOf}
 use Rattle.list.specs.Sound.{Sound}
 use Rattle.value.specs.Value.{Value, text, place, truth, natural, amount, day, moment, IsValue, bytes}
-use Rattle.value_to_text.specs.Script.{scriptOf}
+use Rattle.value.specs.Script.{scriptOf}
 use Rattle.xml.specs.House.{render}
 use Rattle.image.specs.Kinds.{values}
 use Rattle.image.specs.Place.{Holds}

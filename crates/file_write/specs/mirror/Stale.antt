@@ -6,21 +6,16 @@ use mathlib.Core.Option.{none}
 use Prim.Native.Nat.{ℕ, _+_, _%_, _≤_, _<_}
 use lib.Dec.{eqb}
 use lib.ListN.{length, getD, take, drop}
-use Rattle.answer.specs.declared.Answer.{Answer}
-use Rattle.answer.specs.Table.{limit, tooFine, retired}
+use Rattle.answer.specs.Table.{limit}
 use Rattle.text.specs.Lists.{Each}
 use Rattle.text.specs.Numbers.{number}
 use Rattle.list.specs.Listing.{Listing, size}
-use Rattle.list.specs.Table.{nameIn, listOf}
+use Rattle.list.specs.Table.{listOf}
 use Rattle.list.specs.Sound.{Sound}
 use Rattle.image.specs.Image.{Item, itemsBytes}
 use Rattle.image.specs.Kinds.{values}
 use Rattle.image.specs.mirror.Follow.{ItemOk}
 use Rattle.file_letter.specs.Stale.{NoneOf, FirstAt, Withdrawn, Finer}
-
--- a row whose name has no byte
-unfoldable pub goneBy : List ℕ → List ℕ → ℕ → Bool
-goneBy t pool r = eqb (length (nameIn t pool r)) 0
 
 -- of the kind with the number k, from the bytes of its value on: a DTM, whose microseconds, from its seventh byte on, are no thousandths
 unfoldable pub finerBy : ℕ → List ℕ → Bool
@@ -29,10 +24,6 @@ finerBy k s = eqb k 11 && not (eqb (number (take 4 (drop 7 s)) % 1000) 0)
 -- the place that was noted, or else that of the leaf at i where it is finer
 unfoldable pub notedBy : ℕ → ℕ → List ℕ → ℕ → ℕ
 notedBy f k run i = cond (eqb f 0) (cond (finerBy k (drop (i + 1) run)) i 0) f
-
--- what is answered for the item of row r at p
-unfoldable pub refusedBy : List ℕ → List ℕ → ℕ → ℕ → Answer
-refusedBy t pool r p = cond (goneBy t pool r) (retired r p) (tooFine r p)
 
 -- an item of a row of the table, and of its kind
 abbrev pub ItemOf : List ℕ → List ℕ → Item values → Type 0

@@ -5,8 +5,8 @@ use mathlib.Core.List.{List}
 use Prim.Native.Nat.{ℕ, _≤_, _<_}
 use native.Mathlib.Omega.{arith}
 use Rattle.list.specs.Table.{cell}
-use Rattle.value_from_bytes.specs.mirror.Ends.{valueEnd}
-use Rattle.value_from_bytes.proofs.Meaning.{end-is}
+use Rattle.value.specs.mirror.Ends.{valueEnd}
+use Rattle.value.proofs.stored.Meaning.{end-is}
 use Rattle.image.specs.mirror.Step.{isLeaf}
 use Rattle.image.specs.mirror.Ends.{itemEnd}
 

@@ -1,21 +1,24 @@
 -- Each turn of the picker's loop, by the tests that led there; what it finds lies within the run, and its value ends there. Assumes nothing.
 use mathlib.Core.Path.{_≡_, refl, sym, _∙_, ap, ap₂}
 use mathlib.Core.Logic.{_≢_}
-use mathlib.Core.Bool.{Bool, true, false, cond, false≢true}
+use mathlib.Core.Bool.{Bool, true, false, cond, not}
 use mathlib.Core.List.{List}
 use Prim.Native.Nat.{ℕ, _+_, _-_, _≤_, _<_}
 use native.Mathlib.Omega.{arith}
-use lib.Dec.{leb, ltb, eqb}
+use lib.Dec.{leb, eqb}
 use lib.ListN.{length, getD, drop, length-drop}
-use borrow.Author.Tests.{leb-true, leb-false, ltb-false, eqb-true, eqb-false}
+use borrow.Author.Tests.{leb-true, leb-false, eqb-true, eqb-false, not-true, not-false}
 use Rattle.answer.specs.declared.Answer.{Answer}
 use Rattle.answer.specs.Table.{picked, noSuchLeaf}
-use Rattle.text.proofs.Classes.{and-is}
+use Rattle.text.specs.Bytes.{inRange}
+use Rattle.text.proofs.Classes.{and-is, in-range-is}
 use Rattle.image.specs.mirror.Run.{stop, next, Comes, halts, moves, headOf, hunt, Finds, groups, leaves, Answered, missing, found}
 use Rattle.list.specs.Table.{cell}
-use Rattle.value_from_bytes.specs.mirror.Ends.{width, begins, valueEnd}
-use Rattle.value_from_bytes.proofs.Numbered.{by-kind}
-use Rattle.value_from_bytes.proofs.Meaning.{end-is}
+use Rattle.list.specs.Numbers.{isGroupIn}
+use Rattle.list.proofs.rows.Codes.{numbered-is}
+use Rattle.value.specs.mirror.Ends.{width, begins, valueEnd}
+use Rattle.value.proofs.stored.Numbered.{by-kind}
+use Rattle.value.proofs.stored.Meaning.{end-is}
 use Rattle.image.specs.mirror.Step.{isLeaf}
 use Rattle.image.specs.mirror.Ends.{itemEnd}
 use Rattle.image.proofs.loops.Picker.{hunt-out, hunt-over, hunt-bad, hunt-here, hunt-past, hunt-other, chooses-one}
@@ -124,12 +127,8 @@ head-width u =
     (λ a b. absurd (omega arith)) (λ a b. absurd (omega arith)) (λ a b. omega arith) (λ a b. omega arith) (λ a b. omega arith) (λ a b. omega arith) (λ a b. omega arith) (λ a b. omega arith) (λ a b. omega arith) (λ a b. omega arith) (λ a b. omega arith) (λ a b. omega arith)
     (λ c a b. absurd (omega arith))
 
-leaf-code : (c : ℕ) → cond (ltb c 2) false (leb c 11) ≡ true → (2 ≤ c) × (c ≤ 11)
-leaf-code c e = go (ltb c 2) refl e
-  where
-    go : (b : Bool) → ltb c 2 ≡ b → cond b false (leb c 11) ≡ true → (2 ≤ c) × (c ≤ 11)
-    go true h q = absurd (false≢true q)
-    go false h q = (ltb-false c 2 h, leb-true c 11 q)
+leaf-code : (c : ℕ) → not (isGroupIn c) ≡ true → (2 ≤ c) × (c ≤ 11)
+leaf-code c e = in-range-is 2 11 c (not-false (inRange 2 11 c) (sym (numbered-is c) ∙ not-true (isGroupIn c) e))
 
 -- the value that is found, after the bytes of its length, lies within the run
 pub found-end : (t s : List ℕ) (r from n p : ℕ) → 0 < p → Finds t (itemEnd t s) s from r n p → (p + headOf t r ≤ itemEnd t s r p) × (itemEnd t s r p ≤ length s)

@@ -6,23 +6,19 @@ use Prim.Native.Nat.{ℕ, zero, suc, _≤_}
 use native.Mathlib.Omega.{arith}
 use lib.Dec.{leb, ltb}
 use borrow.Author.Tests.{le-ltb, lt-leb}
-use Rattle.list.specs.Listing.{Kind, size, isGroup, isChoice}
+use Rattle.list.specs.Listing.{Kind, isGroup, isChoice}
 use Rattle.list.specs.Table.{cell, countOf, kindOf, wordsIn, listOf}
 use Rattle.list.specs.Sound.{Sound}
-use Rattle.list.proofs.rows.Codes.{choice-is}
+use Rattle.list.specs.Numbers.{isGroupIn}
+use Rattle.list.proofs.rows.Codes.{choice-is, group-is, numbered-is}
 use Rattle.list.proofs.rows.Rows.{size-is, parent-is, count-is, kind-is}
-use Rattle.value_from_bytes.proofs.Numbered.{by-kind}
 use Rattle.image.specs.mirror.Follow.{repeats}
 use Rattle.image.specs.mirror.Step.{isLeaf, again}
 use Rattle.image.proofs.next.Step.{Lines}
 
 -- the numbers of kinds and counts, as the code tests them
-leaf-code : (k : ℕ) (ws : List (List ℕ)) (c : ℕ) → cond (ltb c 2) false (leb c 11) ≡ not (isGroup (kindOf c k ws))
-leaf-code k ws =
-    by-kind (λ c. cond (ltb c 2) false (leb c 11) ≡ not (isGroup (kindOf c k ws))) refl refl refl refl refl refl refl refl refl refl refl refl
-    (λ c.
-    let n = suc (suc (suc (suc (suc (suc (suc (suc (suc (suc (suc (suc c))))))))))) in
-    rw (le-ltb n 2 (omega arith), lt-leb n 11 (omega arith)))
+leaf-code : (k : ℕ) (ws : List (List ℕ)) (c : ℕ) → not (isGroupIn c) ≡ not (isGroup (kindOf c k ws))
+leaf-code k ws c = ap not (numbered-is c ∙ sym (group-is k ws c))
 
 again-code : (c : ℕ) → cond (ltb c 2) false (leb c 3) ≡ repeats (countOf c)
 again-code zero = refl

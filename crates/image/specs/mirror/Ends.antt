@@ -3,7 +3,7 @@ use mathlib.Core.Bool.{cond}
 use mathlib.Core.List.{List}
 use Prim.Native.Nat.{ℕ}
 use Rattle.list.specs.Table.{cell}
-use Rattle.value_from_bytes.specs.mirror.Ends.{valueEnd}
+use Rattle.value.specs.mirror.Ends.{valueEnd}
 use Rattle.image.specs.mirror.Step.{isLeaf}
 
 -- after the row byte of row x, at i: a group's item ends there, a leaf's after its value; 0 where no value stands there

@@ -1,13 +1,14 @@
 -- A mirror: which row may come directly after which, as the code finds it in the first table. Assumes nothing.
-use mathlib.Core.Bool.{Bool, true, false, cond}
+use mathlib.Core.Bool.{Bool, true, false, cond, not}
 use mathlib.Core.List.{List}
 use Prim.Native.Nat.{ℕ, zero, suc}
 use lib.Dec.{leb, ltb, eqb}
 use Rattle.list.specs.Table.{cell}
+use Rattle.list.specs.Numbers.{isGroupIn}
 
 -- a leaf's row, by the number of its kind
 unfoldable pub isLeaf : List ℕ → ℕ → Bool
-isLeaf t r = cond (ltb (cell t r 2) 2) false (leb (cell t r 2) 11)
+isLeaf t r = not (isGroupIn (cell t r 2))
 
 -- it may come again: its count is 1..n or 0..n
 unfoldable pub again : List ℕ → ℕ → Bool

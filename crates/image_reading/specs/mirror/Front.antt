@@ -2,14 +2,12 @@
 use mathlib.Core.Path.{_≡_}
 use mathlib.Core.Logic.{_≢_, _⊎_}
 use mathlib.Core.Bool.{Bool, true, false}
-use mathlib.Core.List.{List, _++_}
+use mathlib.Core.List.{List}
 use Prim.Native.Nat.{ℕ, _+_, _*_, _≤_, _<_}
 use lib.ListN.{length, getD, take}
 use Rattle.answer.specs.Table.{limit}
 use Rattle.text.specs.Bytes.{ascii}
-use Rattle.list.specs.Listing.{Listing}
-use Rattle.image.specs.Place.{Among, Front}
-use Rattle.image_reading.specs.Reads.{stored, HouseReads, HouseCounts}
+use Rattle.image_reading.specs.Reads.{HouseReads, HouseCounts}
 use Rattle.image_reading.specs.Forms.{Headed}
 use Rattle.image_reading.specs.declared.front.Reading.{Reading}
 
@@ -34,8 +32,3 @@ pub record KindByte (s : List ℕ) (k : ℕ) : Type 0 where
 pub record Starts (run : List ℕ) (r : Reading) : Type 0 where
   pub head : Headed run (r .kind) (r .from)
   pub why : r .kind ≡ 0 → (r .answer .code ≢ 0) × (length run ≤ limit → HouseReads run (r .answer)) × HouseCounts run (r .answer) (r .count)
-
--- up to the items: no image begins here, or one of the list of this kind byte may, whose items begin after its header
-pub data Fronts (run : List ℕ) (r : Reading) : Type 0 where
-  nothing : HouseReads run (r .answer) → r .answer .code ≢ 0 → r .kind ≡ 0 → r .from ≡ 0 → HouseCounts run (r .answer) (r .count) → Fronts run r
-  headed : length run ≤ limit → (l : Listing) → Among l stored → (h s : List ℕ) → Front l h → run ≡ h ++ s → r .kind ≡ l .byte → r .from ≡ length h → Fronts run r

@@ -1,17 +1,18 @@
 -- What code asks of a number for a count or a kind is what the definitions ask of the count or kind. Assumes nothing.
 use mathlib.Core.Path.{_≡_, refl, sym, _∙_, ap}
 use mathlib.Core.Bool.{Bool, true, false, not, Bool·beq, false≢true}
-use mathlib.Core.List.{List}
-use Prim.Native.Nat.{ℕ, _≤_}
+use mathlib.Core.List.{List, []}
+use Prim.Native.Nat.{ℕ, _≤_, _<_}
 use native.Mathlib.Omega.{arith}
 use native.Mathlib.Decide.{decLt}
 use lib.Dec.{eqb, ltb}
 use lib.ListN.{List·getD-eq-default}
-use borrow.Author.Tests.{le-ltb, ne-eqb}
+use borrow.Author.Tests.{le-ltb, ne-eqb, le-leb, lt-leb}
 use Rattle.text.specs.Bytes.{inRange}
 use Rattle.text.proofs.Classes.{every, passes, in-range-is, not-so}
 use Rattle.list.specs.Listing.{group, alternative, isGroup, isChoice, atMostOnce}
 use Rattle.list.specs.Table.{counts, kinds, countOf, kindOf}
+use Rattle.list.specs.Numbers.{isGroupIn}
 
 beq-is : (a b : Bool) → Bool·beq a b ≡ true → a ≡ b
 beq-is true true e = refl
@@ -47,3 +48,18 @@ module _ (k : ℕ) (ws : List (List ℕ)) where
   group-is c =
       agree (λ c. isGroup (kindOf c k ws)) (λ c. not (inRange 2 11 c)) 12 refl
       (λ c h. ap isGroup (past-kind c h) ∙ sym (ap not (not-so (inRange 2 11 c) (λ e. omega (arith, in-range-is 2 11 c e))))) c
+
+-- by the number, between those of leaves or not
+module _ (c : ℕ) where
+  pub numbered-is : isGroupIn c ≡ not (inRange 2 11 c)
+  unfolding isGroupIn
+  numbered-is = group-is 0 [] c
+
+  pub leaf-kind : 2 ≤ c → c ≤ 11 → false ≡ isGroupIn c
+  leaf-kind a b = rw (numbered-is, le-leb 2 c a, le-leb c 11 b)
+
+  pub low-kind : c < 2 → true ≡ isGroupIn c
+  low-kind a = rw (numbered-is, lt-leb 2 c a)
+
+  pub high-kind : 2 ≤ c → 11 < c → true ≡ isGroupIn c
+  high-kind a b = rw (numbered-is, le-leb 2 c a, lt-leb c 11 b)

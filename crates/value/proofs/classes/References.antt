@@ -3,7 +3,7 @@ use mathlib.Core.Path.{_≡_, refl, sym, _∙_, ap}
 use mathlib.Core.Bool.{Bool, true, false, cond, _&&_, _||_, not, true≢false}
 use mathlib.Core.List.{List, [], _∷_, _++_}
 use mathlib.Core.Logic.{_⊎_, inl, inr, ⊎-elim, _≢_}
-use Prim.Native.Nat.{ℕ, suc, _+_, _≤_, _<_, zero-le, suc-le-suc}
+use Prim.Native.Nat.{ℕ, suc, _+_, _≤_, _<_, zero-le}
 use native.Mathlib.Numerals.{add-one}
 use native.Mathlib.Omega.{arith}
 use lib.Dec.{ltb, eqb}
@@ -19,8 +19,10 @@ use Rattle.text.proofs.Classes.{and-is, or-is}
 use Rattle.text_characters.proofs.Chars as chars
 use Rattle.text_characters.proofs.Resolving.{next-is}
 use Rattle.text_characters.proofs.Spelling as spelling
-use Rattle.value.specs.Text.{notSpace, Txt, Ref}
+use Rattle.value.specs.mirror.Tests.{notSpace}
+use Rattle.value.specs.Text.{isTxt, Chars, Ref}
 use Rattle.value.specs.mirror.Texts.{classOf, textFrom, textOf}
+use Rattle.value.proofs.classes.Ink.{some-ink, ink-not, not-ink}
 
 -- ---- a step of the test
 module _ (strict : Bool) (k n : ℕ) (ink slash : Bool) (c : ℕ) (cs : List ℕ) where
@@ -139,26 +141,22 @@ left-from strict k n ink slash (c ∷ cs) l =
     go true p e f = absurd (true≢false (sym e))
     go false p e f = rw (lt-ltb n k (omega (arith, l .most)), l .class .0, p) (f e)
 
-some-ink : (cs : List ℕ) → Any notSpace cs → 1 ≤ length cs
-some-ink [] a = absurd a
-some-ink (c ∷ cs) a = suc-le-suc zero-le
-
 ink-of : (cs : List ℕ) → (false ≡ true) ⊎ Any notSpace cs → Any notSpace cs
 ink-of cs o = ⊎-elim (λ x. absurd (true≢false (sym x))) (λ x. x) o
 
-pub txt-to : (k : ℕ) (cs : List ℕ) → textOf false k cs ≡ true → Txt k cs
+pub txt-to : (k : ℕ) (cs : List ℕ) → textOf false k cs ≡ true → Chars isTxt k cs
 txt-to k cs e =
     let l = left-to false k 0 false false cs zero-le e in
     let a = ink-of cs (l .ink) in
-    record { some = some-ink cs a; most = omega (arith, l .most); class = l .class; ink = a }
+    record { some = some-ink cs a; most = omega (arith, l .most); class = l .class; ink = ink-not cs a }
 
 no-slash : (cs : List ℕ) → slashes false false cs ≡ true
 unfolding slashes
 no-slash [] = refl
 no-slash (c ∷ cs) = no-slash cs
 
-pub txt-from : (k : ℕ) (cs : List ℕ) → Txt k cs → textOf false k cs ≡ true
-txt-from k cs t = left-from false k 0 false false cs (record { most = omega (arith, t .most); class = t .class; ink = inr (t .ink); slash = no-slash cs })
+pub txt-from : (k : ℕ) (cs : List ℕ) → Chars isTxt k cs → textOf false k cs ≡ true
+txt-from k cs t = left-from false k 0 false false cs (record { most = omega (arith, t .most); class = t .class; ink = inr (not-ink cs (t .ink)); slash = no-slash cs })
 
 -- where a slash may stand
 no-last : (p : Bool) (t : List ℕ) → slashes true p (t ++ (47 ∷ [])) ≡ false
@@ -210,10 +208,7 @@ ref-to cs e =
     let l = left-to true 35 0 false true cs zero-le e in
     let a = ink-of cs (l .ink) in
     record {
-      some = some-ink cs a;
-      most = omega (arith, l .most);
-      class = l .class;
-      ink = a;
+      chars = record { some = some-ink cs a; most = omega (arith, l .most); class = l .class; ink = ink-not cs a };
       first = λ t z. true≢false (sym (l .slash) ∙ ap (slashes true true) z);
       last = λ t z. true≢false (sym (l .slash) ∙ ap (slashes true true) z ∙ no-last true t);
       twice = λ t u z. true≢false (sym (l .slash) ∙ ap (slashes true true) z ∙ no-twice true t u);
@@ -222,4 +217,4 @@ ref-to cs e =
 pub ref-from : (cs : List ℕ) → Ref cs → textOf true 35 cs ≡ true
 ref-from cs r =
     left-from true 35 0 false true cs
-    (record { most = omega (arith, r .most); class = r .class; ink = inr (r .ink); slash = apart-from true cs (record { some = λ _ z. absurd (omega (arith, r .some, ap length z)); first = λ _. r .first; last = r .last; twice = r .twice }) })
+    (record { most = omega (arith, r .chars .most); class = r .chars .class; ink = inr (not-ink cs (r .chars .ink)); slash = apart-from true cs (record { some = λ _ z. absurd (omega (arith, r .chars .some, ap length z)); first = λ _. r .first; last = r .last; twice = r .twice }) })

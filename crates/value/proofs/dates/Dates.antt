@@ -8,7 +8,8 @@ use native.Mathlib.Omega.{arith}
 use lib.Dec.{leb, eqb}
 use Rattle.text.specs.Lists.{Each}
 use Rattle.value.specs.Day.{Real, pair, dayText, monthDays, leap}
-use Rattle.value.specs.Moment.{DateRule, former, present, clockText, Fraction, noFraction, decimals, figures, fractionText, FractionOk, micros, Zone, zulu, ahead, behind, zoneText, Offset, ZoneOk, offset, Parts, MomentText, ordinary, midnight}
+use Rattle.value.specs.Former.{DateRule, former, present, Fraction, noFraction, decimals, figures, fractionText, FractionOk, micros, Zone, zulu, ahead, behind, zoneText, Offset, ZoneOk, offset, MomentBy, ordinary, midnight}
+use Rattle.value.specs.Moment.{clockText, Parts}
 use Rattle.value.proofs.classes.Classes.{Solid}
 use Rattle.value.proofs.raw.Trim.{Dense}
 
@@ -78,9 +79,9 @@ whole-dense t y mo d h mi s f z r i j k o e =
     subst (λ (x : List ℕ). Dense x) (sym e)
     (record { solid = day-solid y mo d (84 ∷ clockText h mi s l) r (omega arith, clock-solid h mi s l i j k (fraction-solid f (zoneText z []) (zone-solid z o))); some = omega arith })
 
-pub moment-dense : {rule : DateRule} {t : List ℕ} {y mo d h mi s u z : ℕ} → MomentText rule t y mo d h mi s u z → Dense t
+pub moment-dense : {rule : DateRule} {t : List ℕ} {y mo d h mi s u z : ℕ} → MomentBy rule t y mo d h mi s u z → Dense t
 moment-dense (ordinary w) =
-    whole-dense _ _ _ _ _ _ _ (w .fraction) (w .zone) (w .day) (omega (arith, w .clock .hour)) (w .clock .minute) (w .clock .second) (w .good .1) (w .is)
+    whole-dense _ _ _ _ _ _ _ (w .fraction) (w .zone) (w .day) (omega (arith, w .clock .0)) (w .clock .1) (w .clock .2) (w .good .1) (w .is)
 moment-dense (midnight e w) = whole-dense _ (w .year) (w .month) (w .date) 24 0 0 noFraction (w .zone) (w .day) (omega arith) (omega arith) (omega arith) (w .good) (w .is)
 
 -- ---- how many microseconds a fraction has
@@ -104,11 +105,11 @@ within zulu g = omega arith
 within (ahead x y) g = omega (arith, g .most)
 within (behind x y) g = omega (arith, g .most)
 
-pub moment-parts : {rule : DateRule} {t : List ℕ} {y mo d h mi s u z : ℕ} → MomentText rule t y mo d h mi s u z → Parts y mo d h mi s u z
+pub moment-parts : {rule : DateRule} {t : List ℕ} {y mo d h mi s u z : ℕ} → MomentBy rule t y mo d h mi s u z → Parts y mo d h mi s u z
 moment-parts {rule} (ordinary w) =
     record { day = w .day; clock = w .clock; fraction = omega (arith, w .parts .0, below rule (w .fraction) (w .good .0)); zone = omega (arith, w .parts .1, within (w .zone) (w .good .1)) }
 moment-parts (midnight e w) =
-    record { day = w .real; clock = record { hour = omega (arith, w .clock .0); minute = omega (arith, w .clock .1); second = omega (arith, w .clock .2) }; fraction = omega (arith, w .parts .0); zone = omega (arith, w .parts .1, within (w .zone) (w .good)) }
+    record { day = w .real; clock = (omega (arith, w .clock .0), omega (arith, w .clock .1), omega (arith, w .clock .2)); fraction = omega (arith, w .parts .0); zone = omega (arith, w .parts .1, within (w .zone) (w .good)) }
 
 -- no zone begins with a point
 pub point-first : {A : Type 0} (t : List ℕ) (z : Zone) → 46 ∷ t ≡ zoneText z [] → A

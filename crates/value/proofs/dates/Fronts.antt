@@ -18,8 +18,10 @@ use Rattle.list.specs.Listing.{date, dtm}
 use Rattle.value.specs.declared.judged.Judged.{Judged}
 use Rattle.value.specs.declared.judged.Judged.the-variants as J
 use Rattle.value.specs.Day.{Real, pair, dayText, monthDays, nextDay}
-use Rattle.value.specs.Moment.{present, Clock, clockText, Fraction, noFraction, decimals, figures, FractionOk, fractionText, Zone, zulu, ahead, behind, Offset, ZoneOk, zoneText, offset, ordinary, midnight}
-use Rattle.value.specs.Value.{Value, Form}
+use Rattle.value.specs.Former.{Clock, present, Fraction, noFraction, decimals, figures, FractionOk, fractionText, Zone, zulu, ahead, behind, Offset, ZoneOk, zoneText, offset, ordinary, midnight}
+use Rattle.value.specs.Moment.{clockText}
+use Rattle.value.specs.Value.{Value}
+use Rattle.value.specs.Form.{Form}
 use Rattle.value.specs.Judged.{Formed, formed, formless, FormedAny}
 use Rattle.value.specs.mirror.Digits.{One, Two, Mark, DayAt, FractionAt, NextAt, ZoneAt, ClockText, ClockAt, MidnightAt}
 use Rattle.value.proofs.classes.Classes.{digit-range, digit-yes}
@@ -400,18 +402,18 @@ module _ (t : List ℕ) (y mo d h mi s : ℕ) (a : Two (drop 11 t) h) (b : Two (
           let d16 : drop 16 t ≡ 58 ∷ pair s′ x = sym (drop-drop 6 10 t) ∙ ap (drop 6) (w .is) in
           let d17 : drop 17 t ≡ pair s′ x = sym (drop-drop 7 10 t) ∙ ap (drop 7) (w .is) in
           record {
-            hour = a .complete h′ _ (omega (arith, w .clock .hour)) d11;
-            minute = b .complete mi′ _ (omega (arith, w .clock .minute)) d14;
-            second = e .complete s′ _ (omega (arith, w .clock .second)) d17;
+            hour = a .complete h′ _ (omega (arith, w .clock .0)) d11;
+            minute = b .complete mi′ _ (omega (arith, w .clock .1)) d14;
+            second = e .complete s′ _ (omega (arith, w .clock .2)) d17;
             marks = (w .is ∙ ap (λ (v : List ℕ). 84 ∷ v) (sym d11), d13 ∙ ap (λ (v : List ℕ). 58 ∷ v) (sym d14), d16 ∙ ap (λ (v : List ℕ). 58 ∷ v) (sym d17));
           }
 
   module _ (p : Mark (drop 10 t) 84 true) (q : Mark (drop 13 t) 58 true) (r : Mark (drop 16 t) 58 true) (c : Clock h mi s) where
     clock-text : drop 10 t ≡ 84 ∷ clockText h mi s (drop 19 t)
     clock-text =
-        p .sound refl ∙ ap (λ (v : List ℕ). 84 ∷ v) (drop-drop 1 10 t ∙ a .sound (omega (arith, c .hour)) ∙ ap (pair h)
-        (drop-drop 2 11 t ∙ q .sound refl ∙ ap (λ (v : List ℕ). 58 ∷ v) (drop-drop 1 13 t ∙ b .sound (omega (arith, c .minute)) ∙ ap (pair mi)
-        (drop-drop 2 14 t ∙ r .sound refl ∙ ap (λ (v : List ℕ). 58 ∷ v) (drop-drop 1 16 t ∙ e .sound (omega (arith, c .second)) ∙ ap (pair s)
+        p .sound refl ∙ ap (λ (v : List ℕ). 84 ∷ v) (drop-drop 1 10 t ∙ a .sound (omega (arith, c .0)) ∙ ap (pair h)
+        (drop-drop 2 11 t ∙ q .sound refl ∙ ap (λ (v : List ℕ). 58 ∷ v) (drop-drop 1 13 t ∙ b .sound (omega (arith, c .1)) ∙ ap (pair mi)
+        (drop-drop 2 14 t ∙ r .sound refl ∙ ap (λ (v : List ℕ). 58 ∷ v) (drop-drop 1 16 t ∙ e .sound (omega (arith, c .2)) ∙ ap (pair s)
         (drop-drop 2 17 t))))))
 
     pub clock-on : (u z : ℕ) (rest : List ℕ) → FractionAt (drop 19 t) u rest → ZoneAt rest z → z ≤ 1680 → ClockAt t y mo d (J.Moment (record { year = y; month = mo; day = d; hour = h; minute = mi; second = s; micros = u; offset = z }))
@@ -531,7 +533,7 @@ module _ (t : List ℕ) (y mo d : ℕ) (q r : Judged) (w : DayAt t q) (g : q ≡
           let a : lateClock ++ drop 9 (drop 10 t) ≡ 84 ∷ clockText h _ _ _ = sym (starts-is lateClock (drop 10 t) n) ∙ ap (drop 10) (m .is) in
           let b : 50 ≡ 48 + h / 10 = cc in
           let c : 52 ≡ 48 + h % 10 = cc in
-          absurd (omega (arith, m .clock .hour))
+          absurd (omega (arith, m .clock .0))
       go v (Form.timed (midnight j m)) =
           let k = read-day t y mo d (drop 10 t) (stands t y mo d q w g .is) in
           let o = read-day t (m .year) (m .month) (m .date) _ (m .is) in

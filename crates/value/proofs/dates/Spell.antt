@@ -17,8 +17,10 @@ use Rattle.text.proofs.Classes.{and-is, in-range, in-range-is}
 use Rattle.text.proofs.Parts.{same-eq, same-of}
 use Rattle.list.specs.Listing.{date, dtm}
 use Rattle.value.specs.Day.{Real, isReal, dayText, nextDay}
-use Rattle.value.specs.Moment.{present, Clock, clockText, Fraction, noFraction, decimals, figures, FractionOk, fractionText, micros, Zone, zulu, ahead, behind, Offset, ZoneOk, zoneText, offset, PlainText, MidnightText, MomentText, ordinary, midnight}
-use Rattle.value.specs.Value.{Value, day, moment, Form}
+use Rattle.value.specs.Former.{Clock, present, Fraction, noFraction, decimals, figures, FractionOk, fractionText, micros, Zone, zulu, ahead, behind, Offset, ZoneOk, zoneText, offset, PlainText, MidnightText, MomentBy, ordinary, midnight}
+use Rattle.value.specs.Moment.{clockText}
+use Rattle.value.specs.Value.{Value, day, moment}
+use Rattle.value.specs.Form.{Form}
 use Rattle.value.specs.Spell.{when, twoAt, dayWhen, dayOf, isClock, fractionOf, fractionLength, isFraction, zoneOf, isOffset, isZone, momentWhen, momentBehind, midnightWhen, midnightOn, midnightBehind, momentOf}
 use Rattle.value.proofs.dates.Months.{real-is, real-of}
 
@@ -72,10 +74,10 @@ clock-is : (h m s : ℕ) → isClock h m s ≡ true → Clock h m s
 clock-is h m s e =
     let a = and-is (leb h 23) (leb m 59 && leb s 59) e in
     let b = and-is (leb m 59) (leb s 59) (a .1) in
-    record { hour = leb-true h 23 (a .0); minute = leb-true m 59 (b .0); second = leb-true s 59 (b .1) }
+    (leb-true h 23 (a .0), leb-true m 59 (b .0), leb-true s 59 (b .1))
 
 clock-of : (h m s : ℕ) → Clock h m s → isClock h m s ≡ true
-clock-of h m s c = and-of (leb h 23) (leb m 59 && leb s 59) (le-leb h 23 (c .hour)) (and-of (leb m 59) (leb s 59) (le-leb m 59 (c .minute)) (le-leb s 59 (c .second)))
+clock-of h m s c = and-of (leb h 23) (leb m 59 && leb s 59) (le-leb h 23 (c .0)) (and-of (leb m 59) (leb s 59) (le-leb m 59 (c .1)) (le-leb s 59 (c .2)))
 
 not-zero : (n : ℕ) → not (eqb n 0) ≡ true → n ≢ 0
 not-zero n e z = true≢false (sym e ∙ ap (λ (k : ℕ). not (eqb k 0)) z)
@@ -229,7 +231,7 @@ plain-complete t y mo d h mi s u o m =
     let fr : fractionOf (drop 19 t) ≡ f = ap fractionOf (q .rest) ∙ fraction-read f z (m .good .0) in
     let zr : zoneOf (drop (fractionLength (fractionOf (drop 19 t))) (drop 19 t)) ≡ z =
     ap (λ (g : Fraction). zoneOf (drop (fractionLength g) (drop 19 t))) fr ∙ ap (λ (x : List ℕ). zoneOf (drop (fractionLength f) x)) (q .rest) ∙ ap zoneOf (fraction-behind f (zoneText z [])) ∙ zone-read z in
-    ap (λ (b : Bool). cond b (midnightBehind t (drop 19 t)) (momentBehind t (drop 19 t))) (ne-eqb (twoAt 11 t) 24 (omega (arith, q .hours, m .clock .hour)))
+    ap (λ (b : Bool). cond b (midnightBehind t (drop 19 t)) (momentBehind t (drop 19 t))) (ne-eqb (twoAt 11 t) 24 (omega (arith, q .hours, m .clock .0)))
     ∙ ap (λ (n : ℕ). momentWhen t n (twoAt 5 t) (twoAt 8 t) (twoAt 11 t) (twoAt 14 t) (twoAt 17 t) (fractionOf (drop 19 t)) (zoneOf (drop (fractionLength (fractionOf (drop 19 t))) (drop 19 t)))) (p .years)
     ∙ ap (λ (n : ℕ). momentWhen t y n (twoAt 8 t) (twoAt 11 t) (twoAt 14 t) (twoAt 17 t) (fractionOf (drop 19 t)) (zoneOf (drop (fractionLength (fractionOf (drop 19 t))) (drop 19 t)))) (p .months)
     ∙ ap (λ (n : ℕ). momentWhen t y mo n (twoAt 11 t) (twoAt 14 t) (twoAt 17 t) (fractionOf (drop 19 t)) (zoneOf (drop (fractionLength (fractionOf (drop 19 t))) (drop 19 t)))) (p .days)
@@ -258,6 +260,6 @@ midnight-complete t y mo d h mi s u o m =
     ∙ ap (λ (n : ℕ). some (moment y mo d 0 0 0 0 n)) (sym (m .parts .1)) ∙ ap (λ (n : ℕ). some (moment y mo d 0 0 0 n o)) (sym (m .parts .0))
     ∙ ap (λ (n : ℕ). some (moment y mo d n 0 0 u o)) (sym (m .clock .0)) ∙ ap (λ (n : ℕ). some (moment y mo d h n 0 u o)) (sym (m .clock .1)) ∙ ap (λ (n : ℕ). some (moment y mo d h mi n u o)) (sym (m .clock .2))
 
-pub moment-complete : (t : List ℕ) (y mo d h mi s u o : ℕ) → MomentText present t y mo d h mi s u o → momentOf t ≡ some (moment y mo d h mi s u o)
+pub moment-complete : (t : List ℕ) (y mo d h mi s u o : ℕ) → MomentBy present t y mo d h mi s u o → momentOf t ≡ some (moment y mo d h mi s u o)
 moment-complete t y mo d h mi s u o (ordinary m) = plain-complete t y mo d h mi s u o m
 moment-complete t y mo d h mi s u o (midnight e m) = midnight-complete t y mo d h mi s u o m

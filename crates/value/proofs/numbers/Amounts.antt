@@ -15,8 +15,9 @@ use Rattle.text.specs.Bytes.{isDigit}
 use Rattle.list.specs.Listing.{amt}
 use Rattle.value.specs.declared.judged.Judged.{Judged}
 use Rattle.value.specs.declared.judged.Judged.the-variants as J
-use Rattle.value.specs.Amount.{Sign, unsigned, plus, minus, Amount}
-use Rattle.value.specs.Value.{Value, Form}
+use Rattle.value.specs.Numeral.{Sign, unsigned, plus, minus, Price}
+use Rattle.value.specs.Value.{Value}
+use Rattle.value.specs.Form.{Form}
 use Rattle.value.specs.Judged.{Formed, formed, formless, FormedAny}
 use Rattle.value.specs.mirror.Reading.{Found, bad, found, fracOf, wholeOf, pointOf, signedOf, readOf, answer}
 use Rattle.value.proofs.numbers.Decimals.{isMinus, complete, sound}
@@ -161,11 +162,11 @@ is-minus unsigned t = absurd (true≢false (sym t))
 is-minus plus t = absurd (true≢false (sym t))
 is-minus minus t = refl
 
-refuse : (w t : List ℕ) → ((c k : ℕ) → Amount t c k → ⊥) → (v : Value) → Form amt w t v → ⊥
+refuse : (w t : List ℕ) → ((c k : ℕ) → Price t c k → ⊥) → (v : Value) → Form amt w t v → ⊥
 refuse w t f v (Form.money r a) = f _ _ a
 
 module _ (t : List ℕ) (n : Bool) (c k : ℕ) (e : readOf t ≡ found n c k) where
-  other : ((n′ : Bool) → n ≡ n′ → k ≤ 5 → c < 10 ^ 18 → (n′ ≡ true → c ≡ 0) → ⊥) → (c′ k′ : ℕ) → Amount t c′ k′ → ⊥
+  other : ((n′ : Bool) → n ≡ n′ → k ≤ 5 → c < 10 ^ 18 → (n′ ≡ true → c ≡ 0) → ⊥) → (c′ k′ : ℕ) → Price t c′ k′ → ⊥
   other f c′ k′ a =
       let q : found n c k ≡ found (isMinus (a .spells .text .sign)) c′ k′ = sym e ∙ complete t c′ k′ (a .spells) in
       let p : c ≡ c′ = cc in
@@ -173,7 +174,7 @@ module _ (t : List ℕ) (n : Bool) (c k : ℕ) (e : readOf t ≡ found n c k) wh
       let m : n ≡ isMinus (a .spells .text .sign) = cc in
       f (isMinus (a .spells .text .sign)) m (omega (arith, a .bounds .scale)) (omega (arith, a .bounds .coefficient)) (λ z. p ∙ a .sign (is-minus (a .spells .text .sign) z))
 
-  good : k ≤ 5 → c < 10 ^ 18 → (n ≡ true → c ≡ 0) → Amount t c k
+  good : k ≤ 5 → c < 10 ^ 18 → (n ≡ true → c ≡ 0) → Price t c k
   good h j f =
       let w = sound t n c k e in
       record { spells = w .decimal; bounds = record { scale = h; coefficient = j; least = w .decimal .least }; sign = λ m. f (sym (w .neg) ∙ ap isMinus m) }
@@ -185,7 +186,7 @@ module _ (t : List ℕ) (n : Bool) (c k : ℕ) (e : readOf t ≡ found n c k) wh
       no : ((n′ : Bool) → n ≡ n′ → k ≤ 5 → c < 10 ^ 18 → (n′ ≡ true → c ≡ 0) → ⊥) → Formed amt w t J.Refused
       no f = formless refl (refuse w t (other f))
 
-      ok : Amount t c k → Formed amt w t (J.Amount c k)
+      ok : Price t c k → Formed amt w t (J.Amount c k)
       ok a = formed _ (Form.money cw a) refl
 
       by : (u v m z : Bool) → leb k 5 ≡ u → ltb c (10 ^ 18) ≡ v → n ≡ m → eqb c 0 ≡ z
@@ -209,7 +210,7 @@ sign-fits unsigned c f = refl
 sign-fits plus c f = refl
 sign-fits minus c f = rw (eq-eqb c 0 (f refl))
 
-pub answer-of : (t : List ℕ) (c k : ℕ) → Amount t c k → answer (readOf t) ≡ J.Amount c k
+pub answer-of : (t : List ℕ) (c k : ℕ) → Price t c k → answer (readOf t) ≡ J.Amount c k
 answer-of t c k a =
     ap answer (complete t c k (a .spells)) ∙ answer-good (isMinus (a .spells .text .sign)) c k (a .bounds .coefficient) (a .bounds .scale)
     ∙ ap (λ (b : Bool). cond b J.Refused (J.Amount c k)) (sign-fits (a .spells .text .sign) c (a .sign))

@@ -11,8 +11,8 @@ use lib.ListN.{length, length-append}
 use borrow.Author.Tests.{ne-eqb, eqb-true, eqb-false}
 use Rattle.text.specs.Bytes.{isDigit}
 use Rattle.text.specs.Lists.{Each, All}
-use Rattle.value.specs.Plain.{decimalFrom, decimal}
-use Rattle.value.specs.Amount.{Sign, unsigned, plus, minus, signText, Places, noPoint, point, placesOf, placesText, Written, Smallest, Decimal}
+use Rattle.value.specs.Plain.{decimalFrom}
+use Rattle.value.specs.Numeral.{Sign, unsigned, plus, minus, signText, Places, noPoint, point, placesOf, placesText, Numeral, Decimal, Smallest, decimal}
 use Rattle.value.specs.mirror.Reading.{Found, bad, found, fracOf, wholeOf, pointOf, signedOf, readOf}
 use Rattle.value.proofs.classes.Classes.{digit-range, Solid, solid-digit, each-all, each-append}
 use Rattle.value.proofs.raw.Trim.{Dense}
@@ -311,7 +311,7 @@ places-long : (f : Places) → length (placesOf f) ≤ length (placesText f)
 places-long noPoint = omega arith
 places-long (point ds) = omega arith
 
-pub written-dense : (t : List ℕ) → Written t → Dense t
+pub written-dense : (t : List ℕ) → Numeral t → Dense t
 written-dense t w =
     record {
       solid = subst (λ (l : List ℕ). Each Solid l) (sym (w .is))

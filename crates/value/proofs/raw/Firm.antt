@@ -11,7 +11,8 @@ use Rattle.text.specs.Lists.{Each, Begins}
 use Rattle.list.specs.Listing.{Leaf, ref, iban, ccy, bool, num, amt, date, dtm, txt, enum}
 use Rattle.value.specs.Code.{Iban, Ccy, isLetterOrDigit}
 use Rattle.value.specs.Plain.{SaysTruth}
-use Rattle.value.specs.Value.{Value, Form}
+use Rattle.value.specs.Value.{Value}
+use Rattle.value.specs.Form.{Form}
 use Rattle.value.proofs.classes.Classes.{Solid, solid-digit, solid-capital, solid-either, each-all, each-append}
 use Rattle.value.proofs.raw.Trim.{Dense}
 use Rattle.value.proofs.numbers.Decimals.{written-dense, digits-dense}

@@ -14,13 +14,15 @@ use Rattle.text_characters.specs.Pieces.{Spells}
 use Rattle.list.specs.Listing.{Leaf, ref, iban, ccy, bool, num, amt, date, dtm, txt, enum}
 use Rattle.value.specs.declared.judged.Judged.{Judged}
 use Rattle.value.specs.declared.judged.Judged.the-variants as J
-use Rattle.value.specs.Text.{Ref, Txt}
-use Rattle.value.specs.Code.{Iban, Ccy, WordAt}
+use Rattle.value.specs.Text.{isTxt, Chars, Ref}
+use Rattle.value.specs.Code.{Iban, Ccy}
+use Rattle.value.specs.Form.{WordAt}
 use Rattle.value.specs.Plain.{Trimmed, SaysTruth}
 use Rattle.value.specs.Kind.{code, Given}
 use Rattle.value.specs.Trim.{Trim}
 use Rattle.value.specs.mirror.Texts.{textOf, Spelled, spelled, unspelled}
-use Rattle.value.specs.Value.{Value, text, place, truth, Form, Left, Spelt}
+use Rattle.value.specs.Value.{Value, text, place, truth, Spelt}
+use Rattle.value.specs.Form.{Form, Left}
 use Rattle.value.specs.Judged.{Exactly, Means, Right, accepted, refused, Formed, formed, formless, FormedAny, codedOf, Checked}
 use Rattle.value.proofs.classes.Classes.{Solid, each-map}
 use Rattle.value.proofs.raw.Raw.{Tame, solid-tame, raw-to, raw-from, plain-encode}
@@ -29,6 +31,7 @@ use Rattle.value.proofs.raw.Parts.{trim-is}
 use Rattle.value.proofs.raw.Firm.{Firm, form-dense, iban-dense, ccy-dense}
 use Rattle.value.proofs.classes.References.{ref-to, ref-from, txt-to, txt-from}
 use Rattle.value.proofs.types.Numbered.{leafOf, by-code, code-low, code-high}
+use Rattle.value.proofs.types.Shaped.{shaped-spelt, spelt-shaped}
 
 -- ---- kinds that lose blanks
 means-any : (r : Judged) (w cs ds : List ℕ) (v : Value) → (v ≡ text cs → ⊥) → Means w cs r v → Means w ds r v
@@ -46,9 +49,10 @@ module _ (k : Leaf) (firm : Firm k) (to : (cs t : List ℕ) → Trimmed cs t →
     where
       go : Formed k w t r → Right k w s r
       go (formed v g m) =
-          accepted s v (raw-to s (trim-tame s t (tr .is) (form-dense k w t v firm g .solid))) (record { left = t; lost = to s t (tr .is); form = g }) (means-any r w t s v (other w t t v g) m)
+          accepted s v (raw-to s (trim-tame s t (tr .is) (form-dense k w t v firm g .solid))) (shaped-spelt k w s v (record { left = t; lost = to s t (tr .is); form = g })) (means-any r w t s v (other w t t v g) m)
       go (formless e n) =
-          refused e (λ cs v sp st.
+          refused e (λ cs v sp sl.
+          let st = spelt-shaped k w cs v sl in
           let u = st .left in
           let d = form-dense k w u v firm (st .form) in
           let tm = from cs u (st .lost) in
@@ -106,27 +110,27 @@ ccy-part : (w cs t : List ℕ) (v : Value) → Form ccy w t v → cs ≡ t → C
 ccy-part w cs t v (Form.currency i) e = subst Ccy (sym e) i
 
 pub right-iban : (t : List ℕ) (good : Bool) (r : Judged) → Exactly good (Iban t) → r ≡ codedOf good (length t) → (w : List ℕ) → Right iban w t r
-right-iban = right-code iban Iban iban-dense (λ w t p. record { left = t; lost = refl; form = Form.account p }) (λ w t v s. iban-part w t (s .left) v (s .form) (s .lost))
+right-iban = right-code iban Iban iban-dense (λ w t p. shaped-spelt iban w t (text t) (record { left = t; lost = refl; form = Form.account p })) (λ w t v sl. let s = spelt-shaped iban w t v sl in iban-part w t (s .left) v (s .form) (s .lost))
 
 pub right-ccy : (t : List ℕ) (good : Bool) (r : Judged) → Exactly good (Ccy t) → r ≡ codedOf good (length t) → (w : List ℕ) → Right ccy w t r
-right-ccy = right-code ccy Ccy ccy-dense (λ w t p. record { left = t; lost = refl; form = Form.currency p }) (λ w t v s. ccy-part w t (s .left) v (s .form) (s .lost))
+right-ccy = right-code ccy Ccy ccy-dense (λ w t p. shaped-spelt ccy w t (text t) (record { left = t; lost = refl; form = Form.currency p })) (λ w t v sl. let s = spelt-shaped ccy w t v sl in ccy-part w t (s .left) v (s .form) (s .lost))
 
 -- ---- references and texts
 ref-part : (w cs t : List ℕ) (v : Value) → Form ref w t v → cs ≡ t → Ref cs
 ref-part w cs t v (Form.reference r) e = subst Ref (sym e) r
 
-txt-part : (k : ℕ) (w cs t : List ℕ) (v : Value) → Form (txt k) w t v → cs ≡ t → Txt k cs
-txt-part k w cs t v (Form.writing r) e = subst (Txt k) (sym e) r
+txt-part : (k : ℕ) (w cs t : List ℕ) (v : Value) → Form (txt k) w t v → cs ≡ t → Chars isTxt k cs
+txt-part k w cs t v (Form.writing r) e = subst (Chars isTxt k) (sym e) r
 
 pub right-ref : (t : List ℕ) (r : Judged) → Spelled (textOf true 35) t r → (w : List ℕ) → Right ref w t r
 right-ref t r (spelled p e) w =
-    accepted (p .chars) (text (p .chars)) (p .spells) (record { left = p .chars; lost = refl; form = Form.reference (ref-to (p .chars) (p .passes)) }) (subst (λ (r : Judged). Means w (p .chars) r (text (p .chars))) (sym e) (refl, refl))
-right-ref t r (unspelled e f) w = refused e (λ cs v sp st. f (record { chars = cs; spells = sp; passes = ref-from cs (ref-part w cs (st .left) v (st .form) (st .lost)) }))
+    accepted (p .chars) (text (p .chars)) (p .spells) (shaped-spelt ref w (p .chars) (text (p .chars)) (record { left = p .chars; lost = refl; form = Form.reference (ref-to (p .chars) (p .passes)) })) (subst (λ (r : Judged). Means w (p .chars) r (text (p .chars))) (sym e) (refl, refl))
+right-ref t r (unspelled e f) w = refused e (λ cs v sp sl. let st = spelt-shaped ref w cs v sl in f (record { chars = cs; spells = sp; passes = ref-from cs (ref-part w cs (st .left) v (st .form) (st .lost)) }))
 
 pub right-txt : (k : ℕ) (t : List ℕ) (r : Judged) → Spelled (textOf false k) t r → (w : List ℕ) → Right (txt k) w t r
 right-txt k t r (spelled p e) w =
-    accepted (p .chars) (text (p .chars)) (p .spells) (record { left = p .chars; lost = refl; form = Form.writing (txt-to k (p .chars) (p .passes)) }) (subst (λ (r : Judged). Means w (p .chars) r (text (p .chars))) (sym e) (refl, refl))
-right-txt k t r (unspelled e f) w = refused e (λ cs v sp st. f (record { chars = cs; spells = sp; passes = txt-from k cs (txt-part k w cs (st .left) v (st .form) (st .lost)) }))
+    accepted (p .chars) (text (p .chars)) (p .spells) (shaped-spelt (txt k) w (p .chars) (text (p .chars)) (record { left = p .chars; lost = refl; form = Form.writing (txt-to k (p .chars) (p .passes)) })) (subst (λ (r : Judged). Means w (p .chars) r (text (p .chars))) (sym e) (refl, refl))
+right-txt k t r (unspelled e f) w = refused e (λ cs v sp sl. let st = spelt-shaped (txt k) w cs v sl in f (record { chars = cs; spells = sp; passes = txt-from k cs (txt-part k w cs (st .left) v (st .form) (st .lost)) }))
 
 pub right-txt-of : (k j : ℕ) → k ≡ j → (t : List ℕ) (r : Judged) → Spelled (textOf false k) t r → (w : List ℕ) → Right (txt j) w t r
 right-txt-of k j e t r p = right-txt j t r (subst (λ (n : ℕ). Spelled (textOf false n) t r) e p)
@@ -173,7 +177,7 @@ word-is t w r h e = (
 pub word-spelt : (ws : List (List ℕ)) (w s : List ℕ) (n : ℕ) → Each (Begins isCapital isCapital) ws → WordAt ws n s → Spells s s × Spelt (enum ws) w s (place n)
 word-spelt ws w s n ok a =
     let f : Form (enum ws) w s (place n) = Form.listed a in
-    (raw-to s (each-map Solid Tame solid-tame s (form-dense (enum ws) w s (place n) ok f .solid)), record { left = s; lost = refl; form = f })
+    (raw-to s (each-map Solid Tame solid-tame s (form-dense (enum ws) w s (place n) ok f .solid)), shaped-spelt (enum ws) w s (place n) (record { left = s; lost = refl; form = f }))
 
 pub record Placed (ws : List (List ℕ)) (s : List ℕ) (v : Value) : Type 0 where
   pub at : ℕ
@@ -184,7 +188,8 @@ placed-of : (ws : List (List ℕ)) (w s t : List ℕ) (v : Value) → s ≡ t �
 placed-of ws w s t v e (Form.listed {n = n} a) = record { at = n; is = refl; word = subst (WordAt ws n) (sym e) a }
 
 pub spelt-word : (ws : List (List ℕ)) (w s cs : List ℕ) (v : Value) → Each (Begins isCapital isCapital) ws → Spells s cs → Spelt (enum ws) w cs v → Placed ws s v
-spelt-word ws w s cs v ok sp st =
+spelt-word ws w s cs v ok sp sl =
+    let st = spelt-shaped (enum ws) w cs v sl in
     let d = form-dense (enum ws) w (st .left) v ok (st .form) in
     let q : s ≡ cs = raw-from s cs sp (subst (Each Tame) (sym (st .lost)) (each-map Solid Tame solid-tame (st .left) (d .solid))) in
     placed-of ws w s (st .left) v (q ∙ st .lost) (st .form)

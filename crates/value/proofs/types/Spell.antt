@@ -19,12 +19,14 @@ use Rattle.list.specs.Table.{placeIn}
 use Rattle.list.proofs.words.Places.{place-found, place-none, place-is}
 use Rattle.value.specs.declared.judged.Judged.{Judged}
 use Rattle.value.specs.declared.judged.Judged.the-variants as J
-use Rattle.value.specs.Plain.{Trimmed, SaysTruth, Num, decimal}
+use Rattle.value.specs.Plain.{Trimmed, SaysTruth, Num}
+use Rattle.value.specs.Numeral.{decimal}
 use Rattle.value.specs.Code.{Iban, Ccy}
 use Rattle.value.specs.mirror.Layout.{ibanAt}
 use Rattle.value.specs.mirror.Texts.{textOf}
 use Rattle.value.specs.mirror.Reading.{readOf, answer}
-use Rattle.value.specs.Value.{Value, text, place, truth, natural, amount, Form, Left, Spelt}
+use Rattle.value.specs.Value.{Value, text, place, truth, natural, amount, Spelt}
+use Rattle.value.specs.Form.{Form, Left}
 use Rattle.value.specs.Judged.{Formed, formed, formless}
 use Rattle.value.specs.Spell.{trim, when, passesFrom, isCcy, isIban, isNum, placeOf, truthOf, moneyOf, leftOf, formOf, spell}
 use Rattle.value.proofs.classes.Loops.{From, to-all, from-all}
@@ -34,6 +36,7 @@ use Rattle.value.proofs.numbers.Amounts.{right, answer-of}
 use Rattle.value.proofs.raw.Parts.{trim-is}
 use Rattle.value.proofs.raw.Firm.{Firm, form-dense}
 use Rattle.value.proofs.raw.TrimDecided.{trim-trims}
+use Rattle.value.proofs.types.Shaped.{shaped-spelt, spelt-shaped}
 use Rattle.value.proofs.dates.Spell.{when-is, when-of, and-of, day-sound, day-complete, moment-sound, moment-complete}
 
 -- ---- a test at every place
@@ -204,11 +207,11 @@ left-of (enum ws) w cs t v l f = l
 -- ---- the two directions
 pub spell-sound : (k : Leaf) (w cs : List ℕ) (v : Value) → spell k w cs ≡ some v → Spelt k w cs v
 unfolding spell
-spell-sound k w cs v e = record { left = leftOf k cs; lost = left-is k cs; form = form-sound k w (leftOf k cs) v e }
+spell-sound k w cs v e = shaped-spelt k w cs v (record { left = leftOf k cs; lost = left-is k cs; form = form-sound k w (leftOf k cs) v e })
 
 spell-found : (k : Leaf) (w cs : List ℕ) (v : Value) → Apart k → Spelt k w cs v → spell k w cs ≡ some v
 unfolding spell
-spell-found k w cs v d s = ap (formOf k w) (left-of k w cs (s .left) v (s .lost) (s .form)) ∙ form-complete k w (s .left) v d (s .form)
+spell-found k w cs v d s = let a = spelt-shaped k w cs v s in ap (formOf k w) (left-of k w cs (a .left) v (a .lost) (a .form)) ∙ form-complete k w (a .left) v d (a .form)
 
 pub spell-complete : (k : Leaf) (w cs : List ℕ) (v : Value) → LeafOk k → Spelt k w cs v → spell k w cs ≡ some v
 spell-complete k w cs v ok s = spell-found k w cs v (apart-of k ok) s
@@ -232,7 +235,10 @@ form-some k w t v (Form.timed m) = (v, form-complete dtm w t v tt (Form.timed m)
 
 pub spell-some : (k : Leaf) (w cs : List ℕ) (v : Value) → Spelt k w cs v → (u : Value) × (spell k w cs ≡ some u)
 unfolding spell
-spell-some k w cs v s = let f = form-some k w (s .left) v (s .form) in (f .0, ap (formOf k w) (left-of k w cs (s .left) v (s .lost) (s .form)) ∙ f .1)
+spell-some k w cs v s =
+    let a = spelt-shaped k w cs v s in
+    let f = form-some k w (a .left) v (a .form) in
+    (f .0, ap (formOf k w) (left-of k w cs (a .left) v (a .lost) (a .form)) ∙ f .1)
 
 -- characters have at most one value, and so has a text
 pub one-form : (k : Leaf) (w t : List ℕ) (v v′ : Value) → Apart k → Form k w t v → Form k w t v′ → v ≡ v′

@@ -1,10 +1,9 @@
 -- The laws of values, all kinds together. Assumes nothing.
 use mathlib.Core.Path.{_≡_, refl, sym, _∙_, ap}
-use mathlib.Core.Bool.{Bool, true, false, true≢false}
+use mathlib.Core.Bool.{Bool, true, false, cond, true≢false}
 use mathlib.Core.List.{List, [], _∷_, _++_, append-assoc}
 use mathlib.Core.Logic.{inl}
 use Prim.Native.Nat.{ℕ, _+_, _^_, _≤_, _<_}
-use native.Mathlib.Nat.{pow-le-pow-right}
 use native.Mathlib.Omega.{arith}
 use native.Mathlib.Decide.{decLt}
 use lib.ListN.{length, length-append}
@@ -17,47 +16,30 @@ use Rattle.text.proofs.Classes as classes
 use Rattle.text.proofs.Numbers.{big-length, big-prefix}
 use Rattle.list.specs.Listing.{Leaf, ref, iban, ccy, bool, num, amt, date, dtm, txt, enum}
 use Rattle.list.specs.WellFormed.{LeafOk}
-use Rattle.value.specs.Text.{Ref, Txt, isRef, isTxt}
+use Rattle.value.specs.Text.{Ref, Chars, isRef, isTxt}
 use Rattle.value.specs.mirror.Texts.{classOf}
-use Rattle.value.specs.Code.{Iban, Ccy, WordAt, isLetterOrDigit}
-use Rattle.value.specs.Plain.{Num}
+use Rattle.value.specs.Code.{Iban, Ccy, isLetterOrDigit}
 use Rattle.value.specs.Day.{Real}
-use Rattle.value.specs.Moment.{DateRule, Parts, MomentText, ordinary, midnight}
-use Rattle.value.specs.Value.{Value, text, place, truth, natural, amount, day, moment, IsValue, Form, Left, truthByte, bytes}
+use Rattle.value.specs.Former.{DateRule, MomentBy, ordinary, midnight}
+use Rattle.value.specs.Moment.{Parts}
+use Rattle.value.specs.Value.{Value, text, place, truth, natural, amount, day, moment, IsValue, bytes}
+use Rattle.value.specs.Form.{Form, Left}
 use Rattle.value.specs.Laws.{extra, ValueLaws}
 use Rattle.value.proofs.classes.Classes.{Solid, each-all, each-map}
 use Rattle.value.proofs.raw.Encoding.{same-front, same-text, encoded-most}
 use Rattle.value.proofs.classes.Named.{reference, writing}
 use Rattle.value.proofs.raw.Raw.{encoded-short, spelt-long}
 use Rattle.value.proofs.raw.Trim.{trim-none, trim-long}
-use Rattle.value.proofs.numbers.Decimals.{written-dense, decimal-below, least}
-use Rattle.value.proofs.dates.Dates.{moment-parts}
+use Rattle.value.proofs.numbers.Decimals.{written-dense, least}
 use Rattle.value.proofs.classes.Codes.{iban-most}
 use Rattle.value.proofs.raw.Firm.{says-dense, iban-dense, ccy-dense, form-dense}
+use Rattle.value.proofs.classes.Ink.{ink-not}
+use Rattle.value.proofs.types.Shaped.{spelt-shaped}
 use Rattle.value.proofs.types.Spell.{apart-of, one-spelt}
-
--- ---- what is spelt is a value
-word-is : (ws : List (List ℕ)) (n : ℕ) (w : List ℕ) → WordAt ws n w → IsValue (enum ws) (place n)
-word-is ws n w a = IsValue.listed {ws = ws} {n = n} (omega (arith, a .from)) (omega (arith, a .from, a .within))
-
-num-below : (t : List ℕ) (n : ℕ) → Num t n → n < 10 ^ 18
-num-below t n w = omega (arith, decimal-below 0 1 t (w .digits) (omega arith), w .is, pow-le-pow-right {n = 10} (omega arith) (w .lengths .1))
-
-pub form-is : (k : Leaf) (w t : List ℕ) (v : Value) → Form k w t v → IsValue k v
-form-is k w t v (Form.reference r) = IsValue.reference r
-form-is k w t v (Form.writing r) = IsValue.writing r
-form-is k w t v (Form.account r) = IsValue.account r
-form-is k w t v (Form.currency r) = IsValue.currency r
-form-is k w t v (Form.listed a) = word-is _ _ t a
-form-is k w t v (Form.either s) = IsValue.either
-form-is k w t v (Form.count n) = IsValue.count (num-below t _ n)
-form-is k w t v (Form.money c a) = IsValue.money c (a .bounds)
-form-is k w t v (Form.dated r e) = IsValue.dated r
-form-is k w t v (Form.timed m) = IsValue.timed (moment-parts m)
 
 -- ---- the empty text spells none
 left-none : (k : Leaf) (w t : List ℕ) (v : Value) → LeafOk k → Left k [] t → Form k w t v → ⊥
-left-none ref w t v ok e (Form.reference r) = omega (arith, r .some, ap length e)
+left-none ref w t v ok e (Form.reference r) = omega (arith, r .chars .some, ap length e)
 left-none iban w t v ok e f = omega (arith, form-dense iban w t v tt f .some, ap length e)
 left-none ccy w t v ok e f = omega (arith, form-dense ccy w t v tt f .some, ap length e)
 left-none bool w t v ok e f = trim-none t e (form-dense bool w t v tt f)
@@ -73,10 +55,7 @@ one-ref : Ref (65 ∷ [])
 unfolding isRef
 one-ref =
     record {
-      some = omega arith;
-      most = omega arith;
-      class = (refl, tt);
-      ink = inl refl;
+      chars = record { some = omega arith; most = omega arith; class = (refl, tt); ink = ink-not (65 ∷ []) (inl refl) };
       first = λ t e. let q : _≡_ {A = ℕ} 65 47 = cc in omega arith;
       last = λ t e. last-go t e;
       twice = λ t u e. twice-go t u e;
@@ -89,9 +68,9 @@ one-ref =
     twice-go : (t u : List ℕ) → 65 ∷ [] ≡ t ++ (47 ∷ 47 ∷ u) → ⊥
     twice-go t u e = omega (arith, ap length e, length-append t (47 ∷ 47 ∷ u))
 
-one-txt : (k : ℕ) → 1 ≤ k → Txt k (65 ∷ [])
+one-txt : (k : ℕ) → 1 ≤ k → Chars isTxt k (65 ∷ [])
 unfolding isTxt
-one-txt k h = record { some = omega arith; most = h; class = (refl, tt); ink = inl refl }
+one-txt k h = record { some = omega arith; most = h; class = (refl, tt); ink = ink-not (65 ∷ []) (inl refl) }
 
 one-iban : Iban (65 ∷ 65 ∷ 48 ∷ 48 ∷ 65 ∷ [])
 unfolding isCapital isDigit isLetterOrDigit isLetter
@@ -171,14 +150,14 @@ module _ {y mo d h mi s u z y′ mo′ d′ h′ mi′ s′ u′ z′ : ℕ} (a 
       let x = k .0 in
       (cc, k .1)
 
-truth-byte : (a b : Bool) → truthByte a ≡ truthByte b → a ≡ b
+truth-byte : (a b : Bool) → _≡_ {A = ℕ} (cond a 1 0) (cond b 1 0) → a ≡ b
 truth-byte true true e = refl
 truth-byte false false e = refl
 truth-byte true false e = absurd (omega arith)
 truth-byte false true e = absurd (omega arith)
 
 prefix : (k : Leaf) (v v′ : Value) (a b : List ℕ) → LeafOk k → IsValue k v → IsValue k v′ → bytes v ++ a ≡ bytes v′ ++ b → (v ≡ v′) × (a ≡ b)
-prefix k v v′ a b ok (IsValue.reference {cs = cs} r) (IsValue.reference {cs = ds} q) e = text-prefix cs ds a b (class-scalars true cs (r .class)) (class-scalars true ds (q .class)) (omega (arith, r .most)) (omega (arith, q .most)) e
+prefix k v v′ a b ok (IsValue.reference {cs = cs} r) (IsValue.reference {cs = ds} q) e = text-prefix cs ds a b (class-scalars true cs (r .chars .class)) (class-scalars true ds (q .chars .class)) (omega (arith, r .chars .most)) (omega (arith, q .chars .most)) e
 prefix k v v′ a b ok (IsValue.writing {cs = cs} r) (IsValue.writing {cs = ds} q) e = text-prefix cs ds a b (class-scalars false cs (r .class)) (class-scalars false ds (q .class)) (omega (arith, r .most, ok .1)) (omega (arith, q .most, ok .1)) e
 prefix k v v′ a b ok (IsValue.account {cs = cs} r) (IsValue.account {cs = ds} q) e = text-prefix cs ds a b (solid-scalars cs (iban-dense cs r .solid)) (solid-scalars ds (iban-dense ds q .solid)) (omega (arith, iban-most cs r)) (omega (arith, iban-most ds q)) e
 prefix k v v′ a b ok (IsValue.currency {cs = cs} r) (IsValue.currency {cs = ds} q) e = text-prefix cs ds a b (solid-scalars cs (ccy-dense cs r .solid)) (solid-scalars ds (ccy-dense ds q .solid)) (omega (arith, r .three)) (omega (arith, q .three)) e
@@ -214,7 +193,7 @@ day-bytes y m d = omega (arith, length-append (bigEndian 2 y) (m ∷ d ∷ []), 
 pub moment-bytes : (y mo d h mi s u z : ℕ) → length (bytes (moment y mo d h mi s u z)) ≡ 13
 moment-bytes y mo d h mi s u z = omega (arith, length-append (bigEndian 2 y) (mo ∷ d ∷ h ∷ mi ∷ s ∷ (bigEndian 4 u ++ bigEndian 2 z)), length-append (bigEndian 4 u) (bigEndian 2 z), big-length 2 y, big-length 4 u, big-length 2 z)
 
-moment-long : {rule : DateRule} {t : List ℕ} {y mo d h mi s u z : ℕ} → MomentText rule t y mo d h mi s u z → 19 ≤ length t
+moment-long : {rule : DateRule} {t : List ℕ} {y mo d h mi s u z : ℕ} → MomentBy rule t y mo d h mi s u z → 19 ≤ length t
 moment-long (ordinary w) = omega (arith, ap length (w .is))
 moment-long (midnight e w) = omega (arith, ap length (w .is))
 
@@ -238,9 +217,9 @@ pub value-laws : ValueLaws
 value-laws =
     record {
       one = λ k w cs v v′ ok a b. one-spelt k w cs v v′ (apart-of k ok) a b;
-      is = λ k w cs v a. form-is k w (a .left) v (a .form);
-      none = λ k w v ok a. left-none k w (a .left) v ok (a .lost) (a .form);
+      is = λ k w cs v a. a .is;
+      none = λ k w v ok a. let b = spelt-shaped k w [] v a in left-none k w (b .left) v ok (b .lost) (b .form);
       some = some;
       prefix = prefix;
-      short = λ k w s cs v ok p a. form-short k w s cs (a .left) v ok p (a .lost) (a .form);
+      short = λ k w s cs v ok p a. let b = spelt-shaped k w cs v a in form-short k w s cs (b .left) v ok p (b .lost) (b .form);
     }

@@ -6,7 +6,7 @@ use native.Mathlib.Omega.{arith}
 use mathlib.Core.Path.{refl, _∙_}
 use lib.ListN.{length}
 use Prim.Native.Nat.{_-_}
-use Rattle.value_to_bytes.proofs.Putting.{kept}
+use Rattle.value.proofs.given.Putting.{kept}
 use Rattle.file_check.proofs.House.{WritingOn, AtTag, AtOpening, fill-first, name-in, fill-low, fill-room, fill-ends, fill-out-less, fill-out, fill-comes, fill-row, fill-in-less, fill-in, fill-ready, fill-close, fill-past-less, fill-past}
 
 abbrev Inv-loop : tie.InvT-loop

@@ -6,7 +6,7 @@ use mathlib.Core.Path.{refl}
 use mathlib.Core.List.{[]}
 use native.Mathlib.Omega.{arith}
 use Rattle.text.proofs.Puts.{pasted-nowhere}
-use Rattle.value_to_bytes.proofs.Theorems.{bytes-some}
+use Rattle.value.proofs.given.Theorems.{bytes-some}
 use Rattle.file_measure.proofs.Leaf.{shuts-group, shuts-none, shuts-some}
 use Rattle.file_measure.proofs.Value.{leaf-kind}
 

@@ -4,8 +4,8 @@ use Prim.Native.Nat.{ℕ, _+_}
 use native.Mathlib.Omega.{arith}
 use lib.ListN.{drop}
 use borrow.Author.Needs.{needs}
-use Rattle.value_from_bytes.specs.mirror.Ends.{width}
-use Rattle.value_from_bytes.proofs.Numbered.{width-text}
+use Rattle.value.specs.mirror.Ends.{width}
+use Rattle.value.proofs.stored.Numbered.{width-text}
 use Rattle.file_write.proofs.Widths.{width-one, width-none}
 use Rattle.file_write.proofs.emit.after.Statement.{statement}
 use Rattle.file_write.proofs.emit.after.Tie as tie

@@ -4,7 +4,7 @@ use native.Mathlib.Omega.{arith}
 use lib.ListN.{length}
 use lib.Seq.{take-all}
 use borrow.Author.Needs.{needs}
-use Rattle.program_feed.specs.Reply.{answerLine}
+use Rattle.program_reply.specs.Reply.{answerLine}
 use Rattle.unit.proofs.Picking.{part-within, picks-both}
 use Rattle.replay.proofs.reply.part_picked.Statement.{statement}
 use Rattle.replay.proofs.reply.part_picked.Tie as tie

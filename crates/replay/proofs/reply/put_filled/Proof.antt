@@ -3,7 +3,7 @@ use mathlib.Core.Path.{_∙_, ap}
 use Prim.Native.Nat.{ℕ}
 use lib.ListN.{take}
 use borrow.Author.Needs.{needs}
-use Rattle.program_feed.specs.Reply.{answerLine}
+use Rattle.program_reply.specs.Reply.{answerLine}
 use Rattle.replay.proofs.reply.put_filled.Statement.{statement}
 use Rattle.replay.proofs.reply.put_filled.Tie as tie
 

@@ -3,8 +3,8 @@ use Prim.Native.Nat.{_≤_}
 use native.Mathlib.Omega.{arith}
 use lib.ListN.{length, take, length-take}
 use borrow.Author.Needs.{needs}
-use Rattle.program_feed.specs.Reply.{answerLine}
-use Rattle.program_feed.proofs.Replies.{put-taken}
+use Rattle.program_reply.specs.Reply.{answerLine}
+use Rattle.program_reply.proofs.Replies.{put-taken}
 use Rattle.program_line.proofs.Lines.{counts}
 use Rattle.replay.proofs.Replying.{put-long}
 use Rattle.replay.proofs.reply.put_line.Statement.{statement}

@@ -3,7 +3,7 @@ use mathlib.Core.Path.{sym, _∙_}
 use native.Mathlib.Omega.{arith}
 use lib.Seq.{length-take-le}
 use borrow.Author.Needs.{needs}
-use Rattle.program_feed.specs.Reply.{brokenLine}
+use Rattle.program_reply.specs.Reply.{brokenLine}
 use Rattle.replay.specs.Replies.{broken}
 use Rattle.replay.proofs.Replying.{in-check, in-read, in-count, in-pick, in-write, in-tidy, bytes-most, take-most, put-fitting, put-check, put-read, put-count, put-pick, put-write, put-tidy}
 use Rattle.replay.proofs.reply.reply.Statement.{statement}
@@ -42,9 +42,7 @@ bytes-behind-requires-2 c κs =
     in-read (c .before .before .before .before .before .before .before .before .args .feed .now) _ (sym (c .before .size .given .1) ∙ c .before .before .before .case-in .ensures) .0
 
 measured-requires : tie.Need-measured-requires
-measured-requires c κs =
-    let o = c .before .before .before .before .before .before .before .before .before .before in
-    (bytes-most (o .args .feed .now) _ _ (c .before .bytes-behind2 .ensures) (in-read (o .args .feed .now) _ (sym (c .before .before .before .size .given .1) ∙ c .before .before .before .before .before .case-in .ensures) .1), omega (arith, o .pre .1 .1))
+measured-requires c κs = omega (arith, c .before .before .before .before .before .before .before .before .before .before .pre .1 .1)
 
 enum-known-row : tie.Need-enum-known-row
 enum-known-row c = search needs

@@ -21,15 +21,15 @@ two-requires-3 c κs = search needs
 
 returns : tie.Need-returns
 returns c =
-    clock-off _ _ _ _ _ _ _ (c .before .before .before .two .ensures) (c .before .before .two2 .ensures) (c .before .two3 .ensures) (λ h m s k p. omega (arith, p .hour, k .hour, c .if1 .taken))
+    clock-off _ _ _ _ _ _ _ (c .before .before .before .two .ensures) (c .before .before .two2 .ensures) (c .before .two3 .ensures) (λ h m s k p. omega (arith, p .hour, k .0, c .if1 .taken))
 
 returns-2 : tie.Need-returns-2
 returns-2 c =
-    clock-off _ _ _ _ _ _ _ (c .before .before .before .before .two .ensures) (c .before .before .before .two2 .ensures) (c .before .before .two3 .ensures) (λ h m s k p. omega (arith, p .minute, k .minute, c .if2 .taken))
+    clock-off _ _ _ _ _ _ _ (c .before .before .before .before .two .ensures) (c .before .before .before .two2 .ensures) (c .before .before .two3 .ensures) (λ h m s k p. omega (arith, p .minute, k .1, c .if2 .taken))
 
 returns-3 : tie.Need-returns-3
 returns-3 c =
-    clock-off _ _ _ _ _ _ _ (c .before .before .before .before .before .two .ensures) (c .before .before .before .before .two2 .ensures) (c .before .before .before .two3 .ensures) (λ h m s k p. omega (arith, p .second, k .second, c .if3 .taken))
+    clock-off _ _ _ _ _ _ _ (c .before .before .before .before .before .two .ensures) (c .before .before .before .before .two2 .ensures) (c .before .before .before .two3 .ensures) (λ h m s k p. omega (arith, p .second, k .2, c .if3 .taken))
 
 mark-requires : tie.Need-mark-requires
 mark-requires c κs = search needs
@@ -83,7 +83,7 @@ returns-7 c =
     (subst (λ (b : Bool). Mark (drop 10 (start .args .t .now)) 84 b) (not-false _ (at-if4 .if4 .left)) (at-mark .mark .ensures))
     (subst (λ (b : Bool). Mark (drop 13 (start .args .t .now)) 58 b) (not-false _ (at-if5 .if5 .left)) (at-mark2 .mark2 .ensures))
     (subst (λ (b : Bool). Mark (drop 16 (start .args .t .now)) 58 b) (not-false _ (at-if6 .if6 .left)) (at-mark3 .mark3 .ensures))
-    (record { hour = omega (arith, at-if1 .if1 .left); minute = omega (arith, at-if2 .if2 .left); second = omega (arith, at-if3 .if3 .left) }) _ _ _
+    (omega (arith, at-if1 .if1 .left), omega (arith, at-if2 .if2 .left), omega (arith, at-if3 .if3 .left)) _ _ _
     (at-fraction .fraction .ensures .0) (c .before .zone .ensures) (c .if7 .taken)
 
 returns-8 : tie.Need-returns-8
@@ -106,7 +106,7 @@ returns-8 c =
     (subst (λ (b : Bool). Mark (drop 10 (start .args .t .now)) 84 b) (not-false _ (at-if4 .if4 .left)) (at-mark .mark .ensures))
     (subst (λ (b : Bool). Mark (drop 13 (start .args .t .now)) 58 b) (not-false _ (at-if5 .if5 .left)) (at-mark2 .mark2 .ensures))
     (subst (λ (b : Bool). Mark (drop 16 (start .args .t .now)) 58 b) (not-false _ (at-if6 .if6 .left)) (at-mark3 .mark3 .ensures))
-    (record { hour = omega (arith, at-if1 .if1 .left); minute = omega (arith, at-if2 .if2 .left); second = omega (arith, at-if3 .if3 .left) }) _ _ _
+    (omega (arith, at-if1 .if1 .left), omega (arith, at-if2 .if2 .left), omega (arith, at-if3 .if3 .left)) _ _ _
     (at-fraction .fraction .ensures .0) (c .before .zone .ensures) (omega (arith, c .if7 .left))
 
 pub clocked-spec : {M : Type 1} → statement M

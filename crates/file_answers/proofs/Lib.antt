@@ -1,0 +1,3 @@
+-- The laws of `file_answers`.
+-- what is answered, case by case
+pub mod Answering

@@ -1,0 +1,38 @@
+// The attributes of a tag below the root: an amount's currency, none for the rest.
+
+use list::lookup::cell;
+use list::table::AMT;
+use list::table::KIND;
+use text::part::same_part;
+use value_codes::ccy::is_ccy;
+use value_shared::blanks::part_of;
+use xml_tags::attribute::Attribute;
+ghost use mathlib.Core.Path.{_≡_};
+ghost use Rattle.text.specs.Bytes.{ascii};
+ghost use Rattle.file_walk.specs.mirror.Stride.{named, ownIn};
+
+const CCY: [u8; 3] = *b"Ccy";
+
+// Whether s from a to b is the name `Ccy`.
+fn names_ccy(s: &[u8], a: usize, b: usize) -> bool
+    ensures { λ r. ⌜ r ≡ named (ascii "Ccy") (now (s .entry)) a b ⌝ }
+{
+    let word = CCY;
+    same_part(&word, 0, 3, s, a, b)
+}
+
+// Whether a tag's attributes are exactly those of row r's type.
+pub fn own(rows: &[u16], s: &[u8], r: usize, count: usize, a: Attribute) -> bool
+    ensures { λ x. ⌜ x ≡ ownIn (now (rows .entry)) (now (s .entry)) r count a ⌝ }
+{
+    if cell(rows, r, KIND) != AMT {
+        return count == 0;
+    }
+    if count != 1 {
+        return false;
+    }
+    if !names_ccy(s, a.name, a.stop) {
+        return false;
+    }
+    is_ccy(part_of(s, a.value, a.quote))
+}

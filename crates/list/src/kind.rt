@@ -1,0 +1,13 @@
+// Groups and leaves, by the number of a row's kind.
+ghost use mathlib.Core.Path.{_≡_};
+ghost use Rattle.list.specs.Numbers.{isGroupIn};
+
+// Whether a kind is a group's or a choice's: what is no leaf's number is.
+pub fn is_group(kind: usize) -> bool
+    ensures { λ r. ⌜ r ≡ isGroupIn kind ⌝ }
+{
+    match kind {
+        2..=11 => false,
+        _ => true,
+    }
+}

@@ -1,0 +1,3 @@
+-- The definitions of `program_outcome`.
+-- what a program writes for an answer
+pub mod Outcome

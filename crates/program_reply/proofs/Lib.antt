@@ -1,0 +1,3 @@
+-- The laws of `program_reply`.
+-- a line, piece by piece
+pub mod Replies

@@ -1,0 +1,3 @@
+-- The definitions of `program_reply`.
+-- the lines that answer a feed
+pub mod Reply

@@ -1,0 +1,142 @@
+// AMT: one pass over the digits, a function for each stage, each the tail call of the one before.
+
+use text::class::is_digit;
+use value::judged::Judged;
+ghost use Prim.Native.Nat.{_^_, _≤_, _<_, _+_};
+ghost use mathlib.Core.Path.{_≡_};
+ghost use Rattle.value.specs.mirror.Reading.{found, answer, fracOf, wholeOf, signedOf};
+ghost use lib.ListN.{length, drop};
+ghost use Rattle.list.specs.Listing.{amt};
+ghost use Rattle.value.specs.Judged.{FormedAny};
+
+// 10^18, and the largest number of which ten times are below it
+const LIMIT: u64 = 1000000000000000000;
+
+fn wide(x: u8) -> u64
+    ensures { λ r. ⌜ r ≡ x ⌝ }
+{
+    x as u64
+}
+
+fn finish(neg: bool, c: u64, k: u8) -> Judged
+    requires { ⌜ (c < 10 ^ 18) × (k ≤ 5) ⌝ }
+    ensures { λ r. ⌜ r ≡ answer (found neg c k) ⌝ }
+{
+    if neg {
+        if c == 0 {
+            return Judged::Amount(c, k);
+        }
+        return Judged::Refused;
+    }
+    Judged::Amount(c, k)
+}
+
+// Ten to the power of z + 1, of which there are five.
+fn shift(z: usize) -> u64
+    requires { ⌜ z ≤ 4 ⌝ }
+    ensures { λ r. ⌜ (r ≡ 10 ^ (z + 1)) × ((10 ≤ r) × (r ≤ 100000)) ⌝ }
+{
+    match z {
+        0 => 10,
+        1 => 100,
+        2 => 1000,
+        3 => 10000,
+        _ => 100000,
+    }
+}
+
+// After the point: z zeros were read after c over 10^k. Zeros without end cost nothing but time.
+fn frac(t: &[u8], at: usize, neg: bool, whole: u64) -> Judged
+    requires { ⌜ (at ≤ length (now t)) × (whole < 10 ^ 18) ⌝ }
+    ensures { λ r. ⌜ r ≡ answer (fracOf neg whole 0 whole 0 (drop at (now (t .entry)))) ⌝ }
+{
+    let mut i = at;
+    let mut c = whole;
+    let mut k: usize = 0;
+    let mut z: usize = 0;
+    while i < t.len() {
+        let b = t[i];
+        if !is_digit(b) {
+            return Judged::Refused;
+        }
+        i += 1;
+        if b == 48 {
+            z += 1;
+        } else {
+            if 4 < k + z {
+                return Judged::Refused;
+            }
+            let p = shift(z);
+            if LIMIT / p <= c {
+                return Judged::Refused;
+            }
+            c = c * p + wide(b - 48);
+            k = k + z + 1;
+            z = 0;
+        }
+    }
+    finish(neg, c, k as u8)
+}
+
+// Digits before the point.
+fn whole(t: &[u8], at: usize, neg: bool) -> Judged
+    requires { ⌜ at ≤ length (now t) ⌝ }
+    ensures { λ r. ⌜ r ≡ answer (wholeOf neg 0 (drop at (now (t .entry)))) ⌝ }
+{
+    let mut i = at;
+    let mut c: u64 = 0;
+    while i < t.len() {
+        let b = t[i];
+        if !is_digit(b) {
+            if b == 46 {
+                return frac(t, i + 1, neg, c);
+            }
+            return Judged::Refused;
+        }
+        if LIMIT / 10 <= c {
+            return Judged::Refused;
+        }
+        c = c * 10 + wide(b - 48);
+        i += 1;
+    }
+    finish(neg, c, 0)
+}
+
+// After the sign: a digit, or a point with a digit after it.
+fn signed(t: &[u8], at: usize, neg: bool) -> Judged
+    requires { ⌜ at ≤ length (now t) ⌝ }
+    ensures { λ r. ⌜ r ≡ answer (signedOf neg (drop at (now (t .entry)))) ⌝ }
+{
+    if t.len() <= at {
+        return Judged::Refused;
+    }
+    let b = t[at];
+    if is_digit(b) {
+        return whole(t, at, neg);
+    }
+    if b != 46 {
+        return Judged::Refused;
+    }
+    let next = at + 1;
+    if t.len() <= next {
+        return Judged::Refused;
+    }
+    frac(t, next, neg, 0)
+}
+
+// The amount that a text without blanks around it writes.
+pub fn amount(t: &[u8]) -> Judged
+    ensures { λ r. ⌜ FormedAny amt (now (t .entry)) r ⌝ }
+{
+    if t.len() == 0 {
+        return Judged::Refused;
+    }
+    let b = t[0];
+    if b == 43 {
+        return signed(t, 1, false);
+    }
+    if b == 45 {
+        return signed(t, 1, true);
+    }
+    signed(t, 0, false)
+}

@@ -1,0 +1,34 @@
+// The bytes of AMT, whole or not at all, and how many there are.
+
+use text_bytes::number::copy;
+use text_bytes::number::put64;
+use value_codes::ccy::is_ccy;
+use value_shared::blanks::part_of;
+use value_shared::place::has_room;
+use value_shared::place::place;
+ghost use lib.Seq.{slice};
+ghost use Rattle.value.specs.Wrote.{AmountPut};
+
+// The currency is s from c up to d; nothing is written where it is none.
+pub fn write_amount(
+    s: &[u8],
+    c: usize,
+    d: usize,
+    out: &mut [u8],
+    at: usize,
+    coefficient: u64,
+    scale: u8,
+) -> usize
+    ensures { λ r. ⌜ AmountPut (slice c d (now (s .entry))) scale coefficient (now (out .entry)) at r (now (out .exit)) ⌝ }
+{
+    if !is_ccy(part_of(s, c, d)) {
+        return 0;
+    }
+    if !has_room(out.len(), at, 12) {
+        return 12;
+    }
+    copy(s, c, d, out, at);
+    place(out, at + 3, scale);
+    put64(out, at + 4, coefficient);
+    12
+}

@@ -1,0 +1,49 @@
+// IBAN: capitals, digits, letters or digits.
+
+use text::class::is_capital;
+use text::class::is_digit;
+ghost use mathlib.Core.Path.{_≡_};
+ghost use Rattle.value.specs.Code.{isLetterOrDigit, Iban};
+ghost use Rattle.value.specs.mirror.Layout.{ibanAt};
+ghost use Rattle.value.specs.Judged.{Exactly};
+
+fn is_letter_or_digit(b: u8) -> bool
+    ensures { λ r. ⌜ r ≡ isLetterOrDigit b ⌝ }
+{
+    match b {
+        48..=57 => true,
+        65..=90 => true,
+        97..=122 => true,
+        _ => false,
+    }
+}
+
+// Whether this byte may stand at place i of an account number.
+fn iban_byte(i: usize, b: u8) -> bool
+    ensures { λ r. ⌜ r ≡ ibanAt i b ⌝ }
+{
+    match i {
+        0..=1 => is_capital(b),
+        2..=3 => is_digit(b),
+        _ => is_letter_or_digit(b),
+    }
+}
+
+pub fn is_iban(t: &[u8]) -> bool
+    ensures { λ r. ⌜ Exactly r (Iban (now (t .entry))) ⌝ }
+{
+    if t.len() < 5 {
+        return false;
+    }
+    if 34 < t.len() {
+        return false;
+    }
+    let mut i = 0;
+    while i < t.len() {
+        if !iban_byte(i, t[i]) {
+            return false;
+        }
+        i += 1;
+    }
+    true
+}

@@ -1,0 +1,51 @@
+// DATE and DTM, from their bytes: a real day; a time of day, microseconds, the offset.
+
+use text_bytes::number::get16;
+use text_bytes::number::get32;
+use value_dates::day::month_days;
+use value_shared::place::byte;
+ghost use mathlib.Core.Path.{_≡_};
+ghost use Rattle.value.specs.Day.{isReal};
+ghost use Rattle.value.specs.mirror.Judges.{isDay, isMoment};
+
+fn is_real(y: u16, m: u8, d: u8) -> bool
+    ensures { λ r. ⌜ r ≡ isReal y m d ⌝ }
+{
+    if y == 0 {
+        return false;
+    }
+    if 9999 < y {
+        return false;
+    }
+    if d == 0 {
+        return false;
+    }
+    d <= month_days(y, m)
+}
+
+pub fn is_day(b: &[u8]) -> bool
+    ensures { λ r. ⌜ r ≡ isDay (now (b .entry)) ⌝ }
+{
+    is_real(get16(b, 0), byte(b, 2), byte(b, 3))
+}
+
+pub fn is_moment(b: &[u8]) -> bool
+    ensures { λ r. ⌜ r ≡ isMoment (now (b .entry)) ⌝ }
+{
+    if !is_day(b) {
+        return false;
+    }
+    if 23 < byte(b, 4) {
+        return false;
+    }
+    if 59 < byte(b, 5) {
+        return false;
+    }
+    if 59 < byte(b, 6) {
+        return false;
+    }
+    if 999999 < get32(b, 7) {
+        return false;
+    }
+    get16(b, 11) <= 1680
+}
