@@ -28,9 +28,6 @@ UNEDITED = {
     'it hands on what a lower crate promises, and the edits for that are there':
         'unit::check unit::size unit::read unit::reading unit::pick unit::picked unit::items unit::item_at unit::write '
         'unit::tidy xml_skim::is_close xml_skim::text_end',
-    'its promise is one line that its code repeats, and an edit of its crate is dear':
-        'list::is_group value_numbers::is_truth value_numbers::is_natural file_walk::fresh file_walk::refused file_walk::lost '
-        'image_order::is_leaf',
 }
 
 
