@@ -2,9 +2,10 @@
 """docs/BELIEVE.md: every definition that a promise of `unit`, `image_hold`, `kto`, `write` or `tidy` rests on, so that a reader must believe it.
 
 From the names in the contracts of these crates the definitions of specs/ are followed by name: a definition counts where a promise,
-or a definition that counts, names it. The page has the files in reading order, each after those that it uses, with the lines of what
-counts in it. `believe.py` writes the page; `believe.py --check` fails where the page is stale, where a mirror is among what counts,
-where one name has two meanings there or one meaning two names, and where an exception of the tables below is no longer needed.
+or a definition that counts, names it. The page has these contracts, and the files in reading order, each after those that it uses, with
+the lines of what counts in it. `believe.py` writes the page; `believe.py --check` fails where the page is stale, where a mirror is among
+what counts, where one name has two meanings there or in the three demands with what they name, or one meaning two names, and where an
+exception of the tables below is no longer needed.
 """
 import pathlib
 import re
@@ -17,13 +18,19 @@ PAGE = ROOT / 'docs' / 'BELIEVE.md'
 # The crates whose promises count: the entries with their C exports, the held reader, the programs that make images and files.
 PROMISING = ('unit', 'image_hold', 'kto', 'write', 'tidy')
 
+# The crate with the demands, which are read first: what they say of these promises has names of its own.
+DEMANDS = 'demands'
+
 # Reading order where the imports leave a choice: by floor.
 FLOORS = ('answer', 'text', 'list', 'xml', 'value', 'image', 'file', 'unit', 'program', 'kto', 'write', 'tidy')
 
 # Known exceptions, each with its reason: files of mirrors, and names with how many meanings each has. One that is not needed
 # is a fault.
 MIRRORS = {}
-NAMES = {}
+NAMES = {
+    'a kind has one name for its case among values (`IsValue`) and, in the demands, among texts by one date-time rule or the other (`Form`, `FormBy`)':
+        'account 2, count 2, currency 2, dated 2, either 2, listed 2, money 2, reference 2, timed 3, writing 2',
+}
 
 # A name is any run of characters but these (the kit's primer, 4.1); a comment begins at `--`, but not in a quoted text.
 TOKEN = re.compile(r'"(?:\\.|[^"\\])*"|[(){};,@«»]|\.|[^\s(){}.;,@"«»]+')
@@ -256,22 +263,39 @@ def clauses(text, start):
             yield text[m.end():start - 1]
 
 
-def promises(crate):
-    """The functions of a crate whose promises count, with what these name: the public ones; of a program, which has none, those that `main` may call."""
+def functions(crate):
+    """The functions of a crate whose promises count: the public ones; of a program, which has none, those that `main` may call. Each with what its file names, its head and its `ensures`."""
     pub = r'pub\(crate\)' if (CRATES / crate / 'src' / 'main.rt').exists() else 'pub'
     for path in sorted((CRATES / crate / 'src').glob('**/*.rt')):
         text = path.read_text()
         brought = re.findall(r'^ghost use (\S+?)\.\{([^}]*)\};', text, re.M)
         ghost = {n.strip('_'): (path, n) for path, names in brought for n in re.split(r',\s*', names.strip())}
         for m in re.finditer(rf'^ *{pub} (?:extern "C" )?fn (\w+)', text, re.M):
-            cited = dict.fromkeys(n for c in clauses(text, m.end()) for _, n in free(tokens(c)) if n in ghost)
-            yield f'{crate}::{m[1]}', [(n, found(*ghost[n])) for n in cited]
+            head = re.match(r'.*?(?=\s+ensures\b)', text[m.end():], re.S)[0]
+            yield f'{crate}::{m[1]}', ghost, re.sub(r'(?<=\()\s+|,?\s+(?=\))', '', head), list(clauses(text, m.end()))
+
+
+def promises(crate):
+    """These functions, with what their promises name."""
+    for name, ghost, _, said in functions(crate):
+        cited = dict.fromkeys(n for c in said for _, n in free(tokens(c)) if n in ghost)
+        yield name, [(n, found(*ghost[n])) for n in cited]
+
+
+def demanded():
+    """Every definition of the demands' own specs."""
+    files = sorted(p for p in (CRATES / DEMANDS / 'specs').glob('*.antt') if p.name != 'Lib.antt')
+    return [d for path in files for d in File.at(path).definitions.values()]
 
 
 def counted():
     """Every definition that counts; and what is named besides, as {path: names}."""
-    waiting = [what for crate in PROMISING for _, cited in promises(crate) for _, what in cited]
-    known, besides = {}, {}
+    return reached(what for crate in PROMISING for _, cited in promises(crate) for _, what in cited)
+
+
+def reached(start):
+    """Every definition that these rest on, themselves among them; and what is named besides, as {path: names}."""
+    waiting, known, besides = list(start), {}, {}
     while waiting:
         what = waiting.pop()
         if isinstance(what, tuple):
@@ -329,7 +353,7 @@ def faults(definitions, besides):
             yield f'{d.file.name}:{d.number}: {d.name} is a mirror'
     yield from (f'{file}: no exception is needed for it' for file in sorted(lent - seen))
     spared = dict(item.split() for names in NAMES.values() for item in names.split(', '))
-    double = doubles(definitions, besides)
+    double = doubles(*reached(definitions + demanded()))
     for name, where in double.items():
         if int(spared.get(name, 1)) != len(where):
             yield f'{name} has {len(where)} meanings: ' + '; '.join(file.strip('`') + line + what for file, line, what in where)
@@ -372,9 +396,12 @@ def page(definitions, besides):
         'What does not stand here, other definitions, laws and proofs, cannot change what these promises say. '
         '`.ci/believe.py` makes this page from the imports; the gate fails where it is stale, where a mirror of the code is among the '
         'files, and where one name has two meanings in them, but for the exceptions at the end.'), '']
-    out += ['## The promises', '', '| Function | Its contract names |', '|---|---|']
-    out += [f'| `{f}` | {ticked(n for n, _ in cited)} |' for crate in PROMISING for f, cited in promises(crate)]
-    out += ['', '## The files, in reading order', '']
+    out += ['## The promises', '']
+    out += [wrapped('Each function with what it ensures of its result: `now x` is what x refers to, `.entry` before the call and `.exit` after it.'), '']
+    out += ['```']
+    for name, _, head, said in (f for crate in PROMISING for f in functions(crate)):
+        out += [wrapped(name + head, '', '        ')] + [wrapped(c, '    ', '        ') for c in said]
+    out += ['```', '', '## The files, in reading order', '']
     out += [wrapped('Each comes after those that it uses. Lines: of the definitions that count, and of the whole file.'), '']
     out += ['| | File of `crates/` | Lines | Of | What it says |', '|---|---|---|---|---|']
     parts = []
@@ -391,7 +418,7 @@ def page(definitions, besides):
     if not MIRRORS and not NAMES:
         out.append('None.')
     out += [item(f'Mirrors: {ticked(names.split())}, since {reason}.') for reason, names in MIRRORS.items()]
-    double = doubles(definitions, besides)
+    double = doubles(*reached(definitions + demanded()))
     for reason, names in NAMES.items():
         out += [item(f'Names with more than one meaning; {reason}:')]
         for name in (x.split()[0] for x in names.split(', ')):

@@ -22,7 +22,7 @@ use Rattle.file_walk.specs.First.{First, refuse, firstOf, isEmpty, passed, brea
 use Rattle.file_walk.proofs.violation.Answers.{empty-yes}
 use Rattle.file_walk.proofs.violation.Opening.{overCount, opening-is}
 use Rattle.file.specs.Instance.{houseTypes}
-use Rattle.demands.specs.Causes.{AttrsOf, Stands, here, after, behind, within, inner, BadValue, BadAttributes}
+use Rattle.demands.specs.Causes.{AttrsOf, Occurs, here, afterCharacter, afterElement, deeper, inner, BadValue, BadAttributes}
 
 -- code 9's test, by the relation
 pub attrs-mean : (j : Judge) → Decides houseTypes j → (k : Kind) (ats : Attrs) → (attrsOk j k ats ≡ true) ↔ AttrsOf k ats
@@ -60,7 +60,7 @@ module _ (l : Listing) (wf : WellFormed l) where
   Cause p m a = (a .code ≡ 12 → BadValue l p m (a .row) (a .place)) × (a .code ≡ 9 → BadAttributes l p m (a .row) (a .place))
 
   -- from some parts to those that they stand among
-  lift : (p q : ℕ) (m k : Inside) → ((r o : ℕ) (ats : Attrs) (i : Inside) → Stands l r o ats i p m → Stands l r o ats i q k) → (f : Found) → Means (Cause p m) f → Means (Cause q k) f
+  lift : (p q : ℕ) (m k : Inside) → ((r o : ℕ) (ats : Attrs) (i : Inside) → Occurs l r o ats i p m → Occurs l r o ats i q k) → (f : Found) → Means (Cause p m) f → Means (Cause q k) f
   lift p q m k s =
       on (Cause p m) (Cause q k)
       (λ a h. (
@@ -114,7 +114,7 @@ module _ (l : Listing) (wf : WellFormed l) where
       let m = character o x k in
       first (Cause p m) (refuse (isGroup (kindOf l p) && not (isBlank x)) (table.textInGroup p o) ∷ inside j l p seen k ∷ []) (
         other j d p m (isGroup (kindOf l p) && not (isBlank x)) (table.textInGroup p o) refl,
-        (lift p p k m (λ r q ats i s. after p o x k s) (inside j l p seen k) (inside-means j d k p seen), tt),
+        (lift p p k m (λ r q ats i s. afterCharacter p o x k s) (inside j l p seen k) (inside-means j d k p seen), tt),
       )
   inside-means j d (element o n ats i k) p seen =
       let m = element o n ats i k in
@@ -123,10 +123,10 @@ module _ (l : Listing) (wf : WellFormed l) where
       (opening j l p seen r ats o ∷ inside j l r [] i ∷ closing j l (kindOf l r) r o ats (childRows l r i) (textOf i) ∷ inside j l p (r ∷ seen) k ∷ []) (
         opening-means j d p m p seen r ats o (λ w. record { attrs = ats; parts = i; stands = here p n k refl; wrong = w }),
         (
-          lift r p i m (λ q u as′ j s. within p o n ats i k s) (inside j l r [] i) (inside-means j d i r []),
+          lift r p i m (λ q u as′ j s. deeper p o n ats i k s) (inside j l r [] i) (inside-means j d i r []),
           (
             closing-means j d p m (kindOf l r) r o ats (childRows l r i) (textOf i) (kind-ok r) (λ f e z. record { attrs = ats; parts = i; stands = here p n k refl; type = f; kind = e; none = z }),
-            (lift p p k m (λ q u as′ j s. behind p o n ats i k s) (inside j l p (r ∷ seen) k) (inside-means j d k p (r ∷ seen)), tt),
+            (lift p p k m (λ q u as′ j s. afterElement p o n ats i k s) (inside j l p (r ∷ seen) k) (inside-means j d k p (r ∷ seen)), tt),
           ),
         ),
       )

@@ -11,7 +11,7 @@ use borrow.Author.Tests.{ne-eqb}
 use Rattle.answer.specs.declared.Answer.{Answer}
 use Rattle.answer.specs.Table.{accepted, limit, notUtf8, notHouseXml, noRoom, brokenImage}
 use Rattle.answer.specs.Table as table
-use Rattle.text_characters.specs.Utf8.{Utf8, LongestUtf8}
+use Rattle.text_characters.specs.Utf8.{Utf8}
 use Rattle.list.specs.Listing.{Leaf, Listing}
 use Rattle.list.specs.WellFormed.{WellFormed}
 use Rattle.list.specs.Content.{Content, items, Meets}
@@ -20,7 +20,7 @@ use Rattle.list.proofs.Within.{meets-within}
 use Rattle.list_house.specs.Lists.{asked, askedOf, stored}
 use Rattle.list_house.proofs.Lists.{asked-well, kept-well, bytes-tell}
 use Rattle.list_house.proofs.Retired.{stored-narrowed}
-use Rattle.xml.specs.House.{HouseXml, Longest}
+use Rattle.xml.specs.House.{HouseXml, Viable}
 use Rattle.xml.specs.Message.{Inside, messageOf, rootAt}
 use Rattle.xml.proofs.Coded.{house-utf8}
 use Rattle.value.specs.Value.{Value, IsValue}
@@ -51,14 +51,16 @@ use Rattle.file.proofs.One.{message-one, of-long, of-bytes, of-markup, of-viola
 use Rattle.file.proofs.Chosen.{checks-over, filed-answers}
 use Rattle.file.proofs.House.{spelling, houseJudge, deciding, image-no-longer, one-content, checks-one, finds-one, taken, taken-filed, accepted-image, written-image, images-tell}
 use Rattle.file.proofs.Some.{checks-some}
-use Rattle.file_letter.specs.Letter.{treeOf, letterOf}
+use Rattle.file_letter.proofs.Trees.{treeOf, letter-is}
+use Rattle.file_letter.specs.Letter.{letterOf}
 use Rattle.file_letter.specs.Stale.{NoneOf, Withdrawn}
 use Rattle.file_letter.proofs.Meeting.{meets-on, said-is, has-said}
 use Rattle.file_letter.proofs.Present.{meets-present, named-message}
 use Rattle.file_letter.proofs.Has.{letter-has}
 use Rattle.file_letter.proofs.Good.{letter-good}
-use Rattle.demands.specs.Demands.{Kinded, HouseFile, houseImage, Within, FileRefused, RunRefused, PickRefused, Demand1, WalkedBy, Told, Meeting, Together, Stored, Begins, Message, Demand2, Written, Imaged, Laid, Divides, Tells, Demand3}
+use Rattle.demands.specs.Demands.{Kinded, HouseFile, houseImage, CodeFrom, FileRefused, RunRefused, PickRefused, Demand1, WalkedBy, Told, Meeting, Together, Stored, BeginsStored, Message, Demand2, CheckWrote, Imaged, Laid, Divides, Tells, Demand3}
 use Rattle.demands.proofs.Causes.{causes}
+use Rattle.text.specs.Lists.{LongestBeginning}
 
 code : {a x : Answer} → a ≡ x → a .code ≡ x .code
 code e = ap (λ (y : Answer). y .code) e
@@ -147,12 +149,12 @@ module _ (s d : List ℕ) where
   Why a =
       Choice (eqb (a .code) 0) ((c : Kinded) × HouseFile s c × (a .place ≡ length (houseImage c)) × (a .place ≤ length d))
       (Choice (eqb (a .code) 1) (limit < length s)
-      (Choice (eqb (a .code) 2) ((length s ≤ limit) × (Utf8 s → ⊥) × LongestUtf8 s (a .place))
-      (Choice (eqb (a .code) 3) ((length s ≤ limit) × Utf8 s × (HouseXml s → ⊥) × Longest s (a .place))
+      (Choice (eqb (a .code) 2) ((length s ≤ limit) × (Utf8 s → ⊥) × LongestBeginning Utf8 s (a .place))
+      (Choice (eqb (a .code) 3) ((length s ≤ limit) × Utf8 s × (HouseXml s → ⊥) × LongestBeginning Viable s (a .place))
       (Choice (eqb (a .code) 14) ((c : Kinded) × HouseFile s c × (a .place ≡ length (houseImage c)) × (length d < a .place)) (Walked a)))))
 
   -- of a violation it is the walk
-  on-walk : (a : Answer) → Within 4 13 a → Why a ↔ Walked a
+  on-walk : (a : Answer) → CodeFrom 4 13 a → Why a ↔ Walked a
   on-walk a h = rw (
     ne-eqb (a .code) 0 (λ z. omega (arith, h)),
     ne-eqb (a .code) 1 (λ z. omega (arith, h)),
@@ -184,7 +186,7 @@ module _ (s d : List ℕ) where
           let t = taken s d a d′ p (code z) in
           t .buffer ∙ ap₂ (λ (x : Kinded) (k : ℕ). houseImage x ++ drop k d) (pair (one-content s (p .list) (c .0) (t .content) (c .1) (taken-filed s d a d′ p t) f)) (sym (place (t .is)) ∙ place z)
 
-      cause : Within 4 13 a → Walked a
+      cause : CodeFrom 4 13 a → Walked a
       cause h = on-walk a h .0 why
 
       well : (l : Listing) → WalkedBy s l → WellFormed l
@@ -214,7 +216,7 @@ module _ (s d : List ℕ) where
 
 -- the reader accepts what begins with an image
 module _ (run : List ℕ) (n : ℕ) where
-  begins : HouseAccepts run n → Begins (Meeting IsValue) run n
+  begins : HouseAccepts run n → BeginsStored (Meeting IsValue) run n
   begins w =
       let o = house-begins run n w in
       record {
@@ -226,7 +228,7 @@ module _ (run : List ℕ) (n : ℕ) where
         long = o .2;
       }
 
-  begun : Begins (Meeting IsValue) run n → HouseAccepts run n
+  begun : BeginsStored (Meeting IsValue) run n → HouseAccepts run n
   begun b =
       let c = b .content in
       let k = body values (c .0) (c .1) in
@@ -235,14 +237,14 @@ module _ (run : List ℕ) (n : ℕ) where
         among = b .held .among;
         head = b .held .head;
         front = b .held .front;
-        behind = k ++ b .rest;
+        after = k ++ b .rest;
         at = b .at ∙ ap (λ (x : List ℕ). x ++ b .rest) (b .held .is) ∙ append-assoc (b .held .head) k (b .rest);
         size = length k;
         holds = record { content = c .1; meets = b .held .meets; rest = b .rest; at = refl; long = refl };
         long = b .long ∙ ap length (b .held .is) ∙ length-append (b .held .head) k;
       }
 
-reads-image : (run : List ℕ) (a : Answer) → HouseReads run a → (n : ℕ) → (a ≡ accepted n) ↔ ((length run ≤ limit) × Begins (Meeting IsValue) run n)
+reads-image : (run : List ℕ) (a : Answer) → HouseReads run a → (n : ℕ) → (a ≡ accepted n) ↔ ((length run ≤ limit) × BeginsStored (Meeting IsValue) run n)
 reads-image run a r n = (
   (λ z. let w = house-reads-exactly run a r n .0 (code z, place z) in (w .0, begins run n (w .1))),
   (λ g. house-reads-one run a (accepted n) r (wholeImage (g .0) n (begun run n (g .1)) refl)),
@@ -263,7 +265,7 @@ together-is m i c = (
 )
 
 -- by other rules that a content meets alike
-begins-on : (P Q : Kinded → Type 0) → ((c : Kinded) → Among (c .0) stored → P c → Q c) → (run : List ℕ) (n : ℕ) → Begins P run n → Begins Q run n
+begins-on : (P Q : Kinded → Type 0) → ((c : Kinded) → Among (c .0) stored → P c → Q c) → (run : List ℕ) (n : ℕ) → BeginsStored P run n → BeginsStored Q run n
 begins-on P Q f run n b = record {
   image = b .image;
   content = b .content;
@@ -276,7 +278,6 @@ begins-on P Q f run n b = record {
 -- every content that meets the rules, by the present one of date-times, has a message, the one that is written for it; and what has one meets them
 module _ (l : Listing) (wf : WellFormed l) (c : Content Value) where
   message : Meets (Spelled present) l c → NoneOf (Withdrawn l) (items c) → Message (letterOf l c) (l, c)
-  unfolding letterOf
   message s q =
       let m = said-is l c s in
       let h = letter-has l wf c s in
@@ -284,8 +285,8 @@ module _ (l : Listing) (wf : WellFormed l) (c : Content Value) where
       let n = messageOf (treeOf l c) in
       let f : First houseTypes l n (firstViolation houseJudge l n) = record { judge = houseJudge; decides = deciding; is = refl } in
       record {
-        utf8 = house-utf8 (record { tree = treeOf l c; good = g; is = refl });
-        xml = record { tree = treeOf l c; good = g; is = refl };
+        utf8 = house-utf8 (record { tree = treeOf l c; good = g; is = letter-is l c });
+        xml = record { tree = treeOf l c; good = g; is = letter-is l c };
         good = subst (First houseTypes l n) (walk.accepted houseTypes spelling l wf n c m h (firstViolation houseJudge l n) f) f;
         has = h;
       }
@@ -384,10 +385,10 @@ imaged-cuts = record {
   cut = λ x y c e p q. stored-cuts .cut x y c e (imaged-stored x c p) (imaged-stored y e q);
 }
 
-written : (x : List ℕ) (c : Kinded) → Written x c → x ≡ houseImage c
+written : (x : List ℕ) (c : Kinded) → CheckWrote x c → x ≡ houseImage c
 written x c w = w .is ∙ written-image (w .file) (w .lent) (w .answer) (w .left) (w .checks) (w .good) (c .0) (c .1) (w .content)
 
-written-cuts : Cuts Written
+written-cuts : Cuts CheckWrote
 written-cuts = record {
   long = λ x c p. image-some x c (written x c p);
   cut = λ x y c e p q u v z.
@@ -400,7 +401,7 @@ written-cuts = record {
 
 pub demand3 : Demand3
 demand3 = record {
-  files = tells Written written-cuts written;
+  files = tells CheckWrote written-cuts written;
   contents = tells Imaged imaged-cuts (λ x c i. i .is);
   kinds = λ x y l m c p q z. ap (λ (k : Kinded). k .0) (imaged-cuts .cut x y (l, c) (m, c) p q [] [] (ap (λ (i : List ℕ). i ++ []) z) .1);
   versions = parted (Stored (Meeting IsValue)) stored-cuts;

@@ -16,11 +16,11 @@ AttrsOf choice ats = ats ≡ []
 AttrsOf (leaf k) ats = LeafAttrs houseTypes k ats
 
 -- among the parts of an element of row p, at any depth, stands an element of row r, with its `<` at o, these attributes and these parts
-pub data Stands (l : Listing) (r o : ℕ) (ats : Attrs) (i : Inside) : ℕ → Inside → Type 0 where
-  here : (p : ℕ) (n : List ℕ) (k : Inside) → child l p n ≡ r → Stands l r o ats i p (element o n ats i k)
-  after : (p q x : ℕ) (k : Inside) → Stands l r o ats i p k → Stands l r o ats i p (character q x k)
-  behind : (p q : ℕ) (n : List ℕ) (as′ : Attrs) (j k : Inside) → Stands l r o ats i p k → Stands l r o ats i p (element q n as′ j k)
-  within : (p q : ℕ) (n : List ℕ) (as′ : Attrs) (j k : Inside) → Stands l r o ats i (child l p n) j → Stands l r o ats i p (element q n as′ j k)
+pub data Occurs (l : Listing) (r o : ℕ) (ats : Attrs) (i : Inside) : ℕ → Inside → Type 0 where
+  here : (p : ℕ) (n : List ℕ) (k : Inside) → child l p n ≡ r → Occurs l r o ats i p (element o n ats i k)
+  afterCharacter : (p q x : ℕ) (k : Inside) → Occurs l r o ats i p k → Occurs l r o ats i p (character q x k)
+  afterElement : (p q : ℕ) (n : List ℕ) (as′ : Attrs) (j k : Inside) → Occurs l r o ats i p k → Occurs l r o ats i p (element q n as′ j k)
+  deeper : (p q : ℕ) (n : List ℕ) (as′ : Attrs) (j k : Inside) → Occurs l r o ats i (child l p n) j → Occurs l r o ats i p (element q n as′ j k)
 
 -- what stands in the root
 abbrev pub inner : Inside → Inside
@@ -32,7 +32,7 @@ inner (element o n ats i k) = i
 pub record BadValue (l : Listing) (p : ℕ) (m : Inside) (r o : ℕ) : Type 0 where
   pub attrs : Attrs
   pub parts : Inside
-  pub stands : Stands l r o attrs parts p m
+  pub stands : Occurs l r o attrs parts p m
   pub type : Leaf
   pub kind : rowAt l r .kind ≡ leaf type
   pub none : (v : Value) → Spelt type (currencyGiven attrs) (textOf parts) v → ⊥
@@ -41,5 +41,5 @@ pub record BadValue (l : Listing) (p : ℕ) (m : Inside) (r o : ℕ) : Type 0 wh
 pub record BadAttributes (l : Listing) (p : ℕ) (m : Inside) (r o : ℕ) : Type 0 where
   pub attrs : Attrs
   pub parts : Inside
-  pub stands : Stands l r o attrs parts p m
+  pub stands : Occurs l r o attrs parts p m
   pub wrong : AttrsOf (rowAt l r .kind) attrs → ⊥

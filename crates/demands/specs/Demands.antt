@@ -24,12 +24,12 @@ use lib.ListN.{length, take, drop}
 use Rattle.answer.specs.declared.Answer.{Answer}
 use Rattle.answer.specs.Table as table
 use Rattle.answer.specs.Table.{accepted, limit, tooLong, notUtf8, notHouseXml, noRoom, noHeader, wrongVersion, brokenImage, noSuchLeaf}
-use Rattle.text_characters.specs.Utf8.{Utf8, LongestUtf8}
+use Rattle.text_characters.specs.Utf8.{Utf8}
 use Rattle.list.specs.Listing.{Leaf, Listing}
 use Rattle.list.specs.Content.{Content, items, Meets}
 use Rattle.list.specs.Within.{Among}
 use Rattle.list_house.specs.Lists.{asked, askedOf, stored}
-use Rattle.xml.specs.House.{HouseXml, Longest}
+use Rattle.xml.specs.House.{HouseXml, Viable}
 use Rattle.xml.specs.Message.{Inside, messageOf}
 use Rattle.value.specs.Value.{Value, IsValue}
 use Rattle.value.specs.Former.{present}
@@ -50,6 +50,7 @@ use Rattle.file.specs.File.{Whole, messageIn, imageOf}
 use Rattle.file.specs.Checks.{Chosen, Checks, Filed, Finds}
 use Rattle.file_letter.specs.Stale.{NoneOf, Withdrawn}
 use Rattle.demands.specs.Causes.{inner, BadValue, BadAttributes}
+use Rattle.text.specs.Lists.{LongestBeginning}
 
 -- "the kind being part of the content": a list, and a content of it
 abbrev pub Kinded : Type 0
@@ -73,12 +74,12 @@ pub record Only {A : Type 0} (Fits : A → Type 0) : Type 0 where
   pub one : (x : A) → Fits x → x ≡ result
 
 -- a code from m to n
-abbrev pub Within : ℕ → ℕ → Answer → Type 0
-Within m n a = (m ≤ a .code) × (a .code ≤ n)
+abbrev pub CodeFrom : ℕ → ℕ → Answer → Type 0
+CodeFrom m n a = (m ≤ a .code) × (a .code ≤ n)
 
 -- the numbered refusals of a file, of a run, of a pick
 abbrev pub FileRefused : Answer → Type 0
-FileRefused a = (a ≡ tooLong) ⊎ ((a ≡ notUtf8 (a .place)) ⊎ ((a ≡ notHouseXml (a .place)) ⊎ (Within 4 13 a ⊎ (a ≡ noRoom (a .place)))))
+FileRefused a = (a ≡ tooLong) ⊎ ((a ≡ notUtf8 (a .place)) ⊎ ((a ≡ notHouseXml (a .place)) ⊎ (CodeFrom 4 13 a ⊎ (a ≡ noRoom (a .place)))))
 
 abbrev pub RunRefused : Answer → Type 0
 RunRefused a = (a ≡ tooLong) ⊎ ((a ≡ noHeader) ⊎ ((a ≡ wrongVersion) ⊎ (a ≡ brokenImage (a .place))))
@@ -117,9 +118,9 @@ pub record Told (s d : List ℕ) (a : Answer) (d′ : List ℕ) : Type 0 where
   pub gives : (n : ℕ) → a ≡ accepted n → (c : Kinded) → HouseFile s c → d′ ≡ houseImage c ++ drop n d
   -- "otherwise the answer is the first violation in order": the size, UTF-8, house XML, the walk over the message
   pub long : (a ≡ tooLong) ↔ (limit < length s)
-  pub bytes : (n : ℕ) → (a ≡ notUtf8 n) ↔ ((length s ≤ limit) × (Utf8 s → ⊥) × LongestUtf8 s n)
-  pub markup : (n : ℕ) → (a ≡ notHouseXml n) ↔ ((length s ≤ limit) × Utf8 s × (HouseXml s → ⊥) × Longest s n)
-  pub walked : (b : Answer) → Within 4 13 b → (a ≡ b) ↔ ((l : Listing) × (w : WalkedBy s l) × First houseTypes l (messageIn (w .whole)) (Violation b))
+  pub bytes : (n : ℕ) → (a ≡ notUtf8 n) ↔ ((length s ≤ limit) × (Utf8 s → ⊥) × LongestBeginning Utf8 s n)
+  pub markup : (n : ℕ) → (a ≡ notHouseXml n) ↔ ((length s ≤ limit) × Utf8 s × (HouseXml s → ⊥) × LongestBeginning Viable s n)
+  pub walked : (b : Answer) → CodeFrom 4 13 b → (a ≡ b) ↔ ((l : Listing) × (w : WalkedBy s l) × First houseTypes l (messageIn (w .whole)) (Violation b))
   -- "14 last"
   pub room : (n : ℕ) → (a ≡ noRoom n) ↔ ((c : Kinded) × HouseFile s c × (n ≡ length (houseImage c)) × (length d < n))
   -- where it says 12, or 9: an element of that row and place, whose characters spell no value, whose attributes are not the type's
@@ -144,7 +145,7 @@ pub record Stored (Rules : Kinded → Type 0) (x : List ℕ) (c : Kinded) : Type
   pub is : x ≡ head ++ body values (c .0) (c .1)
 
 -- the run begins with such an image, n bytes long
-pub record Begins (Rules : Kinded → Type 0) (run : List ℕ) (n : ℕ) : Type 0 where
+pub record BeginsStored (Rules : Kinded → Type 0) (run : List ℕ) (n : ℕ) : Type 0 where
   pub image : List ℕ
   pub content : Kinded
   pub held : Stored Rules image content
@@ -165,7 +166,7 @@ pub record Demand2 : Type 0 where
   pub judges : (j : Judge) → Decides houseTypes j → (l : Listing) (m : Inside) (f : Found) → First houseTypes l m f ↔ (firstViolation j l m ≡ f)
   pub judge : (j : Judge) × Decides houseTypes j
   -- "within the size limit the image reader accepts exactly the runs that begin with the image of a content that meets the same rules": with its length
-  pub reads : (run : List ℕ) (a : Answer) → HouseReads run a → (n : ℕ) → (a ≡ accepted n) ↔ ((length run ≤ limit) × Begins (Meeting IsValue) run n)
+  pub reads : (run : List ℕ) (a : Answer) → HouseReads run a → (n : ℕ) → (a ≡ accepted n) ↔ ((length run ≤ limit) × BeginsStored (Meeting IsValue) run n)
   -- "the same", which "reads over the former and the new date-time rule together" (document 02, section 3): each of the ten kinds has exactly the values that
   -- some text spells by the one or the other, and so a content meets a list with the one as with the other
   pub values : (k : Leaf) (v : Value) → IsValue k v ↔ SpelledByEither k v
@@ -173,7 +174,7 @@ pub record Demand2 : Type 0 where
   -- and "over former and present rules together" (section 9)
   pub together : (m : Listing) → Among m stored → (c : Content Value) → Meets IsValue m c ↔ Together (m, c)
   -- so the reader accepts exactly the images of contents that meet them
-  pub spelt : (run : List ℕ) (a : Answer) → HouseReads run a → (n : ℕ) → (a ≡ accepted n) ↔ ((length run ≤ limit) × Begins Together run n)
+  pub spelt : (run : List ℕ) (a : Answer) → HouseReads run a → (n : ℕ) → (a ≡ accepted n) ↔ ((length run ≤ limit) × BeginsStored Together run n)
   -- of these, the contents without a row that no file has any more meet the present list of their kind
   pub narrower : (m : Listing) → Among m stored → (c : Content Value) → Meets IsValue m c → NoneOf (Withdrawn (askedOf (m .byte))) (items c) → Meets IsValue (askedOf (m .byte)) c
   -- and those whose date-times the present rule spells are what some message has
@@ -182,7 +183,7 @@ pub record Demand2 : Type 0 where
 -- ---- demand 3: "reads over version 2 files of either kind, the kind being part of the content"
 
 -- x stands for the content c: as what check wrote for an accepted file of that content, within the buffer
-pub record Written (x : List ℕ) (c : Kinded) : Type 0 where
+pub record CheckWrote (x : List ℕ) (c : Kinded) : Type 0 where
   pub file : List ℕ
   pub lent : List ℕ
   pub answer : Answer
@@ -219,7 +220,7 @@ module _ (For : List ℕ → Kinded → Type 0) where
 
 pub record Demand3 : Type 0 where
   -- for files and for contents
-  pub files : Tells Written
+  pub files : Tells CheckWrote
   pub contents : Tells Imaged
   -- equal contents of two kinds have two images
   pub kinds : (x y : List ℕ) (l m : Listing) (c : Content Value) → Imaged x (l, c) → Imaged y (m, c) → x ≡ y → l ≡ m

@@ -60,7 +60,7 @@ module _ (k : Kinds) (l : Listing) where
         among = w .among;
         head = header (w .list);
         front = current refl;
-        behind = bodyOf ++ u;
+        after = bodyOf ++ u;
         at = ap (λ (x : List ℕ). x ++ u) (written k l s d a d′ t ∙ same-image) ∙ append-assoc (header (w .list)) bodyOf u;
         size = length bodyOf;
         holds = record { content = t .content; meets = meets-within l (w .list) (w .within) (k .types .Is) (t .content) (t .file .meets); rest = u; at = refl; long = refl };

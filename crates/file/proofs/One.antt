@@ -7,15 +7,14 @@ use native.Mathlib.Omega.{arith}
 use lib.ListN.{length, drop}
 use Rattle.answer.specs.declared.Answer.{Answer}
 use Rattle.answer.specs.Table.{accepted, limit, tooLong, notUtf8, notHouseXml, noRoom}
-use Rattle.text_characters.specs.Utf8.{Utf8, LongestUtf8}
-use Rattle.text_characters.proofs.Longest.{longest-utf8-one}
+use Rattle.text_characters.specs.Utf8.{Utf8}
+use Rattle.text.proofs.Parts.{longest-one}
 use Rattle.list.specs.Listing.{Listing}
 use Rattle.list.specs.WellFormed.{WellFormed}
 use Rattle.list.specs.Content.{Content}
-use Rattle.xml.specs.House.{HouseXml, Longest}
+use Rattle.xml.specs.House.{HouseXml, Viable}
 use Rattle.xml.specs.Message.{Inside, messageOf}
 use Rattle.xml.proofs.Unique.{tree-one}
-use Rattle.xml.proofs.Theorem.{longest-one}
 use Rattle.file_walk.specs.declared.found.Found.{Found}
 use Rattle.file_walk.specs.declared.found.Found.the-variants.{Fine, Violation}
 use Rattle.file_walk.specs.Types.{Judge, Decides, Spelling}
@@ -26,6 +25,7 @@ use Rattle.file_walk.proofs.violation.Judges.{first-one}
 use Rattle.file.specs.Instance.{Kinds}
 use Rattle.file.specs.File.{Whole, messageIn, File, imageOf}
 use Rattle.file.specs.Checks.{Answers, long, badBytes, markup, violation, room, imaged}
+use Rattle.text.specs.Lists.{LongestBeginning}
 
 -- a text has one tree, so a file has one message
 pub message-one : (s : List ℕ) (a b : Whole s) → messageIn a ≡ messageIn b
@@ -75,19 +75,19 @@ module _ (k : Kinds) (y : Spelling (k .types)) (l : Listing) (wf : WellFormed l)
     of-long h (imaged c w i e f) = absurd (omega (arith, w .whole .size))
 
     -- 2
-    pub of-bytes : length s ≤ limit → (Utf8 s → ⊥) → (n : ℕ) → LongestUtf8 s n → Answers k l s d a d′ → Is (notUtf8 n) d a d′
+    pub of-bytes : length s ≤ limit → (Utf8 s → ⊥) → (n : ℕ) → LongestBeginning Utf8 s n → Answers k l s d a d′ → Is (notUtf8 n) d a d′
     of-bytes h u n p (long i e f) = absurd (omega arith)
-    of-bytes h u n p (badBytes i v m q e f) = record { answer = e ∙ ap notUtf8 (longest-utf8-one s m n q p); buffer = f }
+    of-bytes h u n p (badBytes i v m q e f) = record { answer = e ∙ ap notUtf8 (longest-one Utf8 s m n q p); buffer = f }
     of-bytes h u n p (markup i v x m q e f) = absurd (u v)
     of-bytes h u n p (violation w q f) = absurd (u (w .utf8))
     of-bytes h u n p (room c w i e f) = absurd (u (w .whole .utf8))
     of-bytes h u n p (imaged c w i e f) = absurd (u (w .whole .utf8))
 
     -- 3
-    pub of-markup : length s ≤ limit → Utf8 s → (HouseXml s → ⊥) → (n : ℕ) → Longest s n → Answers k l s d a d′ → Is (notHouseXml n) d a d′
+    pub of-markup : length s ≤ limit → Utf8 s → (HouseXml s → ⊥) → (n : ℕ) → LongestBeginning Viable s n → Answers k l s d a d′ → Is (notHouseXml n) d a d′
     of-markup h u x n p (long i e f) = absurd (omega arith)
     of-markup h u x n p (badBytes i v m q e f) = absurd (v u)
-    of-markup h u x n p (markup i v z m q e f) = record { answer = e ∙ ap notHouseXml (longest-one s m n q p); buffer = f }
+    of-markup h u x n p (markup i v z m q e f) = record { answer = e ∙ ap notHouseXml (longest-one Viable s m n q p); buffer = f }
     of-markup h u x n p (violation w q f) = absurd (x (w .xml))
     of-markup h u x n p (room c w i e f) = absurd (x (w .whole .xml))
     of-markup h u x n p (imaged c w i e f) = absurd (x (w .whole .xml))

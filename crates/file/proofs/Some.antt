@@ -9,7 +9,7 @@ use native.Mathlib.Decide.{decLt}
 use lib.ListN.{length, drop, length-drop}
 use Rattle.answer.specs.declared.Answer.{Answer}
 use Rattle.answer.specs.Table.{accepted, limit, tooLong, notUtf8, notHouseXml, noRoom}
-use Rattle.text_characters.specs.Utf8.{LongestUtf8}
+use Rattle.text_characters.specs.Utf8.{Utf8}
 use Rattle.text_characters.specs.mirror.Decoding.{decoded}
 use Rattle.text_characters.proofs.Longest.{stop, more, whole-utf8}
 use Rattle.list.specs.Listing.{Listing}
@@ -36,13 +36,14 @@ use Rattle.file.proofs.One.{message-one, answers-one}
 use Rattle.file.proofs.Chosen.{listFor, list-among, list-chosen}
 use Rattle.file_walk.proofs.bytes.Root.{one-element}
 use Rattle.file.proofs.Early.{says-bytes, all-utf8}
+use Rattle.text.specs.Lists.{LongestBeginning}
 
 -- ---- a longest beginning that is UTF-8
 
-none : LongestUtf8 [] 0
+none : LongestBeginning Utf8 [] 0
 none = record { within = zero-le; begins = record { chars = []; scalars = tt; is = refl }; most = λ k h u. h }
 
-some-utf8 : (fuel : ℕ) (s : List ℕ) → length s ≤ fuel → (n : ℕ) × LongestUtf8 s n
+some-utf8 : (fuel : ℕ) (s : List ℕ) → length s ≤ fuel → (n : ℕ) × LongestBeginning Utf8 s n
 some-utf8 zero [] h = (0, none)
 some-utf8 zero (x ∷ s) h = absurd (omega arith)
 some-utf8 (suc f) s h = elim (decLt 0 (decoded s .len)) [
@@ -129,7 +130,7 @@ module _ (k : Kinds) (y : Spelling (k .types)) (j : Judge) (x : Decides (k .type
       let g = accept (k .types) y l wf (messageIn w) (one-element (w .xml .tree .root) (rootAt (w .xml .tree)) (w .xml .good .one)) e in
       of-file (g .0) (record { whole = w; has = g .2; meets = g .1 })
 
-  of-text : length s ≤ limit → (n : ℕ) → LongestUtf8 s n → Answered
+  of-text : length s ≤ limit → (n : ℕ) → LongestBeginning Utf8 s n → Answered
   of-text h n u = elim (decLt n (length s)) [
     | yes i ↦ leaves (notUtf8 n) (says-bytes k l s d (notUtf8 n) h n u i refl)
     | no i ↦ elim (house-or-not s) [

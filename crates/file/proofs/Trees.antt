@@ -9,13 +9,15 @@ use lib.Dec.{eqb, leb, ltb}
 use borrow.Author.Tests.{eq-eqb, leb-true, ltb-true}
 use Rattle.text.specs.Bytes.{isBlank, isNameStart, isNamePart, inRange}
 use Rattle.text.specs.Lists.{Each}
+use Rattle.text_characters.proofs.Resolving.{low, xml-char-yes}
 use Rattle.text_characters.specs.Utf8.{Scalar, encode, encodeAll, Utf8}
-use Rattle.text_characters.specs.Pieces.{less, ampersand, low, Piece, char, entity, GoodPiece}
+use Rattle.text_characters.specs.Pieces.{less, ampersand, Piece, char, entity, GoodPiece}
 use Rattle.text.proofs.Classes.{and-is}
 use Rattle.list.specs.Test.{every, begins}
 use Rattle.list.proofs.sound.Tests.{clash}
 use Rattle.list.proofs.sound.Sound.{every-is, begins-is}
-use Rattle.xml.specs.House.{Quote, mark, GoodValue, IsAttrName, Attr, GoodAttr, GoodAttrs, Tag, GoodTag, Markup, noMore, piece, emptyTag, full, cut, GoodMarkup, OneElement, Tree, GoodTree}
+use Rattle.xml.proofs.Cuts.{isCut, no-cut}
+use Rattle.xml.specs.House.{Quote, mark, GoodValue, IsAttrName, Attr, GoodAttr, GoodAttrs, Tag, GoodTag, Markup, noMore, piece, emptyTag, full, GoodMarkup, OneElement, Tree, GoodTree}
 
 pub not-is : (b : Bool) → not b ≡ true → b ≡ false
 not-is true e = absurd (false≢true e)
@@ -35,7 +37,7 @@ piece-good (char c) e =
     let a = and-is (inRange 32 55295 c) (not (eqb c less) && not (eqb c ampersand)) e in
     let r = and-is (leb 32 c) (leb c 55295) (a .0) in
     let n = and-is (not (eqb c less)) (not (eqb c ampersand)) (a .1) in
-    (low (leb-true 32 c (r .0)) (leb-true c 55295 (r .1)), other c less (n .0), other c ampersand (n .1))
+    (xml-char-yes c (low (leb-true 32 c (r .0)) (leb-true c 55295 (r .1))), other c less (n .0), other c ampersand (n .1))
 piece-good (entity x) e = tt
 
 -- ---- attributes
@@ -53,7 +55,7 @@ value-good q [] e = tt
 value-good q (char c ∷ ps) e =
     let a = and-is (pieceTest (char c)) (not (eqb c (mark q)) && valueTest q ps) e in
     let b = and-is (not (eqb c (mark q))) (valueTest q ps) (a .1) in
-    (piece-good (char c) (a .0), (λ z. other c (mark q) (b .0) (char-is c (mark q) z)), value-good q ps (b .1))
+    ((piece-good (char c) (a .0), (λ z. other c (mark q) (b .0) (char-is c (mark q) z))), value-good q ps (b .1))
 value-good q (entity x ∷ ps) e = absurd (false≢true e)
 
 abbrev pub attrTest : Attr → Bool
@@ -97,7 +99,7 @@ tag-good t e =
 
 abbrev pub contentTest : ℕ → Markup → Bool
 contentTest d noMore = true
-contentTest d (piece p k) = pieceTest p && (not (cut (piece p k)) && contentTest d k)
+contentTest d (piece p k) = pieceTest p && (not (isCut (piece p k)) && contentTest d k)
 contentTest zero (emptyTag t k) = false
 contentTest (suc d) (emptyTag t k) = tagTest t && contentTest (suc d) k
 contentTest zero (full t i g k) = false
@@ -106,9 +108,9 @@ contentTest (suc d) (full t i g k) = tagTest t && (contentTest d i && (every isB
 content-good : (i : Markup) (d : ℕ) → contentTest d i ≡ true → GoodMarkup d i
 content-good noMore d e = tt
 content-good (piece p k) d e =
-    let a = and-is (pieceTest p) (not (cut (piece p k)) && contentTest d k) e in
-    let b = and-is (not (cut (piece p k))) (contentTest d k) (a .1) in
-    (piece-good p (a .0), not-is (cut (piece p k)) (b .0), content-good k d (b .1))
+    let a = and-is (pieceTest p) (not (isCut (piece p k)) && contentTest d k) e in
+    let b = and-is (not (isCut (piece p k))) (contentTest d k) (a .1) in
+    (piece-good p (a .0), no-cut (piece p k) (not-is (isCut (piece p k)) (b .0)), content-good k d (b .1))
 content-good (emptyTag t k) zero e = absurd (false≢true e)
 content-good (emptyTag t k) (suc d) e = let a = and-is (tagTest t) (contentTest (suc d) k) e in (tag-good t (a .0), content-good k (suc d) (a .1))
 content-good (full t i g k) zero e = absurd (false≢true e)

@@ -7,14 +7,14 @@ use lib.ListN.{length, drop}
 use Rattle.answer.specs.declared.Answer.{Answer}
 use Rattle.answer.specs.Table.{accepted, limit, tooLong, notUtf8, notHouseXml, noRoom}
 use Rattle.text.specs.Bytes.{ascii}
-use Rattle.text.specs.Lists.{same}
-use Rattle.text_characters.specs.Utf8.{Utf8, LongestUtf8}
+use Rattle.text.specs.Lists.{same, LongestBeginning}
+use Rattle.text_characters.specs.Utf8.{Utf8}
 use Rattle.list.specs.Listing.{Listing}
 use Rattle.list.specs.Content.{Content}
 use Rattle.list.specs.Within.{Among}
 use Rattle.list_house.specs.Lists.{asked}
 use Rattle.value.specs.Value.{Value}
-use Rattle.xml.specs.House.{HouseXml, Longest}
+use Rattle.xml.specs.House.{HouseXml, Viable}
 use Rattle.xml.specs.Message.{Attrs, Inside}
 use Rattle.file_walk.specs.declared.found.Found.the-variants.{Violation}
 use Rattle.file_walk.specs.First.{First}
@@ -27,9 +27,9 @@ module _ (k : Kinds) (l : Listing) where
     -- 1: "input over 1,048,576 bytes", place 1048576
     long : limit < length s → a ≡ tooLong → d′ ≡ d → Answers s d a d′
     -- 2: "not UTF-8", "start of first bad sequence"
-    badBytes : length s ≤ limit → (Utf8 s → ⊥) → (n : ℕ) → LongestUtf8 s n → a ≡ notUtf8 n → d′ ≡ d → Answers s d a d′
+    badBytes : length s ≤ limit → (Utf8 s → ⊥) → (n : ℕ) → LongestBeginning Utf8 s n → a ≡ notUtf8 n → d′ ≡ d → Answers s d a d′
     -- 3: "not house XML", "most leading bytes that still begin some house XML text"
-    markup : length s ≤ limit → Utf8 s → (HouseXml s → ⊥) → (n : ℕ) → Longest s n → a ≡ notHouseXml n → d′ ≡ d → Answers s d a d′
+    markup : length s ≤ limit → Utf8 s → (HouseXml s → ⊥) → (n : ℕ) → LongestBeginning Viable s n → a ≡ notHouseXml n → d′ ≡ d → Answers s d a d′
     -- 4 to 13: "then the message is walked in document order and the first violation is the answer"
     violation : (w : Whole s) → First (k .types) l (messageIn w) (Violation a) → d′ ≡ d → Answers s d a d′
     -- 14: "valid, but image longer than the buffer", row 0, "bytes needed"; "14 comes last"

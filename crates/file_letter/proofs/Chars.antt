@@ -8,7 +8,6 @@ use native.Mathlib.Omega.{arith}
 use lib.ListN.{length}
 use Rattle.text.specs.Lists.{Each}
 use Rattle.text.proofs.Classes as classes
-use Rattle.text_characters.specs.Pieces.{XmlChar}
 use Rattle.list.specs.Listing.{Leaf, ref, iban, ccy, bool, num, amt, date, dtm, txt, enum}
 use Rattle.list.specs.WellFormed.{LeafOk}
 use Rattle.value.specs.Text.{isTxt, isRef}
@@ -18,6 +17,7 @@ use Rattle.value.proofs.raw.Trim.{Dense}
 use Rattle.value.proofs.classes.Named.{reference, writing}
 use Rattle.value.specs.Script.{scriptOf}
 use Rattle.value.proofs.script.Scripts.{script-dense}
+use Rattle.text_characters.proofs.Resolving.{XmlChar}
 
 -- no tab, no line break, no control character
 pub record Ink (x : ℕ) : Type 0 where

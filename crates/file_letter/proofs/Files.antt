@@ -38,7 +38,8 @@ use Rattle.file.specs.Checks.{Answers, Checks, Filed, Finds}
 use Rattle.file.proofs.Chosen.{filed-chosen}
 use Rattle.file.proofs.House.{spelling, image-no-longer, accepted-image}
 use Rattle.file.proofs.Accepted.{good-accepted}
-use Rattle.file_letter.specs.Letter.{treeOf, letterOf}
+use Rattle.file_letter.proofs.Trees.{treeOf, letter-is}
+use Rattle.file_letter.specs.Letter.{letterOf}
 use Rattle.file_letter.specs.Stale.{NoneOf, Withdrawn, Finer}
 use Rattle.file_letter.specs.Writes.{askedIn, letterIn, itemsIn, imageIn}
 use Rattle.file_letter.proofs.Meeting.{said-is, has-fine}
@@ -53,18 +54,14 @@ pub record Sayable (l : Listing) (c : Content Value) : Type 0 where
   pub has : Has houseTypes l (messageOf tree) c
 
 module _ (l : Listing) (wf : WellFormed l) where
-  letter-is : (c : Content Value) → letterOf l c ≡ whole (treeOf l c)
-  unfolding letterOf
-  letter-is c = refl
-
   -- what is written is house XML
   pub letter-xml : (c : Content Value) → Meets IsValue l c → NoneOf (Withdrawn l) (items c) → HouseXml (letterOf l c)
-  letter-xml c m q = record { tree = treeOf l c; good = letter-good l wf c m q; is = letter-is c }
+  letter-xml c m q = record { tree = treeOf l c; good = letter-good l wf c m q; is = letter-is l c }
 
   -- two contents have one text exactly when they are one
   pub letters-tell : (a b : Content Value) → Meets (Spelled present) l a → NoneOf (Withdrawn l) (items a) → Meets (Spelled present) l b → NoneOf (Withdrawn l) (items b) → (letterOf l a ≡ letterOf l b) ↔ (a ≡ b)
   letters-tell a b m p n q = (
-    (λ e. let t = tree-one (treeOf l a) (treeOf l b) (letter-good l wf a (said-is l a m) p) (letter-good l wf b (said-is l b n) q) (sym (letter-is a) ∙ e ∙ letter-is b) in
+    (λ e. let t = tree-one (treeOf l a) (treeOf l b) (letter-good l wf a (said-is l a m) p) (letter-good l wf b (said-is l b n) q) (sym (letter-is l a) ∙ e ∙ letter-is l b) in
         walk.unique houseTypes spelling l wf (messageOf (treeOf l b)) a b (subst (λ (x : Tree). Has houseTypes l (messageOf x) a) t (letter-has l wf a m)) (letter-has l wf b n)),
     (λ e. ap (letterOf l) e),
   )
@@ -77,7 +74,7 @@ module _ (l : Listing) (wf : WellFormed l) where
   pub letter-file : (c : Content Value) → Meets (Spelled present) l c → NoneOf (Withdrawn l) (items c) → length (letterOf l c) ≤ limit → File houseKinds l (letterOf l c) c
   letter-file c m q h =
       record {
-        whole = record { size = h; utf8 = house-utf8 (letter-xml c (said-is l c m) q); xml = record { tree = treeOf l c; good = letter-good l wf c (said-is l c m) q; is = letter-is c } };
+        whole = record { size = h; utf8 = house-utf8 (letter-xml c (said-is l c m) q); xml = record { tree = treeOf l c; good = letter-good l wf c (said-is l c m) q; is = letter-is l c } };
         has = letter-has l wf c m;
         meets = said-is l c m;
       }
@@ -157,8 +154,8 @@ module _ (run : List ℕ) (n : ℕ) (w : HouseAccepts run n) where
   first-is : take n run ≡ w .head ++ bodyIn
   first-is = let g = house-begins run n w in ap₂ take (g .2) (g .1) ∙ take-append-seam (w .head ++ bodyIn) (w .holds .rest)
 
-  first-five : (h : List ℕ) → w .head ≡ h → take 5 run ≡ take 5 (h ++ w .behind)
-  first-five h e = ap (take 5) (w .at) ∙ ap (λ (z : List ℕ). take 5 (z ++ w .behind)) e
+  first-five : (h : List ℕ) → w .head ≡ h → take 5 run ≡ take 5 (h ++ w .after)
+  first-five h e = ap (take 5) (w .at) ∙ ap (λ (z : List ℕ). take 5 (z ++ w .after)) e
 
   -- of a run of version 2 that is the image itself
   pub current-image : take 5 run ≡ versioned 2 → imageIn w ≡ take n run
@@ -166,14 +163,14 @@ module _ (run : List ℕ) (n : ℕ) (w : HouseAccepts run n) where
     where
       go : Front (w .list) (w .head) → imageIn w ≡ take n run
       go (current e) = image-is (w .list) (w .holds .content) ∙ ap (λ (h : List ℕ). h ++ bodyIn) (sym e) ∙ sym first-is
-      go (earlier b e) = absurd (versions-differ (sym (five-of 1 (w .behind)) ∙ sym (first-five (versioned 1) e) ∙ v))
+      go (earlier b e) = absurd (versions-differ (sym (five-of 1 (w .after)) ∙ sym (first-five (versioned 1) e) ∙ v))
 
   -- of one of version 1, which is a statement's, it has the same items after version 2 and the kind byte 1
   pub former-image : take 5 run ≡ versioned 1 → imageIn w ≡ versioned 2 ++ (1 ∷ drop 5 (take n run))
   former-image v = go (w .front)
     where
       go : Front (w .list) (w .head) → imageIn w ≡ versioned 2 ++ (1 ∷ drop 5 (take n run))
-      go (current e) = absurd (versions-differ (sym v ∙ first-five (header (w .list)) e ∙ header-five (w .list) (w .behind)))
+      go (current e) = absurd (versions-differ (sym v ∙ first-five (header (w .list)) e ∙ header-five (w .list) (w .after)))
       go (earlier b e) =
           image-is (w .list) (w .holds .content) ∙ ap (λ (h : List ℕ). h ++ bodyIn) (header-is (w .list)) ∙ append-assoc (versioned 2) (w .list .byte ∷ []) bodyIn
           ∙ ap₂ (λ (k : ℕ) (u : List ℕ). versioned 2 ++ (k ∷ u)) b (sym (ap (drop 5) (first-is ∙ ap (λ (h : List ℕ). h ++ bodyIn) e) ∙ drop-at (versioned 1) bodyIn 5 five-long))

@@ -12,7 +12,8 @@ use borrow.Author.Tests.{eq-eqb, ne-eqb}
 use Rattle.text.specs.Bytes.{ascii, isUnmarked, isCapital, isNameStart, isNamePart, isBlank}
 use Rattle.text.specs.Lists.{Each}
 use Rattle.text.proofs.Classes as classes
-use Rattle.text_characters.specs.Pieces.{less, ampersand, greater, bracket, quotation, XmlChar, Piece, char, entity, amp, lt, gt, spell, spells, resolvedAll, GoodPiece, Spells}
+use Rattle.text_characters.proofs.Resolving.{XmlChar, xml-char-yes}
+use Rattle.text_characters.specs.Pieces.{less, ampersand, greater, bracket, quotation, Piece, char, entity, amp, lt, gt, spell, spells, resolvedAll, GoodPiece, Spells}
 use Rattle.text_characters.proofs.Unmarked.{unmarked}
 use Rattle.list.specs.Listing.{Leaf, Kind, group, choice, leaf, Listing, rowAt, Child}
 use Rattle.list.specs.Sound.{level}
@@ -24,10 +25,12 @@ use Rattle.list.proofs.Retired.{each-first, each-last}
 use Rattle.value.specs.Rules.{InThousandths}
 use Rattle.value.specs.Value.{Value, IsValue, Spelt}
 use Rattle.value.proofs.classes.Classes.{each-all}
-use Rattle.xml.specs.House.{IsName, IsAttrName, double, GoodValue, GoodAttr, GoodTag, Markup as Tags, noMore as over, piece, emptyTag, full, render, isChar, begins, following, cut, GoodMarkup as Fine, GoodTree}
+use Rattle.xml.proofs.Cuts.{isChar, begins, following, isCut, no-cut}
+use Rattle.xml.specs.House.{IsName, IsAttrName, double, GoodValue, GoodAttr, GoodTag, Markup as Tags, noMore as over, piece, emptyTag, full, render, GoodMarkup as Fine, GoodTree}
 use Rattle.value.specs.Script.{scriptOf, currencyOf}
 use Rattle.value.specs.Raw.{pieceOf, rawOf}
-use Rattle.file_letter.specs.Letter.{textIn, plainly, attrOf, tagOf, coinOf, wordsIn, treeIn, rootIn, treeOf}
+use Rattle.file_letter.proofs.Trees.{plainly, rootIn, treeOf}
+use Rattle.file_letter.specs.Letter.{textIn, attrOf, tagOf, coinOf, wordsIn, treeIn}
 use Rattle.value.proofs.script.Scripts.{script-spelt}
 use Rattle.image.specs.Kinds.{values}
 use Rattle.image.specs.Image.{Item}
@@ -44,7 +47,7 @@ good-piece c x = go (ℕ-discrete c 38) (ℕ-discrete c 60) (ℕ-discrete c 62)
     go (yes e) b d = subst (λ (z : Bool). GoodPiece (cond z (entity amp) (cond (eqb c 60) (entity lt) (cond (eqb c 62) (entity gt) (char c))))) (sym (eq-eqb c 38 e)) tt
     go (no n) (yes e) d = rw (ne-eqb c 38 n, eq-eqb c 60 e) tt
     go (no n) (no m) (yes e) = rw (ne-eqb c 38 n, ne-eqb c 60 m, eq-eqb c 62 e) tt
-    go (no n) (no m) (no k) = rw (ne-eqb c 38 n, ne-eqb c 60 m, ne-eqb c 62 k) (x, m, n)
+    go (no n) (no m) (no k) = rw (ne-eqb c 38 n, ne-eqb c 60 m, ne-eqb c 62 k) (xml-char-yes c x, m, n)
 
 no-greater : (cs : List ℕ) → begins greater (textIn cs) ≡ false
 no-greater [] = refl
@@ -66,12 +69,12 @@ behind-text : (cs : List ℕ) → begins greater (following (textIn cs)) ≡ fal
 behind-text [] = refl
 behind-text (c ∷ cs) = no-greater cs
 
-uncut : (c : ℕ) (cs : List ℕ) → cut (piece (pieceOf c) (textIn cs)) ≡ false
+uncut : (c : ℕ) (cs : List ℕ) → isCut (piece (pieceOf c) (textIn cs)) ≡ false
 uncut c cs = ap (λ (z : Bool). begins bracket (piece (pieceOf c) (textIn cs)) && (begins bracket (textIn cs) && z)) (behind-text cs) ∙ and-no (isChar bracket (pieceOf c)) (begins bracket (textIn cs))
 
 good-text : (cs : List ℕ) (d : ℕ) → Each XmlChar cs → Fine d (textIn cs)
 good-text [] d h = tt
-good-text (c ∷ cs) d h = (good-piece c (h .0), uncut c cs, good-text cs d (h .1))
+good-text (c ∷ cs) d h = (good-piece c (h .0), no-cut (piece (pieceOf c) (textIn cs)) (uncut c cs), good-text cs d (h .1))
 
 -- so the bytes of a text as it is written spell its characters, `&`, `<` and `>` by entities, every other as it stands
 piecesOf : List ℕ → List Piece
@@ -112,7 +115,7 @@ Quiet c = XmlChar c × (c ≢ less) × (c ≢ ampersand) × (c ≢ quotation)
 
 quiet-value : (cs : List ℕ) → Each Quiet cs → GoodValue double (plainly cs)
 quiet-value [] h = tt
-quiet-value (c ∷ cs) h = ((h .0 .0, h .0 .1, h .0 .2), (λ e. h .0 .3 (cc e)), quiet-value cs (h .1))
+quiet-value (c ∷ cs) h = (((xml-char-yes c (h .0 .0), h .0 .1, h .0 .2), (λ e. h .0 .3 (cc e))), quiet-value cs (h .1))
 
 blank-32 : isBlank 32 ≡ true
 unfolding isBlank
@@ -185,7 +188,7 @@ module _ (l : Listing) (wf : WellFormed l) where
     | inr n ↦ n
   ]
 
-  good-in : (c : Content Value) (p d : ℕ) → level l p + d ≡ 16 → Each (Child l p) (rows c) → NoneOf (Withdrawn l) (items c) → Good IsValue l c → Fine d (treeIn l c)
+  good-in : (c : Content Value) (p d : ℕ) → level l p + d ≡ 16 → Each (Child l p) (rows c) → NoneOf (Withdrawn l) (items c) → Good IsValue l c → Fine d (treeIn l [] c)
   good-in end p d e a q g = tt
   good-in (value r v k) p zero e a q g = absurd (omega (arith, level-bound l wf p r (a .0), level-child l wf p r (a .0)))
   good-in (value r v k) p (suc d) e a q g = (
@@ -244,7 +247,7 @@ text-filled [] = tt
 text-filled (c ∷ cs) = text-filled cs
 
 module _ (l : Listing) (wf : WellFormed l) where
-  kids-more : (c : Content Value) → 0 < length (rows c) → treeIn l c ≢ over
+  kids-more : (c : Content Value) → 0 < length (rows c) → treeIn l [] c ≢ over
   unfolding isOver
   kids-more end h e = omega arith
   kids-more (value r v k) h e = true≢false (sym (ap isOver e))
@@ -255,7 +258,7 @@ module _ (l : Listing) (wf : WellFormed l) where
   words-some choice v ok h = absurd h
   words-some (leaf f) v ok h = script-inked f v ok h .some
 
-  filled-in : (c : Content Value) (p : ℕ) → Each (Child l p) (rows c) → Good IsValue l c → Filled (treeIn l c)
+  filled-in : (c : Content Value) (p : ℕ) → Each (Child l p) (rows c) → Good IsValue l c → Filled (treeIn l [] c)
   filled-in end p a g = tt
   filled-in (value r v k) p a g = (
     text-more (wordsIn (rowAt l r .kind) v) (words-some (rowAt l r .kind) v (wf .kinds p r (a .0)) (g .0)),

@@ -10,9 +10,9 @@ use borrow.Author.Tests.{eqb-true}
 use Rattle.text.specs.Bytes.{ascii}
 use Rattle.text.specs.Lists.{Each, same}
 use Rattle.text_characters.specs.Pieces.{char, entity, amp, lt, gt, spell, resolved, resolvedAll}
-use Rattle.list.specs.Listing.{Leaf, Kind, group, choice, leaf, Listing, rowAt, Child, isGroup}
+use Rattle.list.specs.Listing.{Leaf, Kind, group, choice, leaf, Listing, rowAt, Child}
 use Rattle.list.specs.WellFormed.{WellFormed}
-use Rattle.list.specs.Content.{Content, end, value, node, rows, Good, Meets, ValueOf, GroupOf}
+use Rattle.list.specs.Content.{Content, end, value, node, rows, Good, Meets, ValueOf}
 use Rattle.value.specs.Former.{present}
 use Rattle.value.specs.Rules.{InThousandths}
 use Rattle.value.specs.Value.{Value, text, place, truth, natural, amount, day, moment, IsValue, Spelt}
@@ -25,7 +25,8 @@ use Rattle.file_walk.proofs.violation.Spells.{plain, Spells, of-spells}
 use Rattle.file.specs.Instance.{houseTypes}
 use Rattle.value.specs.Script.{scriptOf, currencyOf}
 use Rattle.value.specs.Raw.{pieceOf}
-use Rattle.file_letter.specs.Letter.{textIn, plainly, attrOf, coinOf, wordsIn, treeIn, treeOf}
+use Rattle.file_letter.proofs.Trees.{plainly, treeOf}
+use Rattle.file_letter.specs.Letter.{textIn, attrOf, coinOf, wordsIn, treeIn}
 use Rattle.value.specs.Spelled.{Spelled}
 use Rattle.value.proofs.script.Scripts.{script-spelt, present-spelt}
 use Rattle.file_letter.proofs.Meeting.{said-is}
@@ -128,17 +129,12 @@ module _ (l : Listing) (wf : WellFormed l) where
       let i = present-spelt f v .1 h in
       (plain-is (scriptOf f v) o, attrs-ok f v (i .0), subst (λ (u : List ℕ). Spelt f (coin v) u v) (sym (text-is (scriptOf f v) o)) (written-spelt f v (i .0) (i .1)))
 
-  group-is : (k : Kind) → GroupOf (Spelled present) l k → isGroup k ≡ true
-  group-is group g = refl
-  group-is choice g = refl
-  group-is (leaf f) g = absurd g
-
-  denotes : (c : Content Value) (p o : ℕ) → Each (Child l p) (rows c) → Good (Spelled present) l c → Denotes houseTypes l p (partsOf o (treeIn l c)) c
+  denotes : (c : Content Value) (p o : ℕ) → Each (Child l p) (rows c) → Good (Spelled present) l c → Denotes houseTypes l p (partsOf o (treeIn l [] c)) c
   denotes end p o a g = tt
   denotes (value r v k) p o a g =
       ((a .0, refl), of-spells houseTypes l r (attrsOf (coinOf v)) (partsOf _ (textIn (wordsIn (rowAt l r .kind) v))) v (rowAt l r .kind) refl (spells (rowAt l r .kind) v _ (g .0)), denotes k p _ (a .1) (g .1))
   denotes (node r c k) p o a g =
-      ((a .0, refl), (group-is (rowAt l r .kind) (g .0 .0), refl), denotes c r _ (g .0 .1 .theirs) (g .1), denotes k p _ (a .1) (g .2))
+      ((a .0, refl), (g .0 .0, refl), denotes c r _ (g .0 .1 .theirs) (g .1), denotes k p _ (a .1) (g .2))
 
   -- the message of the written tree has the content
   pub letter-has : (c : Content Value) → Meets (Spelled present) l c → Has houseTypes l (messageOf (treeOf l c)) c

@@ -1,6 +1,8 @@
 -- The laws of `file_letter`.
 -- of which characters a value's text is
 pub mod Chars
+-- the written file as a tree
+pub mod Trees
 -- what is told is the tree
 pub mod Telling
 -- document 01's example

@@ -8,7 +8,7 @@ use native.Mathlib.Omega.{arith}
 use native.Mathlib.Decide.{ℕ-discrete}
 use Rattle.text.specs.Lists.{Each}
 use Rattle.list.specs.Listing.{Leaf, Kind, group, choice, leaf, Listing, rowAt}
-use Rattle.list.specs.Content.{Content, end, value, node, items, Meets, ValueOf, GroupOf, Good}
+use Rattle.list.specs.Content.{Content, end, value, node, items, Meets, ValueOf, Good}
 pub use Rattle.list.proofs.Retired.{each-first, each-last}
 use Rattle.value.specs.Former.{present}
 use Rattle.value.specs.Value.{Value, text, place, truth, natural, amount, day, moment, IsValue}
@@ -31,15 +31,10 @@ module _ (l : Listing) (P Q : Leaf → Value → Type 0) (f : (k : Leaf) (v : Va
   value-on choice v h = h
   value-on (leaf k) v h = f k v h
 
-  group-on : (k : Kind) → GroupOf P l k → GroupOf Q l k
-  group-on group h = tt
-  group-on choice h = tt
-  group-on (leaf k) h = h
-
   good-on : (c : Content Value) → Good P l c → Good Q l c
   good-on end h = tt
   good-on (value r v k) h = (value-on (rowAt l r .kind) v (h .0), good-on k (h .1))
-  good-on (node r c k) h = ((group-on (rowAt l r .kind) (h .0 .0), h .0 .1), good-on c (h .1), good-on k (h .2))
+  good-on (node r c k) h = (h .0, good-on c (h .1), good-on k (h .2))
 
   pub meets-on : (c : Content Value) → Meets P l c → Meets Q l c
   meets-on c m = record { root = m .root; good = good-on c (m .good) }
@@ -106,17 +101,11 @@ module _ (l : Listing) where
   fine-value choice v h = absurd h
   fine-value (leaf k) v h = present-spelt k v .1 h .1
 
-  -- the group's shape is the same
-  group-said : (k : Kind) → GroupOf IsValue l k → GroupOf (Spelled present) l k
-  group-said group h = tt
-  group-said choice h = tt
-  group-said (leaf k) h = h
-
   good-said : (c : Content Value) → NoneOf Finer (items c) → Good IsValue l c → Good (Spelled present) l c
   good-said end n h = tt
   good-said (value r v k) n h = (said-value (rowAt l r .kind) v (fine r v (n .0)) (h .0), good-said k (n .1) (h .1))
   good-said (node r c k) n h = (
-    (group-said (rowAt l r .kind) (h .0 .0), h .0 .1),
+    h .0,
     good-said c (each-first (λ (i : Item values). Finer i → ⊥) (items c) (items k) (n .1)) (h .1),
     good-said k (each-last (λ (i : Item values). Finer i → ⊥) (items c) (items k) (n .1)) (h .2),
   )

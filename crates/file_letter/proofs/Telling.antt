@@ -15,6 +15,7 @@ use Rattle.list.specs.WellFormed.{WellFormed}
 use Rattle.list.specs.Content.{Content, end, value, node, rows, items, Good, Meets}
 use Rattle.value.specs.Value.{Value, IsValue}
 use Rattle.xml.specs.House.{tag, render}
+use Rattle.file_letter.proofs.Trees.{letter-is}
 use Rattle.file_letter.specs.Letter.{textIn, attrOf, tagOf, coinOf, wordsIn, treeIn, letterOf}
 use Rattle.file_letter.specs.mirror.Tell.{opens, shuts, closes, tell}
 
@@ -77,7 +78,7 @@ module _ (l : Listing) (wf : WellFormed l) where
   element n t i k u = simp append-assoc
 
   pub told : (c : Content Value) (p : ℕ) (u : List (ℕ × Option Value)) → 0 < p → p ≤ size l → Each (Child l p) (rows c) → Good IsValue l c → Stop p u
-      → tell l p (items c ++ u) ≡ render (treeIn l c) ++ tell l p u
+      → tell l p (items c ++ u) ≡ render (treeIn l [] c) ++ tell l p u
   unfolding tell
   told end p u z h a g s = refl
   told (value r v k) p u z h a g s =
@@ -88,7 +89,7 @@ module _ (l : Listing) (wf : WellFormed l) where
       ap (λ (x : List ℕ). x ++ (opens l r (coinOf v) ++ (i ++ (shuts l r ++ tell l (rowAt l r .parent) (items k ++ u))))) e
       ∙ ap (λ (x : ℕ). opens l r (coinOf v) ++ (i ++ (shuts l r ++ tell l x (items k ++ u)))) (a .0 .parent)
       ∙ ap (λ (x : List ℕ). opens l r (coinOf v) ++ (i ++ (shuts l r ++ x))) f
-      ∙ element (rowAt l r .name) t i (render (treeIn l k)) (tell l p u)
+      ∙ element (rowAt l r .name) t i (render (treeIn l [] k)) (tell l p u)
   told (node r c k) p u z h a g s =
       let t = tag (tagOf (rowAt l r .name) []) in
       let lt : p < r = wf .before p r (a .0) in
@@ -99,8 +100,8 @@ module _ (l : Listing) (wf : WellFormed l) where
       let j = told k p u z h (a .1) (g .2) s in
       ap (λ (x : List (ℕ × Option Value)). closes l 17 p (rowAt l r .parent) ++ (opens l r [] ++ tell l r x)) (append-assoc (items c) (items k) u)
       ∙ ap (λ (x : List ℕ). x ++ (opens l r [] ++ tell l r (items c ++ (items k ++ u)))) e
-      ∙ ap (λ (x : List ℕ). opens l r [] ++ x) (f ∙ ap (λ (x : List ℕ). render (treeIn l c) ++ x) (o ∙ ap (λ (x : List ℕ). shuts l r ++ x) j))
-      ∙ element (rowAt l r .name) t (render (treeIn l c)) (render (treeIn l k)) (tell l p u)
+      ∙ ap (λ (x : List ℕ). opens l r [] ++ x) (f ∙ ap (λ (x : List ℕ). render (treeIn l [] c) ++ x) (o ∙ ap (λ (x : List ℕ). shuts l r ++ x) j))
+      ∙ element (rowAt l r .name) t (render (treeIn l [] c)) (render (treeIn l [] k)) (tell l p u)
 
   -- the whole file: the root's tag, then what is told of the items after it
   pub letter-told : (c : Content Value) → Meets IsValue l c → (kids : Content Value) → c ≡ node 1 kids end
@@ -109,11 +110,12 @@ module _ (l : Listing) (wf : WellFormed l) where
   letter-told c m kids e =
       let g : Good IsValue l (node 1 kids end) = subst (Good IsValue l) e (m .good) in
       let t = tag (tagOf (rowAt l 1 .name) (attrOf (ascii "xmlns") (l .space) ∷ [])) in
-      let f : tell l 1 (items kids ++ []) ≡ render (treeIn l kids) ++ tell l 1 [] = told kids 1 [] (omega arith) (wf .root .0) (g .0 .1 .theirs) (g .1) tt in
+      let f : tell l 1 (items kids ++ []) ≡ render (treeIn l [] kids) ++ tell l 1 [] = told kids 1 [] (omega arith) (wf .root .0) (g .0 .1 .theirs) (g .1) tt in
       let z : tell l 1 [] ≡ shuts l 1 ++ closes l 17 0 0 = one-up 1 0 0 (omega arith) (omega arith) (wf .root .2) (omega arith) in
       let n : closes l 17 0 0 ≡ [] = same-group 0 in
       ap (letterOf l) e
-      ∙ sym (element (rowAt l 1 .name) t (render (treeIn l kids)) [] [])
-      ∙ ap (λ (u : List ℕ). opens l 1 (attrOf (ascii "xmlns") (l .space) ∷ []) ++ (render (treeIn l kids) ++ (shuts l 1 ++ u))) (sym n)
-      ∙ ap (λ (u : List ℕ). opens l 1 (attrOf (ascii "xmlns") (l .space) ∷ []) ++ (render (treeIn l kids) ++ u)) (sym z)
+      ∙ letter-is l (node 1 kids end)
+      ∙ sym (element (rowAt l 1 .name) t (render (treeIn l [] kids)) [] [])
+      ∙ ap (λ (u : List ℕ). opens l 1 (attrOf (ascii "xmlns") (l .space) ∷ []) ++ (render (treeIn l [] kids) ++ (shuts l 1 ++ u))) (sym n)
+      ∙ ap (λ (u : List ℕ). opens l 1 (attrOf (ascii "xmlns") (l .space) ∷ []) ++ (render (treeIn l [] kids) ++ u)) (sym z)
       ∙ ap (λ (u : List ℕ). opens l 1 (attrOf (ascii "xmlns") (l .space) ∷ []) ++ u) (sym f ∙ ap (tell l 1) (append-nil (items kids)))

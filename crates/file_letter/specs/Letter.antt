@@ -1,13 +1,13 @@
 -- The tree that is written for a content: "no declaration, no blanks that could be left out, double quotes". Assumes nothing.
-use mathlib.Core.Bool.{false}
-use mathlib.Core.List.{List, [], _∷_}
+use mathlib.Core.List.{List, [], _∷_, map}
 use Prim.Native.Nat.{ℕ}
+use Prim.Native.Char.{code}
 use Rattle.text.specs.Bytes.{ascii}
-use Rattle.text_characters.specs.Pieces.{Piece, char}
+use Rattle.text_characters.specs.Pieces.{char}
 use Rattle.list.specs.Listing.{Kind, group, choice, leaf, Listing, rowAt}
 use Rattle.list.specs.Content.{Content, end, value, node}
 use Rattle.value.specs.Value.{Value, text, place, truth, natural, amount, day, moment}
-use Rattle.xml.specs.House.{double, Attr, Tag, Markup, noMore, piece, full, Tree, whole}
+use Rattle.xml.specs.House.{double, Attr, Tag, Markup, noMore, piece, full, render}
 use Rattle.value.specs.Script.{scriptOf}
 use Rattle.value.specs.Raw.{pieceOf}
 
@@ -16,12 +16,8 @@ abbrev pub textIn : List ℕ → Markup
 textIn [] = noMore
 textIn (c ∷ cs) = piece (pieceOf c) (textIn cs)
 
-abbrev pub plainly : List ℕ → List Piece
-plainly [] = []
-plainly (c ∷ cs) = char c ∷ plainly cs
-
 abbrev pub attrOf : List ℕ → List ℕ → Attr
-attrOf n v = record { gap = 32 ∷ []; name = n; before = []; after = []; quote = double; value = plainly v }
+attrOf n v = record { gap = code " " ∷ []; name = n; before = []; after = []; quote = double; value = map char v }
 
 abbrev pub tagOf : List ℕ → List Attr → Tag
 tagOf n as′ = record { name = n; attributes = as′; gap = [] }
@@ -42,21 +38,12 @@ wordsIn choice v = []
 wordsIn (leaf f) v = scriptOf f v
 
 module _ (l : Listing) where
-  -- what stands in an element
-  abbrev pub treeIn : Content Value → Markup
-  treeIn end = noMore
-  treeIn (value r v k) = full (tagOf (rowAt l r .name) (coinOf v)) (textIn (wordsIn (rowAt l r .kind) v)) [] (treeIn k)
-  treeIn (node r c k) = full (tagOf (rowAt l r .name) []) (treeIn c) [] (treeIn k)
+  -- what stands in an element; its groups have these attributes
+  abbrev pub treeIn : List Attr → Content Value → Markup
+  treeIn ats end = noMore
+  treeIn ats (value r v k) = full (tagOf (rowAt l r .name) (coinOf v)) (textIn (wordsIn (rowAt l r .kind) v)) [] (treeIn ats k)
+  treeIn ats (node r c k) = full (tagOf (rowAt l r .name) ats) (treeIn [] c) [] (treeIn ats k)
 
-  -- the root, with the list's namespace
-  abbrev pub rootIn : Content Value → Markup
-  rootIn end = noMore
-  rootIn (value r v k) = noMore
-  rootIn (node r c k) = full (tagOf (rowAt l r .name) (attrOf (ascii "xmlns") (l .space) ∷ [])) (treeIn c) [] noMore
-
-  abbrev pub treeOf : Content Value → Tree
-  treeOf c = record { declared = false; before = []; root = rootIn c; after = [] }
-
-  -- the file that is written
+  -- the file that is written: the root alone, with the list's namespace
   unfoldable pub letterOf : Content Value → List ℕ
-  letterOf c = whole (treeOf c)
+  letterOf c = render (treeIn (attrOf (ascii "xmlns") (l .space) ∷ []) c)

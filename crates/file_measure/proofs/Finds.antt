@@ -10,7 +10,7 @@ use lib.ListN.{length, drop}
 use borrow.Author.Tests.{eq-eqb, ne-eqb}
 use Rattle.answer.specs.declared.Answer.{Answer}
 use Rattle.answer.specs.Table.{accepted, limit, tooLong, notUtf8, notHouseXml, wrongRoot}
-use Rattle.text_characters.specs.Utf8.{Utf8, LongestUtf8}
+use Rattle.text_characters.specs.Utf8.{Utf8}
 use Rattle.text_characters.proofs.Longest.{whole-utf8}
 use Rattle.list.specs.Listing.{Listing}
 use Rattle.list.specs.Table.{listOf}
@@ -54,6 +54,7 @@ use Rattle.file_measure.specs.Measured.{Says, violates, holds, Measured}
 use Rattle.file_measure.specs.Measures.{Measures, measured, faulty}
 use Rattle.file_measure.specs.Pass.{Ready}
 use Rattle.file_measure.specs.mirror.Choice.{kindBy, toldOf, Chooses}
+use Rattle.text.specs.Lists.{LongestBeginning}
 
 -- ---- what is told, by the answer
 
@@ -97,7 +98,7 @@ module _ (s : List ℕ) (a : Answer) (n : ℕ) (r : Finding) (e : r ≡ toldOf a
   pub tells-long : limit < length s → a ≡ tooLong → Measures s r
   tells-long h i = told-faulty s a n r e (unread s a (λ w. omega (arith, w .size)) (λ d. says-long houseKinds house s d a h i)) (λ z. omega (arith, z, ap (λ (x : Answer). x .code) i))
 
-  pub tells-bytes : length s ≤ limit → (k : ℕ) → LongestUtf8 s k → k < length s → a ≡ notUtf8 k → Measures s r
+  pub tells-bytes : length s ≤ limit → (k : ℕ) → LongestBeginning Utf8 s k → k < length s → a ≡ notUtf8 k → Measures s r
   tells-bytes h k p j i =
       told-faulty s a n r e (unread s a (λ w. omega (arith, whole-utf8 s k p (w .utf8))) (λ d. says-bytes houseKinds house s d a h k p j i)) (λ z. omega (arith, z, ap (λ (x : Answer). x .code) i))
 

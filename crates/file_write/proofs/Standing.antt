@@ -12,7 +12,7 @@ use lib.Seq.{drop-cons, drop-drop, drop-at}
 use Rattle.text.specs.Lists.{Each}
 use Rattle.list.specs.Listing.{Leaf, Kind, group, choice, leaf, Listing, size, rowAt, Child, isGroup}
 use Rattle.list.specs.WellFormed.{LeafOk, KindOk}
-use Rattle.list.specs.Content.{Content, end, value, node, rows, items, ValueOf, GroupOf, Good}
+use Rattle.list.specs.Content.{Content, end, value, node, rows, items, ValueOf, Good}
 use Rattle.list.specs.Within.{Within}
 use Rattle.list.proofs.Within.{within-itself}
 use Rattle.list.specs.Table.{cell, kindOf, wordsIn, listOf}
@@ -66,7 +66,7 @@ module _ (t pool : List ℕ) where
     fine-in end p a g = tt
     fine-in (value r u k) p a g = ((a .0 .first, last-in p r (a .0), subst (λ (z : Kind). ValueOf IsValue l z u) (sym (v .kinds r)) (g .0)), fine-in k p (a .1) (g .1))
     fine-in (node r c k) p a g = (
-      (a .0 .first, last-in p r (a .0), subst (λ (z : Kind). GroupOf IsValue l z) (sym (v .kinds r)) (g .0 .0)),
+      (a .0 .first, last-in p r (a .0), subst (λ (z : Kind). isGroup z ≡ true) (sym (v .kinds r)) (g .0 .0)),
       each-both Fine (items c) (items k) (fine-in c r (g .0 .1 .theirs) (g .1)) (fine-in k p (a .1) (g .2)),
     )
 
@@ -89,7 +89,7 @@ module _ (t pool : List ℕ) where
   pub is-some : (k : Kind) (v : Option Value) → isGroup k ≡ false → OfKind values l k v → Leafed k v
   is-some group v e o = absurd (true≢false e)
   is-some choice v e o = absurd (true≢false e)
-  is-some (leaf f) none e o = absurd o
+  is-some (leaf f) none e o = absurd (true≢false (sym o))
   is-some (leaf f) (some u) e o = record { type = f; val = u; kind = refl; some′ = refl; is = o }
 
   -- the items that are left, of which the first stands at i

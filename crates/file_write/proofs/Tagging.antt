@@ -22,7 +22,8 @@ use Rattle.list.proofs.rows.Rows.{size-is, name-is}
 use Rattle.list.proofs.rows.Next.{row-past}
 use Rattle.value.specs.Value.{Value, IsValue}
 use Rattle.value.proofs.classes.Classes.{each-all}
-use Rattle.file_letter.specs.Letter.{plainly, attrOf, coinOf}
+use Rattle.file_letter.proofs.Trees.{plainly}
+use Rattle.file_letter.specs.Letter.{attrOf, coinOf}
 use Rattle.file_letter.specs.mirror.Tell.{opens, shuts, closes}
 use Rattle.file_write.specs.mirror.Tags.{startIn, openIn, shutIn, rootIn, coinIn}
 use Rattle.file_write.specs.mirror.Emit.{coinText}

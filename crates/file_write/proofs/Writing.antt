@@ -13,8 +13,8 @@ use Rattle.answer.specs.Table.{limit, accepted, noRoom, tooLarge, tooFine, reti
 use Rattle.text.specs.Lists.{Each}
 use Rattle.text.specs.Puts.{Puts}
 use Rattle.text.proofs.Pasting.{pasted-yes}
-use Rattle.list.specs.Listing.{Kind, Listing, size}
-use Rattle.list.specs.Content.{Content, end, node, items, GroupOf, Good, Meets}
+use Rattle.list.specs.Listing.{Kind, Listing, size, isGroup}
+use Rattle.list.specs.Content.{Content, end, node, items, Good, Meets}
 use Rattle.list.specs.Within.{Within}
 use Rattle.list.specs.Changed.{Gone}
 use Rattle.list.specs.Table.{listOf}
@@ -153,7 +153,7 @@ module _ (run : List ℕ) (x : Reading) (b : Begun run x) where
     -- the run from the first item on, by either list
     body-here : drop (x .from) run ≡ body values (o .image .list) c ++ o .image .holds .rest
     unfolding c
-    body-here = ap (drop (x .from)) (o .image .at) ∙ drop-at (o .image .head) (o .image .behind) (x .from) (sym (o .from)) ∙ o .image .holds .at
+    body-here = ap (drop (x .from)) (o .image .at) ∙ drop-at (o .image .head) (o .image .after) (x .from) (sym (o .from)) ∙ o .image .holds .at
 
     same-body : body values m c ≡ body values asks c
     same-body = ap (λ (u : List ℕ). u ++ (0 ∷ [])) (sym (bytes-within values asks m narrower (items c)))
@@ -179,7 +179,7 @@ module _ (run : List ℕ) (x : Reading) (b : Begun run x) where
     -- each of them, the root's among them, is of a row of the table
     all-fine : Each (ItemOf t housePool) ((1, none) ∷ ks)
     unfolding lined asks ks
-    all-fine = let s = y .sound .well .root in ((omega arith, s .0, subst (λ (k : Kind). GroupOf IsValue (listOf t housePool) k) (sym (s .1)) tt), lined .each)
+    all-fine = let s = y .sound .well .root in ((omega arith, s .0, subst (λ (k : Kind). isGroup k ≡ true) (sym (s .1)) refl), lined .each)
 
     -- what was found of the items
     module _ (r : ℕ) (s : Stale t p run (x .from) r) where

@@ -82,9 +82,7 @@ module _ (t pool : List ℕ) (so : Sound t pool) (s : List ℕ) where
   counted x f b e = so .derived x b .words ∙ ap wordCount e
 
   group-none : (k : Kind) → isGroup k ≡ true → OfKind values l k none
-  group-none group e = tt
-  group-none choice e = tt
-  group-none (leaf f) e = absurd (false≢true e)
+  group-none k e = e
 
   group-bytes : (k : Kind) → isGroup k ≡ true → valueBytes values l k none ≡ []
   group-bytes group e = refl
@@ -94,7 +92,7 @@ module _ (t pool : List ℕ) (so : Sound t pool) (s : List ℕ) where
   leaf-value : (k : Kind) (f : Leaf) (v : Option Value) → k ≡ leaf f → OfKind values l k v → (w : Value) × IsValue f w × (valueBytes values l k v ≡ bytes w)
   leaf-value group f v e o = absurd (false≢true (sym (ap isGroup e)))
   leaf-value choice f v e o = absurd (false≢true (sym (ap isGroup e)))
-  leaf-value (leaf g) f none e o = absurd o
+  leaf-value (leaf g) f none e o = absurd (false≢true o)
   leaf-value (leaf g) f (some w) e o = let d : g ≡ f = cc in (w, subst (λ (y : Leaf). IsValue y w) d o, refl)
 
   pub ending : Ending t (itemEnd t s) s values l

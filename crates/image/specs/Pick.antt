@@ -2,7 +2,7 @@
 use mathlib.Core.Path.{_≡_}
 use mathlib.Core.Logic.{_⊎_, _≢_}
 use mathlib.Core.Bool.{true}
-use mathlib.Core.List.{List, [], _∷_, _++_}
+use mathlib.Core.List.{List, [], _∷_, _++_, map}
 use mathlib.Core.Option.{some}
 use Prim.Native.Nat.{ℕ, _+_, _≤_}
 use lib.ListN.{length, drop}
@@ -20,10 +20,6 @@ abbrev pub Lies : RefT (List ℕ) → ℕ → RefT (List ℕ) → Type 0
 Lies run p s = (ptr s .0 ≡ ptr run .0) × (ptr s .1 ≡ ptr run .1 + p)
 
 module _ (vs : Values) where
-  abbrev pub rowsOf : List (Item vs) → List ℕ
-  rowsOf [] = []
-  rowsOf (i ∷ is) = i .0 ∷ rowsOf is
-
   module _ (l : Listing) where
     -- "the n-th (from 0) leaf of a given row", the part of the image that holds its value, "the value bytes without row byte and length", and
     -- where that part begins, when the items begin at `from`
@@ -32,15 +28,15 @@ module _ (vs : Values) where
       pub kind : rowAt l r .kind ≡ leaf type
       pub before : List (Item vs)
       pub value : vs .Value
-      pub behind : List (Item vs)
-      pub at : items c ≡ before ++ ((r, some value) ∷ behind)
-      pub nth : times r (rowsOf before) ≡ n
+      pub after : List (Item vs)
+      pub at : items c ≡ before ++ ((r, some value) ∷ after)
+      pub nth : times r (map (λ (i : Item vs). i .0) before) ≡ n
       pub starts : place ≡ from + length (itemsBytes vs l before) + 1 + vs .head type
       pub holds : part ≡ drop (vs .head type) (vs .bytes type value)
 
     -- "if the row is no leaf or has no such item"
     abbrev pub Missing : Content (vs .Value) → ℕ → ℕ → Type 0
-    Missing c r n = (isGroup (rowAt l r .kind) ≡ true) ⊎ (times r (rowsOf (items c)) ≤ n)
+    Missing c r n = (isGroup (rowAt l r .kind) ≡ true) ⊎ (times r (map (λ (i : Item vs). i .0) (items c)) ≤ n)
 
     -- what is answered and handed back for a content whose items begin at `from`
     pub data Selects (from : ℕ) (c : Content (vs .Value)) (r n : ℕ) (a : Answer) (part : List ℕ) : Type 0 where
@@ -57,12 +53,6 @@ module _ (vs : Values) where
       -- "Acceptance is code 0, the asked row, and the place where the part begins"
       found : length run ≤ limit → (k : ℕ) (w : Accepts vs ls run k) → (place : ℕ) → Picked (w .list) (length (w .head)) (w .holds .content) r n place part → a ≡ picked r place → Picks run r n a part
 
-    -- the same, of the call that gives the answer: there is a part to it
-    pub record PickAnswers (run : List ℕ) (r n : ℕ) (a : Answer) : Type 0 where
-      pub part : List ℕ
-      pub picks : Picks run r n a part
-
-    -- and of the call that hands back the part: there is an answer to it
-    pub record Hands (run : List ℕ) (r n : ℕ) (part : List ℕ) : Type 0 where
-      pub answer : Answer
-      pub picks : Picks run r n answer part
+  -- the rows of items, as the laws name them
+  abbrev pub rowsOf : List (Item vs) → List ℕ
+  rowsOf is = map (λ (i : Item vs). i .0) is

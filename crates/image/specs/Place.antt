@@ -69,10 +69,10 @@ module _ (vs : Values) (ls : List Listing) where
     pub among : Among list ls
     pub head : List ℕ
     pub front : Front list head
-    pub behind : List ℕ
-    pub at : run ≡ head ++ behind
+    pub after : List ℕ
+    pub at : run ≡ head ++ after
     pub size : ℕ
-    pub holds : Holds vs list behind size
+    pub holds : Holds vs list after size
     pub long : n ≡ length head + size
 
   -- "Reader, over a run of bytes": what it answers; "Row 0"

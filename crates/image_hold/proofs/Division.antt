@@ -32,7 +32,7 @@ image-is l i h f c m = record {
   among = i;
   head = h;
   front = f;
-  behind = body values l c;
+  after = body values l c;
   at = refl;
   size = length (body values l c);
   holds = record { content = c; meets = m; rest = []; at = sym (append-nil (body values l c)); long = refl };

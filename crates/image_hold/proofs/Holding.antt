@@ -113,7 +113,7 @@ divides (s ∷ ss) u {h} w short at n (called {p = p} {a = a} x y) =
 -- nothing is picked from nothing
 picks-nothing : (r n : ℕ) (a : Answer) → HouseAnswers [] r n a → a .code ≡ 0 → ⊥
 picks-nothing r n a h e =
-    let fits : HouseAnswers [] r n noHeader = record { part = []; picks = refused (foreign (omega arith) (inl (omega arith)) refl) (λ z. omega (arith, z)) refl } in
+    let fits : HouseAnswers [] r n noHeader = ([], refused (foreign (omega arith) (inl (omega arith)) refl) (λ z. omega (arith, z)) refl) in
     let d : 15 ≡ a .code = ap (λ (y : Answer). y .code) (house-answers-one [] r n noHeader a fits h) in
     omega (arith, d, e)
 

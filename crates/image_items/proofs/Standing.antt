@@ -1,6 +1,7 @@
 -- One item of an image: what the code finds at a place is what is defined, and nothing else is. Assumes nothing.
 use mathlib.Core.Path.{_≡_, refl, sym, _∙_, ap, subst}
 use mathlib.Core.Logic.{_≢_}
+use mathlib.Core.Bool.{true, false≢true}
 use mathlib.Core.List.{List, [], _∷_, _++_, head-eq-of-cons-eq, tail-eq-of-cons-eq, nil≢cons}
 use mathlib.Core.Option.{Option, none, some}
 use Prim.Native.Nat.{ℕ, _+_, _-_, _≤_, _<_}
@@ -10,8 +11,7 @@ use lib.ListN.{length, getD, drop, drop-of-length-le}
 use lib.Seq.{drop-cons}
 use Rattle.answer.specs.declared.Answer.{Answer}
 use Rattle.answer.specs.Table.{picked, brokenImage}
-use Rattle.list.specs.Listing.{Leaf, Kind, group, choice, leaf, Listing, size, rowAt}
-use Rattle.list.specs.Content.{GroupOf}
+use Rattle.list.specs.Listing.{Leaf, Kind, group, choice, leaf, Listing, size, rowAt, isGroup}
 use Rattle.list.specs.WellFormed.{WellFormed, KindOk}
 use Rattle.list.specs.Table.{cell, listOf}
 use Rattle.list.specs.Sound.{Sound}
@@ -39,8 +39,8 @@ module _ (l : Listing) (wf : WellFormed l) (run : List ℕ) (from : ℕ) where
   same-row x y u v e f = (head-eq-of-cons-eq (sym e ∙ f), tail-eq-of-cons-eq (sym e ∙ f))
 
   -- no row is a group's and a leaf's
-  mixed : (x y : ℕ) (f : Leaf) → x ≡ y → GroupOf IsValue l (rowAt l x .kind) → rowAt l y .kind ≡ leaf f → ⊥
-  mixed x y f e g k = subst (GroupOf IsValue l) (ap (λ (r : ℕ). rowAt l r .kind) e ∙ k) g
+  mixed : (x y : ℕ) (f : Leaf) → x ≡ y → isGroup (rowAt l x .kind) ≡ true → rowAt l y .kind ≡ leaf f → ⊥
+  mixed x y f e g k = false≢true (subst (λ (q : Kind). isGroup q ≡ true) (ap (λ (r : ℕ). rowAt l r .kind) e ∙ k) g)
 
   abbrev Three : ℕ → ℕ → ℕ → ℕ → ℕ → ℕ → Type 0
   Three r p n s q m = (r ≡ s) × (p ≡ q) × (n ≡ m)
@@ -71,7 +71,7 @@ module _ (l : Listing) (wf : WellFormed l) (run : List ℕ) (from : ℕ) where
 
 -- the header says one list
 says-headed : (run : List ℕ) (l : Listing) (x : SaysList run l) → Headed run (l .byte) (length (x .head))
-says-headed run l x = leads l (x .among) (x .head) (x .behind) (x .front) (x .at) refl refl
+says-headed run l x = leads l (x .among) (x .head) (x .after) (x .front) (x .at) refl refl
 
 says-one : (run : List ℕ) (l m : Listing) → SaysList run l → SaysList run m → l ≡ m
 says-one run l m x y =
@@ -102,7 +102,7 @@ module _ (run : List ℕ) (from : ℕ) where
 
   -- nor anywhere in a run that begins as no image does
   pub unheaded : (kind start : ℕ) → Headed run kind start → kind ≡ 0 → (a : Answer) (n : ℕ) → (a ≡ brokenImage from) × (n ≡ 0) → HouseItem run from a n
-  unheaded kind start (bare h k f) z a n e = lacking (λ l i r p m x. h l (i .among) (i .head) (i .behind) (i .front) (i .at)) (e .0) (e .1)
+  unheaded kind start (bare h k f) z a n e = lacking (λ l i r p m x. h l (i .among) (i .head) (i .after) (i .front) (i .at)) (e .0) (e .1)
   unheaded kind start (leads l i h s f at k g) z a n e = absurd (omega (arith, kept-well l i .byte .0, k, z))
 
 -- what is told by one list
@@ -154,10 +154,10 @@ module _ (t pool : List ℕ) (so : Sound t pool) (run : List ℕ) (from x : ℕ)
               ending t pool so run .none x (from + 1) low high (omega arith) (omega arith) (sym ee ∙ y) v u
               (d ∙ ap (λ (s : ℕ). valueBytes values l (rowAt l s .kind) v ++ u) (sym q)) (subst (λ (s : ℕ). OfKind values l (rowAt l s .kind) v) (sym q) o)
 
-          bare-bytes : (k : Kind) → GroupOf IsValue l k → valueBytes values l k none ≡ []
+          bare-bytes : (k : Kind) → isGroup k ≡ true → valueBytes values l k none ≡ []
           bare-bytes group g = refl
           bare-bytes choice g = refl
-          bare-bytes (leaf f) g = absurd g
+          bare-bytes (leaf f) g = absurd (false≢true g)
 
           go : (row place m : ℕ) → Stands l run from row place m → ⊥
           go r p m (closes c u d ep en) = z (its 0 u d .0)
@@ -168,7 +168,7 @@ module _ (t pool : List ℕ) (so : Sound t pool) (run : List ℕ) (from x : ℕ)
 
       -- what stands there: a group's row, or a leaf's with a value of its type
       data Found : Type 0 where
-        lone : GroupOf IsValue l (rowAt l x .kind) → end ≡ from + 1 → Found
+        lone : isGroup (rowAt l x .kind) ≡ true → end ≡ from + 1 → Found
         full : (f : Leaf) → rowAt l x .kind ≡ leaf f → (v : Value) → IsValue f v → drop (from + 1) run ≡ bytes v ++ drop end run → end ≡ from + 1 + length (bytes v) → Found
 
       found : end ≢ 0 → Found
@@ -180,7 +180,7 @@ module _ (t pool : List ℕ) (so : Sound t pool) (run : List ℕ) (from x : ℕ)
               → drop (from + 1) run ≡ valueBytes values l (rowAt l x .kind) v ++ drop end run → end ≡ from + 1 + length (valueBytes values l (rowAt l x .kind) v) → Found
           go group e none g d n = lone g (n ∙ rw e (omega arith))
           go choice e none g d n = lone g (n ∙ rw e (omega arith))
-          go (leaf f) e none g d n = absurd (subst (GroupOf IsValue l) e g)
+          go (leaf f) e none g d n = absurd (false≢true (subst (λ (k : Kind). isGroup k ≡ true) e g))
           go group e (some v) g d n = absurd (subst (λ (k : Kind). OfKind values l k (some v)) e g)
           go choice e (some v) g d n = absurd (subst (λ (k : Kind). OfKind values l k (some v)) e g)
           go (leaf f) e (some v) g d n =
@@ -243,7 +243,7 @@ module _ (at : AtByte) where
         go : Headed run kind start → SaysList run (listOf t housePool)
         go (bare e k f) = absurd (known k)
         go (leads l i g s f e k o) =
-            subst (SaysList run) (sym (ap (λ (z : List ℕ). listOf z housePool) (et ∙ ap keptRows k) ∙ stored-is l i)) (record { among = i; head = g; front = f; behind = s; at = e })
+            subst (SaysList run) (sym (ap (λ (z : List ℕ). listOf z housePool) (et ∙ ap keptRows k) ∙ stored-is l i)) (record { among = i; head = g; front = f; after = s; at = e })
 
     house : (a : Answer) (n : ℕ) → Told (listOf t housePool) run from a n → HouseItem run from a n
     house a n o = by-header run from a n (listOf t housePool) its-list o

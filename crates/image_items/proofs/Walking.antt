@@ -1,5 +1,6 @@
 -- Over an image that the reader accepts: from its first item on, what stands at each place is its content's next item. Assumes nothing.
 use mathlib.Core.Path.{_≡_, refl, sym, _∙_, ap, subst}
+use mathlib.Core.Bool.{false≢true}
 use mathlib.Core.List.{List, [], _∷_, _++_, append-assoc}
 use mathlib.Core.Option.{Option, none, some}
 use Prim.Native.Nat.{ℕ, _+_, _-_, _≤_, _<_}
@@ -17,7 +18,7 @@ use Rattle.value.specs.Value.{Value, IsValue, bytes}
 use Rattle.image.specs.Image.{Item, valueBytes, itemBytes, itemsBytes as bytesOf}
 use Rattle.image.specs.Kinds.{lengthBytes, values}
 use Rattle.image.specs.mirror.Follow.{OfKind, ItemOk, Trail, Whole}
-use Rattle.image.proofs.content.Rows.{is-group, next-in, well}
+use Rattle.image.proofs.content.Rows.{next-in, well}
 use Rattle.image.proofs.content.Begins.{content-whole, root-group}
 use Rattle.image.proofs.types.Lawful.{lawful}
 use Rattle.image_reading.specs.Reads.{HouseAccepts}
@@ -50,7 +51,7 @@ module _ (l : Listing) where
   whole-rowed : WellFormed l → (is : List (Item values)) → Whole values l is → Rowed is
   whole-rowed wf is h =
       subst Rowed (sym (h .is))
-      ((omega arith, omega (arith, well l wf .rows)), is-group IsValue l (rowAt l 1 .kind) (root-group values lawful l wf), trail-rowed (h .inside) 1 (h .trail))
+      ((omega arith, omega (arith, well l wf .rows)), root-group values lawful l wf, trail-rowed (h .inside) 1 (h .trail))
 
 module _ (run : List ℕ) where
   -- what follows a beginning of the rest
@@ -89,7 +90,7 @@ module _ (run : List ℕ) where
       one : (k : Kind) → rowAt l r .kind ≡ k → (v : Option Value) → OfKind values l (rowAt l r .kind) v → drop at run ≡ r ∷ (valueBytes values l k v ++ u) → Along l run at ((r, v) ∷ is)
       one group k none o e = lone o e
       one choice k none o e = lone o e
-      one (leaf f) k none o e = absurd (subst (λ (x : Kind). OfKind values l x none) k o)
+      one (leaf f) k none o e = absurd (false≢true (subst (λ (x : Kind). OfKind values l x none) k o))
       one group k (some v) o e = absurd (subst (λ (x : Kind). OfKind values l x (some v)) k o)
       one choice k (some v) o e = absurd (subst (λ (x : Kind). OfKind values l x (some v)) k o)
       one (leaf f) k (some v) o e = full f k v (subst (λ (x : Kind). OfKind values l x (some v)) k o) e
@@ -104,7 +105,7 @@ module _ (run : List ℕ) where
 -- the image that a run begins with: its items, from where they begin
 module _ (run : List ℕ) (n : ℕ) (w : HouseAccepts run n) where
   its-list : SaysList run (w .list)
-  its-list = record { among = w .among; head = w .head; front = w .front; behind = w .behind; at = w .at }
+  its-list = record { among = w .among; head = w .head; front = w .front; after = w .after; at = w .at }
 
   pub items-begin : (kind from : ℕ) → Headed run kind from → (kind ≡ w .list .byte) × (from ≡ length (w .head))
   items-begin kind from h = headed-one run kind (w .list .byte) from (length (w .head)) h (accepts-headed run n w)
@@ -116,4 +117,4 @@ module _ (run : List ℕ) (n : ℕ) (w : HouseAccepts run n) where
       let wf = kept-well (w .list) (w .among) in
       let e = items-begin kind from h .1 in
       along run (w .list) its-list (items c) from (w .holds .rest) (whole-rowed (w .list) wf (items c) (content-whole values lawful (w .list) wf c (w .holds .meets)))
-      (ap (drop from) (w .at) ∙ drop-at (w .head) (w .behind) from (sym e) ∙ w .holds .at ∙ append-assoc x (0 ∷ []) (w .holds .rest))
+      (ap (drop from) (w .at) ∙ drop-at (w .head) (w .after) from (sym e) ∙ w .holds .at ∙ append-assoc x (0 ∷ []) (w .holds .rest))

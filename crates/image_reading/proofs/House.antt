@@ -154,7 +154,7 @@ module _ (run : List ℕ) where
 
   -- as its first image does, where it begins with one
   pub accepts-headed : (n : ℕ) (w : HouseAccepts run n) → Headed run (w .list .byte) (length (w .head))
-  accepts-headed n w = leads (w .list) (w .among) (w .head) (w .behind) (w .front) (w .at) refl refl
+  accepts-headed n w = leads (w .list) (w .among) (w .head) (w .after) (w .front) (w .at) refl refl
 
 -- ---- reading
 
@@ -189,7 +189,7 @@ module _ (run : List ℕ) where
       behind-some = let o = body-some t housePool (y .sound) run from in (o .0, home (λ m u from. Tells values m u from (o .0)) (o .1))
 
     accepting-here : (n : ℕ) → Holds values l s n → HouseAccepts run (length h + n)
-    accepting-here n w = record { list = l; among = i; head = h; front = f; behind = s; at = at; size = n; holds = w; long = refl }
+    accepting-here n w = record { list = l; among = i; head = h; front = f; after = s; at = at; size = n; holds = w; long = refl }
 
     tells-reads : (a : Answer) → Tells values l s (length h) a → HouseReads run a
     tells-reads a (held n w d) = wholeImage lim (length h + n) (accepting-here n w) d
@@ -264,7 +264,7 @@ module _ (run t : List ℕ) (k : ℕ) (y : Says t k) where
       content = content;
       meets = subst (λ (l : Listing). Meets IsValue l content) its (w .holds .meets);
       rest = w .holds .rest;
-      at = ap (drop from) (w .at) ∙ drop-at (w .head) (w .behind) from (sym e) ∙ w .holds .at ∙ ap (λ (l : Listing). body values l content ++ w .holds .rest) its;
+      at = ap (drop from) (w .at) ∙ drop-at (w .head) (w .after) from (sym e) ∙ w .holds .at ∙ ap (λ (l : Listing). body values l content ++ w .holds .rest) its;
       long = w .holds .long ∙ ap (λ (l : Listing). length (body values l content)) its;
     }
 
@@ -286,10 +286,10 @@ module _ (run t : List ℕ) (x : Reading) (y : Says t (x .kind)) where
 
   module _ (b : Begun run x) (r n : ℕ) where
     pub begun-answers : x .answer .code ≡ 0 → (a : Answer) → Answered t (itemEnd t run) run (x .from) r n a → HouseAnswers run r n a
-    begun-answers z a h = record { part = h .part; picks = begun-picks b z r n a (h .part) (h .chooses) }
+    begun-answers z a h = (h .part, begun-picks b z r n a (h .part) (h .chooses))
 
     pub begun-hands : x .answer .code ≡ 0 → (part : List ℕ) → Handed t (itemEnd t run) run (x .from) r n part → HouseHands run r n part
-    begun-hands z part h = record { answer = h .answer; picks = begun-picks b z r n (h .answer) part (h .chooses) }
+    begun-hands z part h = (h .answer, begun-picks b z r n (h .answer) part (h .chooses))
 
 module _ (run : List ℕ) where
   pub begun-none : (x : Reading) → Begun run x → (r n : ℕ) → x .answer .code ≢ 0 → HousePicks run r n (x .answer) []
@@ -341,11 +341,11 @@ module _ (run : List ℕ) where
   -- so a run that is refused, and a row of no leaf, have no answer that accepts
   pub begun-nowhere : (x : Reading) → Begun run x → (r n : ℕ) → x .answer .code ≢ 0 → (a : Answer) → HouseAnswers run r n a → a .code ≡ 0 → ⊥
   begun-nowhere x b r n z a h e =
-      z (ap (λ (y : Answer). y .code) (house-answers-one r n (x .answer) a (record { part = []; picks = begun-none x b r n z }) h) ∙ e)
+      z (ap (λ (y : Answer). y .code) (house-answers-one r n (x .answer) a ([], begun-none x b r n z) h) ∙ e)
 
   pub group-nowhere : (x : Reading) → Begun run x → (r n : ℕ) → x .answer .code ≡ 0 → houseKind r < 2 → (a : Answer) → HouseAnswers run r n a → a .code ≡ 0 → ⊥
   group-nowhere x b r n z k a h e =
-      let d : 18 ≡ a .code = ap (λ (y : Answer). y .code) (house-answers-one r n noSuchLeaf a (record { part = []; picks = begun-group x b r n z k }) h) in
+      let d : 18 ≡ a .code = ap (λ (y : Answer). y .code) (house-answers-one r n noSuchLeaf a ([], begun-group x b r n z k) h) in
       omega (arith, d, e)
 
   -- nor a second count; some fits; and of an image that is accepted, it is at most the image's length less four
@@ -405,5 +405,5 @@ module _ (run : List ℕ) where
 module _ (run t : List ℕ) (x : Reading) (y : Says t (x .kind)) (b : Begun run x) (r n : ℕ) where
   pub begun-answered : x .answer .code ≡ 0 → (part : List ℕ) → Handed t (itemEnd t run) run (x .from) r n part → (a : Answer) → HouseAnswers run r n a → Answered t (itemEnd t run) run (x .from) r n a
   begun-answered z part h a k =
-      let d : h .answer ≡ a = house-answers-one run r n (h .answer) a (record { part = part; picks = begun-picks run t x y b z r n (h .answer) part (h .chooses) }) k in
+      let d : h .answer ≡ a = house-answers-one run r n (h .answer) a (part, begun-picks run t x y b z r n (h .answer) part (h .chooses)) k in
       subst (Answered t (itemEnd t run) run (x .from) r n) d (record { part = part; chooses = h .chooses })

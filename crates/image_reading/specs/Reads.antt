@@ -8,7 +8,7 @@ pub use Rattle.list_house.specs.Lists.{stored}
 use Rattle.image.specs.Kinds.{values}
 use Rattle.image.specs.Place.{Accepts, Reads}
 use Rattle.image.specs.Count.{CountsItems}
-use Rattle.image.specs.Pick.{Lies, Picks, PickAnswers, Hands}
+use Rattle.image.specs.Pick.{Lies, Picks}
 
 -- the run begins with an image, n bytes long
 abbrev pub HouseAccepts : List ℕ → ℕ → Type 0
@@ -22,15 +22,16 @@ HouseReads run a = Reads values stored run a
 abbrev pub HouseCounts : List ℕ → Answer → ℕ → Type 0
 HouseCounts run a n = CountsItems values stored run a n
 
--- what picking answers and hands back: both together, the answer, the part
+-- what picking answers and hands back: both together; of the call that gives the answer, where there is a part to it; of the call that hands back the
+-- part, where there is an answer to it
 abbrev pub HousePicks : List ℕ → ℕ → ℕ → Answer → List ℕ → Type 0
 HousePicks run r n a part = Picks values stored run r n a part
 
 abbrev pub HouseAnswers : List ℕ → ℕ → ℕ → Answer → Type 0
-HouseAnswers run r n a = PickAnswers values stored run r n a
+HouseAnswers run r n a = (part : List ℕ) × HousePicks run r n a part
 
 abbrev pub HouseHands : List ℕ → ℕ → ℕ → List ℕ → Type 0
-HouseHands run r n part = Hands values stored run r n part
+HouseHands run r n part = (a : Answer) × HousePicks run r n a part
 
 -- "It hands back that part of the lent image itself": these bytes, and they lie in the run where the answer says
 pub record HousePicked (run : RefT (List ℕ)) (r n : ℕ) (s : RefT (List ℕ)) : Type 0 where

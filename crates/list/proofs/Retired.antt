@@ -1,6 +1,7 @@
 -- What meets a list and has no row that is gone meets the narrower list too, where that asks for more only of rows whose siblings are gone. Assumes nothing.
 use mathlib.Core.Path.{_≡_, refl, sym, _∙_, ap, subst}
 use mathlib.Core.Logic.{_⊎_, inl, inr}
+use mathlib.Core.Bool.{true}
 use mathlib.Core.List.{List, [], _∷_, _++_}
 use mathlib.Core.Option.{Option}
 use Prim.Native.Nat.{ℕ, zero, suc, _-_, _<_}
@@ -9,8 +10,8 @@ use lib.ListN.{length, getD, set}
 use borrow.Author.Tests.{eq-eqb}
 use Rattle.text.specs.Lists.{Each}
 use Rattle.list.specs.Words.{times}
-use Rattle.list.specs.Listing.{Leaf, Kind, Row, Rule, Listing, noRow, rowAt, Child}
-use Rattle.list.specs.Content.{Content, end, value, node, rows, items, CountOk, Keeps, Children, ValueOf, GroupOf, Good, Meets}
+use Rattle.list.specs.Listing.{Leaf, Kind, Row, Rule, Listing, noRow, rowAt, Child, isGroup}
+use Rattle.list.specs.Content.{Content, end, value, node, rows, items, CountOk, Keeps, Children, ValueOf, Good, Meets}
 use Rattle.list.specs.Within.{Within}
 use Rattle.list.specs.Changed.{changed, altered, Gone}
 use Rattle.list.proofs.Within.{child-within, theirs-without}
@@ -109,7 +110,7 @@ module _ (l m : Listing) (w : Within l m) (t : Retires l m) where
     good-of (value r v k) g h = (subst (λ (x : Kind). ValueOf Is l x v) (sym (w .kinds r)) (g .0), good-of k (g .1) (h .1))
     good-of (node r c k) g h =
         let a = each-first (λ (i : ℕ × Option A). Gone l (i .0) → ⊥) (items c) (items k) (h .1) in (
-          (subst (λ (x : Kind). GroupOf Is l x) (sym (w .kinds r)) (g .0 .0), children-of r (rows c) (g .0 .1) (rows-of (λ q. Gone l q → ⊥) c a)),
+          (subst (λ (x : Kind). isGroup x ≡ true) (sym (w .kinds r)) (g .0 .0), children-of r (rows c) (g .0 .1) (rows-of (λ q. Gone l q → ⊥) c a)),
           good-of c (g .1) a,
           good-of k (g .2) (each-last (λ (i : ℕ × Option A). Gone l (i .0) → ⊥) (items c) (items k) (h .1)),
         )

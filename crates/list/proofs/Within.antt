@@ -1,10 +1,11 @@
 -- What meets a list meets the list that it lies within. Assumes nothing.
 use mathlib.Core.Path.{_≡_, refl, sym, _∙_, subst}
+use mathlib.Core.Bool.{true}
 use mathlib.Core.List.{List, [], _∷_}
 use Prim.Native.Nat.{ℕ, _≤_}
 use Rattle.text.specs.Lists.{Each}
-use Rattle.list.specs.Listing.{Leaf, Kind, choice, Rule, Listing, rowAt, Child}
-use Rattle.list.specs.Content.{Content, end, value, node, rows, Keeps, Children, ValueOf, GroupOf, Good, Meets}
+use Rattle.list.specs.Listing.{Leaf, Kind, choice, Rule, Listing, rowAt, Child, isGroup}
+use Rattle.list.specs.Content.{Content, end, value, node, rows, Keeps, Children, ValueOf, Good, Meets}
 use Rattle.list.specs.Within.{Within}
 
 pub within-itself : (l : Listing) → Within l l
@@ -40,7 +41,7 @@ module _ (l m : Listing) (w : Within l m) where
     good-within end g = tt
     good-within (value r v k) g = (subst (λ (x : Kind). ValueOf Is l x v) (w .kinds r) (g .0), good-within k (g .1))
     good-within (node r c k) g = (
-      (subst (λ (x : Kind). GroupOf Is l x) (w .kinds r) (g .0 .0), children-within r (rows c) (g .0 .1)),
+      (subst (λ (x : Kind). isGroup x ≡ true) (w .kinds r) (g .0 .0), children-within r (rows c) (g .0 .1)),
       good-within c (g .1),
       good-within k (g .2),
     )

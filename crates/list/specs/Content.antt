@@ -1,13 +1,14 @@
 -- Content: "the tree of rows with values"; what a list asks of one. Assumes nothing.
 use mathlib.Core.Path.{_≡_}
 use mathlib.Core.Logic.{_↔_}
+use mathlib.Core.Bool.{true}
 use mathlib.Core.List.{List, [], _∷_, _++_}
 use mathlib.Core.Option.{Option, none, some}
 use Prim.Native.Nat.{ℕ, _≤_, _<_}
 use lib.ListN.{length}
 use Rattle.text.specs.Lists.{Each}
 use Rattle.list.specs.Words.{times, Ordered}
-use Rattle.list.specs.Listing.{Leaf, Kind, group, choice, leaf, Count, one, optional, any, alternative, Rule, both, Listing, rowAt, Child}
+use Rattle.list.specs.Listing.{Leaf, Kind, group, choice, leaf, Count, one, optional, any, alternative, Rule, both, Listing, rowAt, Child, isGroup}
 
 -- nothing more; a leaf of a row with its value, and what follows it; a group of a row, what stands in it, and what follows it
 pub data Content (A : Type 0) : Type 0 where
@@ -58,16 +59,11 @@ module _ {A : Type 0} (Is : Leaf → A → Type 0) (l : Listing) where
   ValueOf choice v = ⊥
   ValueOf (leaf k) v = Is k v
 
-  abbrev pub GroupOf : Kind → Type 0
-  GroupOf group = Unit {0}
-  GroupOf choice = Unit {0}
-  GroupOf (leaf k) = ⊥
-
   -- every group in it keeps to its row, every leaf to its type
   abbrev pub Good : Content A → Type 0
   Good end = Unit {0}
   Good (value r v k) = ValueOf (rowAt l r .kind) v × Good k
-  Good (node r c k) = (GroupOf (rowAt l r .kind) × Children l r (rows c)) × Good c × Good k
+  Good (node r c k) = ((isGroup (rowAt l r .kind) ≡ true) × Children l r (rows c)) × Good c × Good k
 
   -- a whole content: the root, and all that is in it
   pub record Meets (c : Content A) : Type 0 where

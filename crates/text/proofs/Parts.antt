@@ -11,7 +11,7 @@ use lib.Dec.{eqb}
 use lib.ListN.{length, getD, take, drop, drop-of-length-le, take-append-drop, length-drop, length-take, length-append}
 use lib.Seq.{slice, drop-cons, take-nil, take-length, take-append-seam, getD-drop, getD-take}
 use borrow.Author.Tests.{eq-eqb, ne-eqb, eqb-true}
-use Rattle.text.specs.Lists.{same}
+use Rattle.text.specs.Lists.{same, LongestBeginning}
 use Rattle.text.specs.Words.{starts}
 use Rattle.text.proofs.Classes.{and-is, not-so}
 
@@ -149,3 +149,8 @@ part-word w s i = rw (take-length w, part-take i (length w) s)
 pub word-short : (w s : List ℕ) (i n : ℕ) → n ≡ length (slice i (length s) s) → n < length w → false ≡ starts w (drop i s)
 word-short w s i n e h =
     sym (starts-short w (drop i s) (omega (arith, part-length i (length s) s, length-drop i s)))
+
+-- ---- the longest beginning of a kind is one
+
+pub longest-one : (P : List ℕ → Type 0) (s : List ℕ) (m n : ℕ) → LongestBeginning P s m → LongestBeginning P s n → m ≡ n
+longest-one P s m n a b = omega (arith, a .most n (b .within) (b .begins), b .most m (a .within) (a .begins))

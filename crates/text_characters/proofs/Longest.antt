@@ -9,8 +9,8 @@ use native.Mathlib.Nat.{zero-add, add-zero, add-assoc, suc-add}
 use lib.ListN.{length, take, drop, take-append-drop, length-append, length-drop}
 use lib.Seq.{length-take-le, take-length, drop-append-seam, take-append-seam, take-add, drop-drop}
 use borrow.Author.Tests.{ltb-true}
-use Rattle.text.specs.Lists.{Each, span}
-use Rattle.text_characters.specs.Utf8.{Scalar, encode, encodeAll, Utf8, LongestUtf8}
+use Rattle.text.specs.Lists.{Each, span, LongestBeginning}
+use Rattle.text_characters.specs.Utf8.{Scalar, encode, encodeAll, Utf8}
 use Rattle.text_characters.specs.Chars.{Begun}
 use Rattle.text_characters.specs.mirror.Decoding.{isAscii, decoded}
 use Rattle.text_characters.specs.declared.utf8.Char.{Char}
@@ -18,17 +18,11 @@ use Rattle.text_characters.proofs.Chars as chars
 use Rattle.text.proofs.Spans.{span-le}
 use Rattle.text_characters.proofs.Decoding.{complete, sound, decoded-end, decoded-ascii, encode-some}
 
--- ---- only one length fits
-
-pub longest-utf8-one : (s : List ℕ) (m n : ℕ) → LongestUtf8 s m → LongestUtf8 s n → m ≡ n
-longest-utf8-one s m n a b =
-    omega (arith, a .most n (b .within) (b .begins), b .most m (a .within) (a .begins))
-
 -- the longest is all of it exactly where all of it is UTF-8
-pub utf8-whole : (s : List ℕ) → LongestUtf8 s (length s) → Utf8 s
+pub utf8-whole : (s : List ℕ) → LongestBeginning Utf8 s (length s) → Utf8 s
 utf8-whole s l = subst Utf8 (take-length s) (l .begins)
 
-pub whole-utf8 : (s : List ℕ) (n : ℕ) → LongestUtf8 s n → Utf8 s → n ≡ length s
+pub whole-utf8 : (s : List ℕ) (n : ℕ) → LongestBeginning Utf8 s n → Utf8 s → n ≡ length s
 whole-utf8 s n l u = omega (arith, l .within, l .most (length s) (omega arith) (subst Utf8 (sym (take-length s)) u))
 
 -- ---- by the first character
@@ -57,7 +51,7 @@ module _ (l : List ℕ) (k : ℕ) (h : k ≤ length l) where
   next-of : Utf8 (take k l) → (k ≡ 0) ⊎ Next l k (decoded l .len)
   next-of u = by-first (u .chars) (u .scalars) (u .is)
 
-pub stop : (l : List ℕ) → decoded l .len ≡ 0 → LongestUtf8 l 0
+pub stop : (l : List ℕ) → decoded l .len ≡ 0 → LongestBeginning Utf8 l 0
 stop l e =
     record {
       within = zero-le;
@@ -68,7 +62,7 @@ stop l e =
 begins-of : (l : List ℕ) → 0 < decoded l .len → Begun Scalar encode (λ (c : ℕ). c) l (decoded l)
 begins-of l h = ⊎-elim (λ e. absurd (let z : decoded l .len ≡ 0 = ap (λ (r : Char). r .len) e in omega arith)) (λ b. b) (sound l)
 
-pub more : (l : List ℕ) (m : ℕ) → 0 < decoded l .len → LongestUtf8 (drop (decoded l .len) l) m → LongestUtf8 l (decoded l .len + m)
+pub more : (l : List ℕ) (m : ℕ) → 0 < decoded l .len → LongestBeginning Utf8 (drop (decoded l .len) l) m → LongestBeginning Utf8 l (decoded l .len + m)
 more l m p o =
     let b = begins-of l p in
     let n : decoded l .len ≡ length (encode (b .sign)) = ap (λ (r : Char). r .len) (b .found) in
@@ -83,20 +77,20 @@ more l m p o =
           (next-of l k h u);
     }
 
-ascii-one : (x : ℕ) (l : List ℕ) (n : ℕ) → isAscii x ≡ true → LongestUtf8 l n → LongestUtf8 (x ∷ l) (suc n)
+ascii-one : (x : ℕ) (l : List ℕ) (n : ℕ) → isAscii x ≡ true → LongestBeginning Utf8 l n → LongestBeginning Utf8 (x ∷ l) (suc n)
 unfolding isAscii
 ascii-one x l n e o =
     let d : decoded (x ∷ l) .len ≡ 1 = ap (λ (r : Char). r .len) (decoded-ascii x l (ltb-true x 0x80 e)) in
     let k : decoded (x ∷ l) .len + n ≡ suc n = omega arith in
-    subst (LongestUtf8 (x ∷ l)) k (more (x ∷ l) n (omega arith) (subst (λ (j : ℕ). LongestUtf8 (drop j (x ∷ l)) n) (sym d) o))
+    subst (LongestBeginning Utf8 (x ∷ l)) k (more (x ∷ l) n (omega arith) (subst (λ (j : ℕ). LongestBeginning Utf8 (drop j (x ∷ l)) n) (sym d) o))
 
-pub ascii-more : (l : List ℕ) (m : ℕ) → LongestUtf8 (drop (span isAscii l) l) m → LongestUtf8 l (span isAscii l + m)
+pub ascii-more : (l : List ℕ) (m : ℕ) → LongestBeginning Utf8 (drop (span isAscii l) l) m → LongestBeginning Utf8 l (span isAscii l + m)
 unfolding span
 ascii-more [] m o = rw zero-add o
 ascii-more (x ∷ l) m o = go (isAscii x) refl (ascii-more l m) o
   where
-    go : (b : Bool) → isAscii x ≡ b → (LongestUtf8 (drop (span isAscii l) l) m → LongestUtf8 l (span isAscii l + m))
-        → LongestUtf8 (drop (cond b (suc (span isAscii l)) zero) (x ∷ l)) m → LongestUtf8 (x ∷ l) (cond b (suc (span isAscii l)) zero + m)
+    go : (b : Bool) → isAscii x ≡ b → (LongestBeginning Utf8 (drop (span isAscii l) l) m → LongestBeginning Utf8 l (span isAscii l + m))
+        → LongestBeginning Utf8 (drop (cond b (suc (span isAscii l)) zero) (x ∷ l)) m → LongestBeginning Utf8 (x ∷ l) (cond b (suc (span isAscii l)) zero + m)
     go true e ih o = rw suc-add (ascii-one x l (span isAscii l + m) e (ih o))
     go false e ih o = rw zero-add o
 
@@ -104,7 +98,7 @@ ascii-more (x ∷ l) m o = go (isAscii x) refl (ascii-more l m) o
 
 pub record Left (s : List ℕ) (i : ℕ) : Type 0 where
   pub within : i ≤ length s
-  pub then : (m : ℕ) → LongestUtf8 (drop i s) m → LongestUtf8 s (i + m)
+  pub then : (m : ℕ) → LongestBeginning Utf8 (drop i s) m → LongestBeginning Utf8 s (i + m)
 
 pub left-start : (s : List ℕ) → Left s 0
 left-start s = record { within = zero-le; then = λ m o. rw zero-add o }
@@ -133,8 +127,8 @@ module _ (s : List ℕ) (i : ℕ) (w : Left s i) where
               (w .then (decoded (drop i s) .len + m) (more (drop i s) m (omega (arith, len-is)) (rw drop-drop (rw len-is at o))));
         }
 
-    pub left-stop : n ≡ 0 → LongestUtf8 s i
+    pub left-stop : n ≡ 0 → LongestBeginning Utf8 s i
     left-stop z = rw add-zero at (w .then 0 (stop (drop i s) (sym len-is ∙ z)))
 
-  pub left-end : length s ≤ i → LongestUtf8 s i
+  pub left-end : length s ≤ i → LongestBeginning Utf8 s i
   left-end h = rw add-zero at (w .then 0 (stop (drop i s) (ap (λ (x : Char). x .len) (decoded-end s i h))))

@@ -13,10 +13,10 @@ use borrow.Author.Tests.{ne-eqb, eqb-false}
 use Rattle.text.specs.Lists.{same}
 use Rattle.text.specs.Words.{starts}
 use Rattle.text_characters.specs.Utf8.{Scalar, encode}
-use Rattle.text_characters.specs.Pieces.{less, ampersand, XmlChar, tab, line, return, low, middle, high, Entity, amp, lt, gt, quot, apos, word, stands, Piece, char, entity, spell, resolved, GoodPiece}
+use Rattle.text_characters.specs.Pieces.{less, ampersand, isXmlChar, Entity, amp, lt, gt, quot, apos, word, stands, Piece, char, entity, spell, resolved, GoodPiece}
 use Rattle.text_characters.specs.Chars.{charOf, Begun, NextChar, Decoded}
 use Rattle.text_characters.specs.mirror.Decoding.{decoded}
-use Rattle.text_characters.specs.mirror.Resolving.{isXmlChar, orElse, entityAt, plainAt, charAt}
+use Rattle.text_characters.specs.mirror.Resolving.{orElse, entityAt, plainAt, charAt}
 use Rattle.text_characters.specs.declared.utf8.Char.{Char}
 use Rattle.text.proofs.Classes.{Named, only, from, _or_, yes-in, is-in}
 use Rattle.text.proofs.Parts.{starts-is}
@@ -24,6 +24,15 @@ use Rattle.text_characters.proofs.Chars as chars
 use Rattle.text_characters.proofs.Decoding as decoding
 
 -- ---- XML characters
+
+-- `isXmlChar` case by case
+pub data XmlChar (c : ℕ) : Type 0 where
+  tab : c ≡ 0x9 → XmlChar c
+  line : c ≡ 0xA → XmlChar c
+  return : c ≡ 0xD → XmlChar c
+  low : 0x20 ≤ c → c ≤ 0xD7FF → XmlChar c
+  middle : 0xE000 ≤ c → c ≤ 0xFFFD → XmlChar c
+  high : 0x10000 ≤ c → c ≤ 0x10FFFF → XmlChar c
 
 pub xml-char : Named isXmlChar (only 0x9 or only 0xA or only 0xD or from 0x20 0xD7FF or from 0xE000 0xFFFD or from 0x10000 0x10FFFF)
 unfolding isXmlChar
@@ -104,7 +113,7 @@ char-complete c t x p q =
 
 pub complete : (p : Piece) (t : List ℕ) → GoodPiece p → charAt (spell p ++ t) ≡ charOf (length (spell p)) (resolved p)
 unfolding charAt entityAt starts same
-complete (char c) t g = char-complete c t (g .0) (g .1) (g .2)
+complete (char c) t g = char-complete c t (xml-char-is c (g .0)) (g .1) (g .2)
 complete (entity amp) t g = refl
 complete (entity lt) t g = refl
 complete (entity gt) t g = refl
@@ -156,7 +165,7 @@ plain-found x t p q =
         record {
           sign = char (b .sign);
           good =
-              (xml-char-is (b .sign) (ap isXmlChar (sym k) ∙ e), first-not (b .sign) (b .rest) (b .is) less (omega arith) q, first-not (b .sign) (b .rest) (b .is) ampersand (omega arith) p);
+              (ap isXmlChar (sym k) ∙ e, first-not (b .sign) (b .rest) (b .is) less (omega arith) q, first-not (b .sign) (b .rest) (b .is) ampersand (omega arith) p);
           rest = b .rest;
           is = b .is;
           found = b .found;

@@ -7,7 +7,8 @@ use Prim.Native.Nat.{ℕ, _≤_}
 use native.Mathlib.Omega.{arith}
 use Rattle.text.specs.Bytes.{isUnmarked}
 use Rattle.text.specs.Lists.{All}
-use Rattle.text_characters.specs.Pieces.{low, Entity, amp, lt, gt, quot, apos, stands, Piece, char, entity, spells, resolvedAll, Spells}
+use Rattle.text_characters.proofs.Resolving.{low, xml-char-yes}
+use Rattle.text_characters.specs.Pieces.{Entity, amp, lt, gt, quot, apos, stands, Piece, char, entity, spells, resolvedAll, Spells}
 use Rattle.text.proofs.Classes.{Named, only, from, _or_, is-in}
 use Rattle.text_characters.proofs.Decoding.{encode1}
 use Rattle.text_characters.proofs.Spelling.{one-text}
@@ -58,7 +59,7 @@ unmarked-own (c ∷ s) h =
     let k = o .high in
     record {
       pieces = char c ∷ r .pieces;
-      good = ((low (omega arith) (omega arith), o .notLess, o .notAmp), r .good);
+      good = ((xml-char-yes c (low (omega arith) (omega arith)), o .notLess, o .notAmp), r .good);
       is = ap₂ _++_ (sym (encode1 c (omega arith))) (r .is);
       chars = ap (λ (u : List ℕ). c ∷ u) (r .chars);
     }

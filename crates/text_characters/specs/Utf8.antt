@@ -4,7 +4,6 @@ use mathlib.Core.Bool.{cond}
 use mathlib.Core.List.{List, [], _∷_, _++_}
 use Prim.Native.Nat.{ℕ, _+_, _/_, _%_, _≤_, _<_}
 use lib.Dec.{ltb}
-use lib.ListN.{length, take}
 use Rattle.text.specs.Lists.{Each}
 
 -- a scalar value: a code point that is no surrogate
@@ -28,9 +27,3 @@ pub record Utf8 (s : List ℕ) : Type 0 where
   pub chars : List ℕ
   pub scalars : Each Scalar chars
   pub is : s ≡ encodeAll chars
-
--- the longest beginning that is UTF-8: after it stands the "start of first bad sequence"
-pub record LongestUtf8 (s : List ℕ) (n : ℕ) : Type 0 where
-  pub within : n ≤ length s
-  pub begins : Utf8 (take n s)
-  pub most : (k : ℕ) → k ≤ length s → Utf8 (take k s) → k ≤ n

@@ -3,10 +3,10 @@
 ghost use mathlib.Core.Path.{_≡_};
 ghost use Prim.Native.Nat.{_+_, _/_, _≤_, _<_};
 ghost use lib.ListN.{length, drop, getD};
+ghost use Rattle.text_characters.specs.Utf8.{Utf8};
 ghost use Rattle.text_characters.specs.Chars.{charOf, Decoded};
 ghost use Rattle.text_characters.specs.mirror.Decoding.{isAscii, AsciiOver, isTail, isScalar, kept, two, three, four, decoded, Paired};
-ghost use Rattle.text.specs.Lists.{span};
-ghost use Rattle.text_characters.specs.Utf8.{LongestUtf8};
+ghost use Rattle.text.specs.Lists.{span, LongestBeginning};
 
 // A character of a text: how many bytes spell it and its code point, or 0 and 0 where none begins.
 pub struct Char {
@@ -220,7 +220,7 @@ fn ascii_end(s: &[u8], at: usize) -> usize
 
 // The length of the longest beginning that is UTF-8.
 pub fn utf8_end(s: &[u8]) -> usize
-    ensures { λ r. ⌜ LongestUtf8 (now (s .entry)) r ⌝ }
+    ensures { λ r. ⌜ LongestBeginning Utf8 (now (s .entry)) r ⌝ }
 {
     let mut i = ascii_end(s, 0);
     while i < s.len() {

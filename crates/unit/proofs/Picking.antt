@@ -23,5 +23,5 @@ module _ (run : List ℕ) (r n : ℕ) (a : Answer) (part : List ℕ) where
   -- what the two calls of the picker say, together
   pub picks-both : HouseAnswers run r n a → HouseHands run r n part → HousePicks run r n a part
   picks-both w h =
-      let o = house-picks-one run r n a (h .answer) (w .part) part (w .picks) (h .picks) in
-      subst (λ (p : List ℕ). HousePicks run r n a p) (o .1) (w .picks)
+      let o = house-picks-one run r n a (h .0) (w .0) part (w .1) (h .1) in
+      subst (λ (p : List ℕ). HousePicks run r n a p) (o .1) (w .1)

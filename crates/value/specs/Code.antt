@@ -1,9 +1,9 @@
--- IBAN, CCY and ENUM. Assumes nothing.
+-- IBAN, CCY and ENUM, and the types side by side. Assumes nothing.
 use mathlib.Core.Path.{_≡_}
 use mathlib.Core.Bool.{Bool, _||_}
-use mathlib.Core.List.{List, [], _++_}
+use mathlib.Core.List.{List, []}
 use Prim.Native.Nat.{ℕ, _≤_}
-use lib.ListN.{length}
+use lib.ListN.{length, take, drop}
 use Rattle.text.specs.Bytes.{isCapital, isLetter, isDigit}
 use Rattle.text.specs.Lists.{All}
 use Rattle.list.specs.Listing.{Leaf, ref, iban, ccy, bool, num, amt, date, dtm, txt, enum}
@@ -13,29 +13,28 @@ isLetterOrDigit x = isLetter x || isDigit x
 
 -- "IBAN: two capitals, two digits, 1 to 30 ASCII letters or digits"
 pub record Iban (cs : List ℕ) : Type 0 where
-  pub country : List ℕ
-  pub check : List ℕ
-  pub rest : List ℕ
-  pub is : cs ≡ country ++ (check ++ rest)
-  pub capitals : (length country ≡ 2) × All isCapital country
-  pub digits : (length check ≡ 2) × All isDigit check
-  pub lengths : (1 ≤ length rest) × (length rest ≤ 30)
-  pub class : All isLetterOrDigit rest
+  pub lengths : (5 ≤ length cs) × (length cs ≤ 34)
+  pub capitals : All isCapital (take 2 cs)
+  pub digits : All isDigit (take 2 (drop 2 cs))
+  pub class : All isLetterOrDigit (drop 4 cs)
 
 -- "CCY: three capitals"
 pub record Ccy (cs : List ℕ) : Type 0 where
   pub three : length cs ≡ 3
   pub capitals : All isCapital cs
 
--- the words of a type, which ENUM alone has
+-- of each type: how many bytes stand before a value's own ("REF, TXT, IBAN, CCY: 16-bit byte length"), and its words, which ENUM alone has
+abbrev pub traits : Leaf → ℕ × List (List ℕ)
+traits ref = (2, [])
+traits iban = (2, [])
+traits ccy = (2, [])
+traits bool = (0, [])
+traits num = (0, [])
+traits amt = (0, [])
+traits date = (0, [])
+traits dtm = (0, [])
+traits (txt k) = (2, [])
+traits (enum ws) = (0, ws)
+
 abbrev pub wordsOf : Leaf → List (List ℕ)
-wordsOf ref = []
-wordsOf iban = []
-wordsOf ccy = []
-wordsOf bool = []
-wordsOf num = []
-wordsOf amt = []
-wordsOf date = []
-wordsOf dtm = []
-wordsOf (txt k) = []
-wordsOf (enum ws) = ws
+wordsOf k = traits k .1

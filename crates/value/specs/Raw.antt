@@ -2,12 +2,13 @@
 use mathlib.Core.Bool.{Bool, cond, _||_, not}
 use mathlib.Core.List.{List, [], _∷_, _++_}
 use Prim.Native.Nat.{ℕ}
+use Prim.Native.Char.{code}
 use lib.Dec.{eqb}
 use Rattle.text_characters.specs.Pieces.{ampersand, less, greater, amp, lt, gt, word, Piece, char, entity, spell}
 
 -- "`&` and `<` and `>` as entities in text"
 abbrev pub pieceOf : ℕ → Piece
-pieceOf c = cond (eqb c ampersand) (entity amp) (cond (eqb c less) (entity lt) (cond (eqb c greater) (entity gt) (char c)))
+pieceOf c = cond (eqb c (code "&")) (entity amp) (cond (eqb c (code "<")) (entity lt) (cond (eqb c (code ">")) (entity gt) (char c)))
 
 abbrev pub rawOf : List ℕ → List ℕ
 rawOf [] = []

@@ -9,9 +9,9 @@ use lib.Dec.{eqb}
 use lib.ListN.{length, length-append}
 use borrow.Author.Tests.{eqb-true, ne-eqb}
 use Rattle.text.specs.Bytes.{inRange, isBlank, isNameStart, isNamePart}
-use Rattle.text.specs.Lists.{All, Begins, same}
+use Rattle.text.specs.Lists.{All, Begins, same, Each}
 use Rattle.text.proofs.Parts.{same-eq, same-not}
-use Rattle.xml.specs.House.{IsName, IsAttrName, Fresh}
+use Rattle.xml.specs.House.{IsName, IsAttrName}
 use Rattle.xml.specs.mirror.Auto.{member}
 
 -- a blank is one of four bytes
@@ -98,6 +98,10 @@ full-name n (IsAttrName.prefixed p q i j e) = subst (Begins isNameStart isFullPa
 -- ---- names that differ
 
 -- `member` tells names apart
+-- a name that is none of those
+abbrev pub Fresh : List ℕ → List (List ℕ) → Type 0
+Fresh n ms = Each (λ (m : List ℕ). n ≢ m) ms
+
 pub fresh-member : (n : List ℕ) (ss : List (List ℕ)) → Fresh n ss → member n ss ≡ false
 fresh-member n [] f = refl
 fresh-member n (m ∷ ss) f = go (same n m) refl (fresh-member n ss (f .1))

@@ -7,15 +7,15 @@ use Prim.Native.Nat.{ℕ, zero, suc, _<_}
 use native.Mathlib.Omega.{arith}
 use lib.Dec.{ltb, eqb}
 use borrow.Author.Tests.{ltb-true, eqb-true}
-use Rattle.text.specs.Bytes.{isNameStart, isNamePart}
+use Rattle.text.specs.Bytes.{isNameStart, isNamePart, isBlank}
 use Rattle.text.specs.Lists.{Each, All, Begins}
 use Rattle.text.proofs.Classes.{name-part, name-start, blank, is-in, and-is}
 use Rattle.text_characters.specs.Pieces.{Entity, amp, lt, gt, quot, apos, Piece, spell, spells, GoodPiece, less, greater, solidus, equal}
 use Rattle.text_characters.specs.Pieces as pieces
 use Rattle.text_characters.specs.Utf8.{Scalar, encode, encodeAll, Utf8}
 use Rattle.text_characters.proofs.Decoding.{encode1}
-use Rattle.text_characters.proofs.Resolving.{xml-scalar}
-use Rattle.xml.specs.House.{Blanks, Quote, mark, GoodValue, Attr, attr, attrs, GoodAttr, GoodAttrs, Tag, tag, GoodTag, render, GoodMarkup, declaration, Tree, whole, GoodTree, HouseXml}
+use Rattle.text_characters.proofs.Resolving.{xml-char-is, xml-scalar}
+use Rattle.xml.specs.House.{Quote, mark, GoodValue, Attr, attr, attrs, GoodAttr, GoodAttrs, Tag, tag, GoodTag, render, GoodMarkup, declaration, Tree, whole, GoodTree, HouseXml}
 use Rattle.xml.specs.House as X
 use Rattle.xml.proofs.Basics.{isFullPart, name-full, full-name}
 
@@ -46,7 +46,7 @@ utf8-low : (s : List ℕ) → lows s ≡ true → Utf8 s
 utf8-low [] h = utf8-none
 utf8-low (x ∷ s) h = let e = and-is (ltb x 128) (lows s) h in utf8-ascii x (ltb-true x 128 (e .0)) (utf8-low s (e .1))
 
-utf8-blanks : (s : List ℕ) → Blanks s → Utf8 s
+utf8-blanks : (s : List ℕ) → All isBlank s → Utf8 s
 utf8-blanks [] h = utf8-none
 utf8-blanks (x ∷ s) h = utf8-ascii x (elim (is-in blank x (h .0)) [ inl (inl (inl e)) ↦ omega arith | inl (inl (inr e)) ↦ omega arith | inl (inr e) ↦ omega arith | inr e ↦ omega arith ]) (utf8-blanks s (h .1))
 
@@ -78,7 +78,7 @@ utf8-name : (s : List ℕ) → Begins isNameStart isFullPart s → Utf8 s
 utf8-name [] h = absurd h
 utf8-name (x ∷ s) h = utf8-ascii x (start-low x (h .0)) (utf8-parts s (h .1))
 
-utf8-some : (s : List ℕ) → X.SomeBlanks s → Utf8 s
+utf8-some : (s : List ℕ) → Begins isBlank isBlank s → Utf8 s
 utf8-some [] h = absurd h
 utf8-some (x ∷ s) h = utf8-blanks (x ∷ s) h
 
@@ -90,12 +90,12 @@ utf8-word quot = utf8-low (spell (pieces.entity quot)) refl
 utf8-word apos = utf8-low (spell (pieces.entity apos)) refl
 
 utf8-piece : (p : Piece) → GoodPiece p → Utf8 (spell p)
-utf8-piece (pieces.char c) h = utf8-char c (xml-scalar c (h .0))
+utf8-piece (pieces.char c) h = utf8-char c (xml-scalar c (xml-char-is c (h .0)))
 utf8-piece (pieces.entity e) h = utf8-word e
 
 utf8-value : (q : Quote) (ps : List Piece) → GoodValue q ps → Utf8 (spells ps)
 utf8-value q [] h = utf8-none
-utf8-value q (p ∷ ps) h = utf8-append (utf8-piece p (h .0)) (utf8-value q ps (h .2))
+utf8-value q (p ∷ ps) h = utf8-append (utf8-piece p (h .0 .0)) (utf8-value q ps (h .1))
 
 mark-low : (q : Quote) → mark q < 128
 mark-low X.singleQuote = omega arith

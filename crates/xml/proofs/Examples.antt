@@ -6,8 +6,8 @@ use Prim.Native.Nat.{ℕ, zero, suc}
 use Prim.Native.String.{String}
 use lib.Dec.{eqb, T, eqb→eq}
 use Rattle.text.specs.Bytes.{ascii, isBlank, isNameStart, isNamePart}
-use Rattle.text.specs.Lists.{same}
-use Rattle.xml.specs.House.{Longest}
+use Rattle.text.specs.Lists.{same, LongestBeginning}
+use Rattle.xml.specs.House.{Viable}
 use Rattle.xml.specs.mirror.Auto.{at, start, step, next, lead, liveLen}
 use Rattle.xml.proofs.Theorem.{longest}
 
@@ -48,7 +48,7 @@ test (e ∷ es) = eqb (liveLen (at start) (e .bytes)) (e .place) && test es
 
 abbrev pub Each : List Example → Type 0
 Each [] = Unit {0}
-Each (e ∷ es) = Longest (e .bytes) (e .place) × Each es
+Each (e ∷ es) = LongestBeginning Viable (e .bytes) (e .place) × Each es
 
 both : (a b : Bool) → T (a && b) → T a × T b
 both true b t = (tt, t)
@@ -58,7 +58,7 @@ shown : (es : List Example) → T (test es) → Each es
 shown [] t = tt
 shown (e ∷ es) t =
     let w = both (eqb (liveLen (at start) (e .bytes)) (e .place)) (test es) t in
-    (subst (λ (k : ℕ). Longest (e .bytes) k) (eqb→eq (liveLen (at start) (e .bytes)) (e .place) (w .0)) (longest (e .bytes)), shown es (w .1))
+    (subst (λ (k : ℕ). LongestBeginning Viable (e .bytes) k) (eqb→eq (liveLen (at start) (e .bytes)) (e .place) (w .0)) (longest (e .bytes)), shown es (w .1))
 
 pub all-examples : Each examples
 unfolding examples liveLen step next lead isBlank isNameStart isNamePart same

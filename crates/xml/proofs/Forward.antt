@@ -8,12 +8,12 @@ use native.Mathlib.Omega.{arith}
 use lib.Dec.{leb, eqb}
 use borrow.Author.Tests.{eq-eqb, ne-eqb}
 use Rattle.text.specs.Bytes.{isBlank, isNameStart, isNamePart}
-use Rattle.text.specs.Lists.{All}
+use Rattle.text.specs.Lists.{All, Begins}
 use Rattle.text_characters.specs.Pieces.{Piece, char, spell}
-use Rattle.xml.specs.House.{Blanks, SomeBlanks, IsName, IsAttrName, Quote, singleQuote, double, mark, GoodValue, Attr, GoodAttr, Fresh, GoodAttrs, Tag, GoodTag, Markup, noMore, piece, emptyTag, full, OneElement, declaration}
+use Rattle.xml.specs.House.{IsName, IsAttrName, Quote, singleQuote, double, mark, GoodValue, Attr, GoodAttr, GoodAttrs, Tag, GoodTag, Markup, noMore, piece, emptyTag, full, OneElement, declaration}
 use Rattle.xml.proofs.Runs.{cuts, brackets, GoodAfter}
 use Rattle.xml.specs.mirror.Auto.{Part, Read, bad, all, more, lead, go-on, takes, At, done, start, first, before, root, name, tail, gap, attr, Mode, early, colon, late, grows, goesTo, mayStop, equals, quote, value, within, slash, content, part, less, close, St, at, member, after, endStep, valueNext, contentNext, next, step, run}
-use Rattle.xml.proofs.Basics.{by-blank, blank-no-rest, blank-no-start, no-colon, fresh-member}
+use Rattle.xml.proofs.Basics.{by-blank, blank-no-rest, blank-no-start, no-colon, fresh-member, Fresh}
 use Rattle.xml.proofs.Pieces.{Seen, s-short, s-long, seen, plain-brackets}
 use Rattle.xml.proofs.Lang.{Goes, spellsOn, attrOn, attrsOn, tagOn, endOn, on}
 
@@ -23,7 +23,7 @@ unfolding run step
 go s x u e = ap (λ (z : St). run z u) e
 
 -- blanks where they change nothing
-loop : (s : At) → ((x : ℕ) → isBlank x ≡ true → next s x ≡ at s) → (g u : List ℕ) → Blanks g → run (at s) (g ++ u) ≡ run (at s) u
+loop : (s : At) → ((x : ℕ) → isBlank x ≡ true → next s x ≡ at s) → (g u : List ℕ) → All isBlank g → run (at s) (g ++ u) ≡ run (at s) u
 loop s f [] u b = refl
 loop s f (x ∷ g) u b = go s x (g ++ u) (f x (b .0)) ∙ loop s f g u (b .1)
 
@@ -34,15 +34,15 @@ record Head (w : List ℕ) : Type 0 where
   is : w ≡ byte ∷ others
   ends : isNamePart byte ≡ false
 
-head-blanks : (g : List ℕ) (z : ℕ) (u : List ℕ) → Blanks g → isNamePart z ≡ false → Head (g ++ (z ∷ u))
+head-blanks : (g : List ℕ) (z : ℕ) (u : List ℕ) → All isBlank g → isNamePart z ≡ false → Head (g ++ (z ∷ u))
 head-blanks [] z u b e = record { byte = z; others = u; is = refl; ends = e }
 head-blanks (x ∷ g) z u b e = record { byte = x; others = g ++ (z ∷ u); is = refl; ends = blank-no-rest x (b .0) }
 
-head-some : (g u : List ℕ) → SomeBlanks g → Head (g ++ u)
+head-some : (g u : List ℕ) → Begins isBlank isBlank g → Head (g ++ u)
 head-some [] u b = absurd b
 head-some (x ∷ g) u b = record { byte = x; others = g ++ u; is = refl; ends = blank-no-rest x (b .0) }
 
-head-attrs : (l : List Attr) (k : ℕ) (ss : List (List ℕ)) (g : List ℕ) (z : ℕ) (u : List ℕ) → GoodAttrs k ss l → Blanks g → isNamePart z ≡ false → Head (attrsOn l (g ++ (z ∷ u)))
+head-attrs : (l : List Attr) (k : ℕ) (ss : List (List ℕ)) (g : List ℕ) (z : ℕ) (u : List ℕ) → GoodAttrs k ss l → All isBlank g → isNamePart z ≡ false → Head (attrsOn l (g ++ (z ∷ u)))
 head-attrs [] k ss g z u h b e = head-blanks g z u b e
 head-attrs (a ∷ l) zero ss g z u h b e = absurd h
 head-attrs (a ∷ l) (suc k) ss g z u h b e = head-some (a .gap) _ (h .0 .gap)
@@ -92,7 +92,7 @@ stops-equal early = refl
 stops-equal colon = refl
 stops-equal late = refl
 
-stops-before : (g u : List ℕ) → Blanks g → Stops (g ++ (61 ∷ u))
+stops-before : (g u : List ℕ) → All isBlank g → Stops (g ++ (61 ∷ u))
 stops-before [] u b = record { byte = 61; others = u; is = refl; ends = stops-equal }
 stops-before (x ∷ g) u b = record { byte = x; others = g ++ (61 ∷ u); is = refl; ends = stops-blank x (b .0) }
 
@@ -182,7 +182,7 @@ module _ (q : Quote) (k : ℕ) (ss : List (List ℕ)) (d : ℕ) (n : List ℕ) (
   value-run : (v : List Piece) (u : List ℕ) → GoodValue q v → run (at (value q k ss d n ns)) (spellsOn v (mark q ∷ u)) ≡ run (at (tail k ss d n ns)) u
   unfolding next
   value-run [] u g = go (value q k ss d n ns) (mark q) u (rw (eq-eqb (mark q) (mark q) refl) refl)
-  value-run (p ∷ ps) u g = value-piece p (spellsOn ps (mark q ∷ u)) (g .1) (seen p (g .0)) ∙ value-run ps u (g .2)
+  value-run (p ∷ ps) u g = value-piece p (spellsOn ps (mark q ∷ u)) (g .0 .1) (seen p (g .0 .0)) ∙ value-run ps u (g .1)
 
 -- attributes
 module _ (d : ℕ) (n : List ℕ) (ns : List (List ℕ)) where
@@ -190,7 +190,7 @@ module _ (d : ℕ) (n : List ℕ) (ns : List (List ℕ)) where
   unfolding next
   gap-loop k ss x e = rw (blank-no-start x e, e) refl
 
-  tail-gap : (k : ℕ) (ss : List (List ℕ)) (g u : List ℕ) → SomeBlanks g → run (at (tail k ss d n ns)) (g ++ u) ≡ run (at (gap k ss d n ns)) u
+  tail-gap : (k : ℕ) (ss : List (List ℕ)) (g u : List ℕ) → Begins isBlank isBlank g → run (at (tail k ss d n ns)) (g ++ u) ≡ run (at (gap k ss d n ns)) u
   unfolding next
   tail-gap k ss [] u b = absurd b
   tail-gap k ss (x ∷ g) u b = go (tail k ss d n ns) x (g ++ u) (rw (b .0) refl) ∙ loop (gap k ss d n ns) (gap-loop k ss) g u (b .1)
@@ -202,7 +202,7 @@ module _ (d : ℕ) (n : List ℕ) (ns : List (List ℕ)) where
       ∙ go (gap (suc k) ss d n ns) (o .head) (o .tail′ ++ u) (rw (o .starts) refl) ∙ attr-run (o .tail′) early (o .head ∷ []) k ss d n ns u (o .goes)
       ∙ ap (λ (z : List ℕ). run (at (attr (modeAfter early (o .tail′)) z k ss d n ns)) u) (sym (o .is))
 
-  equals-run : (k : ℕ) (ss : List (List ℕ)) (g u : List ℕ) → Blanks g → run (at (equals k ss d n ns)) (g ++ (61 ∷ u)) ≡ run (at (quote k ss d n ns)) u
+  equals-run : (k : ℕ) (ss : List (List ℕ)) (g u : List ℕ) → All isBlank g → run (at (equals k ss d n ns)) (g ++ (61 ∷ u)) ≡ run (at (quote k ss d n ns)) u
   unfolding next isBlank
   equals-run k ss g u b = loop (equals k ss d n ns) (λ x e. rw e refl) g (61 ∷ u) b ∙ go (equals k ss d n ns) 61 u refl
 
@@ -211,7 +211,7 @@ module _ (d : ℕ) (n : List ℕ) (ns : List (List ℕ)) where
   quote-mark k ss singleQuote = refl
   quote-mark k ss double = refl
 
-  quote-run : (k : ℕ) (ss : List (List ℕ)) (q : Quote) (g u : List ℕ) → Blanks g → run (at (quote k ss d n ns)) (g ++ (mark q ∷ u)) ≡ run (at (value q k ss d n ns)) u
+  quote-run : (k : ℕ) (ss : List (List ℕ)) (q : Quote) (g u : List ℕ) → All isBlank g → run (at (quote k ss d n ns)) (g ++ (mark q ∷ u)) ≡ run (at (value q k ss d n ns)) u
   unfolding next
   quote-run k ss q g u b = loop (quote k ss d n ns) (λ x e. rw e refl) g (mark q ∷ u) b ∙ go (quote k ss d n ns) (mark q) u (quote-mark k ss q)
 
@@ -225,12 +225,12 @@ module _ (d : ℕ) (n : List ℕ) (ns : List (List ℕ)) where
       ∙ quote-run k (a .name ∷ ss) (a .quote) (a .after) _ (g .after)
       ∙ value-run (a .quote) k (a .name ∷ ss) d n ns (a .value) u (g .value)
 
-  tail-ends : (k : ℕ) (ss : List (List ℕ)) (g : List ℕ) (z : ℕ) (u : List ℕ) → Blanks g → isBlank z ≡ false → isNameStart z ≡ false → run (at (tail k ss d n ns)) (g ++ (z ∷ u)) ≡ run (endStep d n ns z) u
+  tail-ends : (k : ℕ) (ss : List (List ℕ)) (g : List ℕ) (z : ℕ) (u : List ℕ) → All isBlank g → isBlank z ≡ false → isNameStart z ≡ false → run (at (tail k ss d n ns)) (g ++ (z ∷ u)) ≡ run (endStep d n ns z) u
   unfolding next
   tail-ends k ss [] z u b e f = go (tail k ss d n ns) z u (rw e refl)
   tail-ends k ss (x ∷ g) z u b e f = tail-gap k ss (x ∷ g) (z ∷ u) b ∙ go (gap k ss d n ns) z u (rw (f, e) refl)
 
-  attrs-run : (l : List Attr) (k : ℕ) (ss : List (List ℕ)) (g : List ℕ) (z : ℕ) (u : List ℕ) → GoodAttrs k ss l → Blanks g → isBlank z ≡ false → isNameStart z ≡ false → run (at (tail k ss d n ns)) (attrsOn l (g ++ (z ∷ u))) ≡ run (endStep d n ns z) u
+  attrs-run : (l : List Attr) (k : ℕ) (ss : List (List ℕ)) (g : List ℕ) (z : ℕ) (u : List ℕ) → GoodAttrs k ss l → All isBlank g → isBlank z ≡ false → isNameStart z ≡ false → run (at (tail k ss d n ns)) (attrsOn l (g ++ (z ∷ u))) ≡ run (endStep d n ns z) u
   attrs-run [] k ss g z u h b e f = tail-ends k ss g z u b e f
   attrs-run (a ∷ l) zero ss g z u h b e f = absurd h
   attrs-run (a ∷ l) (suc k) ss g z u h b e f = attr-one k ss a (attrsOn l (g ++ (z ∷ u))) (h .0) (h .1) ∙ attrs-run l k (a .name ∷ ss) g z u (h .2) b e f
@@ -246,7 +246,7 @@ tag-run s d ns f t z u g e e′ e″ =
     ∙ name-ends d (t .name) ns _ (head-attrs (t .attributes) 4 [] (t .gap) z u (g .attributes) (g .gap) e″)
     ∙ attrs-run d (t .name) ns (t .attributes) 4 [] (t .gap) z u (g .attributes) (g .gap) e e′
 
-close-run : (q : List ℕ) (d : ℕ) (ns : List (List ℕ)) (g u : List ℕ) → Blanks g → run (at (close q d ns)) (q ++ (g ++ (62 ∷ u))) ≡ run (at (after d ns)) u
+close-run : (q : List ℕ) (d : ℕ) (ns : List (List ℕ)) (g u : List ℕ) → All isBlank g → run (at (close q d ns)) (q ++ (g ++ (62 ∷ u))) ≡ run (at (after d ns)) u
 unfolding next isBlank
 close-run [] d ns g u b = loop (close [] d ns) (λ x e. rw e refl) g (62 ∷ u) b ∙ go (close [] d ns) 62 u refl
 close-run (y ∷ q) d ns g u b = go (close (y ∷ q) d ns) y _ (rw (eq-eqb y y refl) refl) ∙ close-run q d ns g u b
@@ -279,7 +279,7 @@ less-name : (d : ℕ) (n : List ℕ) (ns : List (List ℕ)) (x : ℕ) → isName
 unfolding next
 less-name d n ns x e = rw e refl
 
-pub content-run : (c : Markup) (r d : ℕ) (n : List ℕ) (ns : List (List ℕ)) (g u : List ℕ) → GoodAfter d r c → Blanks g → run (at (content r d n ns)) (on c (endOn n g u)) ≡ run (at (after (suc d) ns)) u
+pub content-run : (c : Markup) (r d : ℕ) (n : List ℕ) (ns : List (List ℕ)) (g u : List ℕ) → GoodAfter d r c → All isBlank g → run (at (content r d n ns)) (on c (endOn n g u)) ≡ run (at (after (suc d) ns)) u
 unfolding next isNameStart isBlank isNamePart
 content-run noMore r d n ns g u h b = go (content r d n ns) 60 _ refl ∙ go (less d n ns) 47 _ refl ∙ close-run n (suc d) ns g u b
 content-run (piece p k) r d n ns g u h b = content-piece d n ns r p (on k (endOn n g u)) (h .1) (seen p (h .0)) ∙ content-run k (brackets r p) d n ns g u (h .2) b
@@ -297,7 +297,7 @@ content-run (full t i e k) r (suc d) n ns g u h b =
     ∙ content-run k 0 (suc d) n ns g u (h .3) b
 
 -- the root, from a state that begins its name, and the blanks after it
-done-run : (a : List ℕ) → Blanks a → run (at done) a ≡ at done
+done-run : (a : List ℕ) → All isBlank a → run (at done) a ≡ at done
 unfolding next run
 done-run a b = ap (run (at done)) (sym (append-nil a)) ∙ loop done (λ x e. rw e refl) a [] b
 
@@ -308,7 +308,7 @@ inner (piece p k) a = []
 inner (emptyTag t k) a = tagOn t (47 ∷ 62 ∷ on k a)
 inner (full t i g k) a = tagOn t (62 ∷ on i (endOn (t .name) g (on k a)))
 
-root-run : (s : At) → ((x : ℕ) → isNameStart x ≡ true → next s x ≡ at (name 15 (x ∷ []) [])) → (c : Markup) (a : List ℕ) → OneElement c → GoodAfter 16 0 c → Blanks a → run (at s) (inner c a) ≡ at done
+root-run : (s : At) → ((x : ℕ) → isNameStart x ≡ true → next s x ≡ at (name 15 (x ∷ []) [])) → (c : Markup) (a : List ℕ) → OneElement c → GoodAfter 16 0 c → All isBlank a → run (at s) (inner c a) ≡ at done
 unfolding next isNameStart isBlank isNamePart
 root-run s f noMore a o h b = absurd o
 root-run s f (piece p k) a o h b = absurd o
@@ -337,7 +337,7 @@ first-name : (x : ℕ) → isNameStart x ≡ true → next first x ≡ at (name 
 unfolding next
 first-name x e = rw e refl
 
-before-run : (g : List ℕ) (c : Markup) (a : List ℕ) → Blanks g → OneElement c → GoodAfter 16 0 c → Blanks a → run (at before) (g ++ on c a) ≡ at done
+before-run : (g : List ℕ) (c : Markup) (a : List ℕ) → All isBlank g → OneElement c → GoodAfter 16 0 c → All isBlank a → run (at before) (g ++ on c a) ≡ at done
 unfolding next isBlank
 before-run g c a bg o h b =
     loop before (λ x e. rw e refl) g (on c a) bg
@@ -345,7 +345,7 @@ before-run g c a bg o h b =
     ∙ go before 60 _ refl
     ∙ root-run root root-name c a o h b
 
-pub start-run : (q : Bool) (g : List ℕ) (c : Markup) (a : List ℕ) → Blanks g → OneElement c → GoodAfter 16 0 c → Blanks a → run (at start) (declaration q ++ (g ++ on c a)) ≡ at done
+pub start-run : (q : Bool) (g : List ℕ) (c : Markup) (a : List ℕ) → All isBlank g → OneElement c → GoodAfter 16 0 c → All isBlank a → run (at start) (declaration q ++ (g ++ on c a)) ≡ at done
 unfolding next run step isBlank isNameStart
 start-run true g c a bg o h b = before-run g c a bg o h b
 start-run false [] c a bg o h b =

@@ -11,10 +11,10 @@ use Rattle.text.specs.Bytes.{ascii, isBlank, isNameStart, isNamePart}
 use Rattle.text_characters.specs.Utf8.{encode}
 use Rattle.text.specs.Lists.{All, Begins}
 use Rattle.text_characters.specs.Pieces.{Piece, char, spell}
-use Rattle.xml.specs.House.{Blanks, Quote, singleQuote, double, mark, GoodValue, IsAttrName, Attr, Fresh, GoodAttrs, Tag, GoodTag, Markup, noMore, piece, emptyTag, full, declaration}
+use Rattle.xml.specs.House.{Quote, singleQuote, double, mark, GoodValue, IsAttrName, Attr, GoodAttrs, Tag, GoodTag, Markup, noMore, piece, emptyTag, full, declaration}
 use Rattle.xml.proofs.Runs.{cuts, brackets, GoodAfter}
 use Rattle.xml.specs.mirror.Auto.{Part, one, two, three, e0, ed, ef, efbf, f0, f4, ampersand, ampersandA, rest, Read, bad, all, more, toWord, lead, go-on, takes, At, done, start, first, before, root, declare, name, tail, gap, attr, Mode, early, colon, late, grows, goesTo, mayStop, equals, quote, value, within, slash, content, part, less, close, St, dead, at, member, after, tailStep, endStep, gapStep, equalsStep, valueNext, contentNext, push, closeStep, declareNext, next}
-use Rattle.xml.proofs.Basics.{member-fresh, size, many, grown}
+use Rattle.xml.proofs.Basics.{member-fresh, size, many, grown, Fresh}
 use Rattle.xml.proofs.Pieces.{short, found, plain-not, plain-cuts, plain-brackets}
 
 -- the bytes of a part of a tree, and then u
@@ -46,13 +46,13 @@ pub record ContentL (d r : ℕ) (n : List ℕ) (R : List ℕ → Type 0) (t : Li
   pub tree : Markup
   pub good : GoodAfter d r tree
   pub gap : List ℕ
-  pub blanks : Blanks gap
+  pub blanks : All isBlank gap
   pub rest : List ℕ
   pub is : t ≡ on tree (endOn n gap rest)
   pub then : R rest
 
 abbrev pub Rest : ℕ → List (List ℕ) → List ℕ → Type 0
-Rest d [] u = Blanks u
+Rest d [] u = All isBlank u
 Rest d (n ∷ ns) u = ContentL d 0 n (Rest (suc d) ns) u
 
 pub data EndL (d : ℕ) (n : List ℕ) (ns : List (List ℕ)) (t : List ℕ) : Type 0 where
@@ -63,7 +63,7 @@ pub record TailL (k : ℕ) (ss : List (List ℕ)) (E : List ℕ → Type 0) (t :
   pub attributes : List Attr
   pub good : GoodAttrs k ss attributes
   pub gap : List ℕ
-  pub blanks : Blanks gap
+  pub blanks : All isBlank gap
   pub rest : List ℕ
   pub is : t ≡ attrsOn attributes (gap ++ rest)
   pub then : E rest
@@ -77,7 +77,7 @@ pub record ValueL (q : Quote) (k : ℕ) (ss : List (List ℕ)) (E : List ℕ →
 
 pub record QuoteL (k : ℕ) (ss : List (List ℕ)) (E : List ℕ → Type 0) (t : List ℕ) : Type 0 where
   pub gap : List ℕ
-  pub blanks : Blanks gap
+  pub blanks : All isBlank gap
   pub quote : Quote
   pub rest : List ℕ
   pub is : t ≡ gap ++ (mark quote ∷ rest)
@@ -85,7 +85,7 @@ pub record QuoteL (k : ℕ) (ss : List (List ℕ)) (E : List ℕ → Type 0) (t 
 
 pub record EqualsL (k : ℕ) (ss : List (List ℕ)) (E : List ℕ → Type 0) (t : List ℕ) : Type 0 where
   pub gap : List ℕ
-  pub blanks : Blanks gap
+  pub blanks : All isBlank gap
   pub rest : List ℕ
   pub is : t ≡ gap ++ (61 ∷ rest)
   pub then : QuoteL k ss E rest
@@ -104,8 +104,8 @@ pub record AttrL (m : Mode) (b : List ℕ) (k : ℕ) (ss : List (List ℕ)) (E :
   pub then : EqualsL k ((b ++ letters) ∷ ss) E rest
 
 pub data GapL (k : ℕ) (ss : List (List ℕ)) (E : List ℕ → Type 0) (t : List ℕ) : Type 0 where
-  g-end : (g : List ℕ) → Blanks g → (u : List ℕ) → t ≡ g ++ u → E u → GapL k ss E t
-  g-attr : (g : List ℕ) → Blanks g → (x : ℕ) → isNameStart x ≡ true → (k′ : ℕ) → k ≡ suc k′ → (u : List ℕ) → t ≡ g ++ (x ∷ u) → AttrL early (x ∷ []) k′ ss E u → GapL k ss E t
+  g-end : (g : List ℕ) → All isBlank g → (u : List ℕ) → t ≡ g ++ u → E u → GapL k ss E t
+  g-attr : (g : List ℕ) → All isBlank g → (x : ℕ) → isNameStart x ≡ true → (k′ : ℕ) → k ≡ suc k′ → (u : List ℕ) → t ≡ g ++ (x ∷ u) → AttrL early (x ∷ []) k′ ss E u → GapL k ss E t
 
 pub record NameL (d : ℕ) (n : List ℕ) (ns : List (List ℕ)) (t : List ℕ) : Type 0 where
   pub letters : List ℕ
@@ -116,7 +116,7 @@ pub record NameL (d : ℕ) (n : List ℕ) (ns : List (List ℕ)) (t : List ℕ) 
 
 pub record CloseL (q : List ℕ) (d : ℕ) (ns : List (List ℕ)) (t : List ℕ) : Type 0 where
   pub gap : List ℕ
-  pub blanks : Blanks gap
+  pub blanks : All isBlank gap
   pub rest : List ℕ
   pub is : t ≡ q ++ (gap ++ (62 ∷ rest))
   pub then : Rest d ns rest
@@ -134,7 +134,7 @@ pub record RootL (t : List ℕ) : Type 0 where
 
 pub record BeforeL (t : List ℕ) : Type 0 where
   pub gap : List ℕ
-  pub blanks : Blanks gap
+  pub blanks : All isBlank gap
   pub rest : List ℕ
   pub is : t ≡ gap ++ (60 ∷ rest)
   pub then : RootL rest
@@ -164,7 +164,7 @@ ReadL all P Q t = P t
 ReadL (more p) P Q t = PartL p Q t
 
 abbrev pub L : At → List ℕ → Type 0
-L done t = Blanks t
+L done t = All isBlank t
 L start t = StartL t
 L first t = FirstL t
 L before t = BeforeL t
@@ -349,11 +349,11 @@ value-lead : (q : Quote) (k : ℕ) (ss : List (List ℕ)) (E : List ℕ → Type
 value-lead q k ss E x t ne bad e h = absurd h
 value-lead q k ss E x t ne all e h =
     let o = short x e in
-    record { value = char x ∷ h .value; good = (o .good, (λ f. ne (cc)), h .good); rest = h .rest; is = front x [] (spellsOn (h .value) (mark q ∷ h .rest)) (encode x) (o .is) t (h .is); then = h .then }
+    record { value = char x ∷ h .value; good = ((o .good, (λ f. ne (cc))), h .good); rest = h .rest; is = front x [] (spellsOn (h .value) (mark q ∷ h .rest)) (encode x) (o .is) t (h .is); then = h .then }
 value-lead q k ss E x t ne (more p) e h =
     let o = found x p (h .bytes) e (h .ok) in
     let v = h .then in
-    record { value = o .piece ∷ v .value; good = (o .good, plain-not (o .piece) (mark q) (mark-low q) (o .plain), v .good); rest = v .rest; is = front x (h .bytes) (spellsOn (v .value) (mark q ∷ v .rest)) (spell (o .piece)) (o .is) t (cc (h .is, v .is)); then = v .then }
+    record { value = o .piece ∷ v .value; good = ((o .good, plain-not (o .piece) (mark q) (mark-low q) (o .plain)), v .good); rest = v .rest; is = front x (h .bytes) (spellsOn (v .value) (mark q ∷ v .rest)) (spell (o .piece)) (o .is) t (cc (h .is, v .is)); then = v .then }
 
 value-back : (q : Quote) (k : ℕ) (ss : List (List ℕ)) (d : ℕ) (n : List ℕ) (ns : List (List ℕ)) (x : ℕ) (t : List ℕ) → LS (next (value q k ss d n ns) x) t → ValueL q k ss (EndL d n ns) (x ∷ t)
 unfolding next
@@ -381,7 +381,7 @@ content-lead r d n R x t cut (more p) e h =
 -- an element, and then what stands after it
 pub data ElementL (d : ℕ) (R : List ℕ → Type 0) (t : List ℕ) : Type 0 where
   e-empty : (g : Tag) → GoodTag g → (u : List ℕ) → t ≡ 60 ∷ tagOn g (47 ∷ 62 ∷ u) → R u → ElementL d R t
-  e-full : (g : Tag) → GoodTag g → (i : Markup) → GoodAfter d 0 i → (b : List ℕ) → Blanks b → (u : List ℕ) → t ≡ 60 ∷ tagOn g (62 ∷ on i (endOn (g .name) b u)) → R u → ElementL d R t
+  e-full : (g : Tag) → GoodTag g → (i : Markup) → GoodAfter d 0 i → (b : List ℕ) → All isBlank b → (u : List ℕ) → t ≡ 60 ∷ tagOn g (62 ∷ on i (endOn (g .name) b u)) → R u → ElementL d R t
 
 pub element : (d : ℕ) (ns : List (List ℕ)) (x : ℕ) (t : List ℕ) → isNameStart x ≡ true → NameL d (x ∷ []) ns t → ElementL d (Rest (suc d) ns) (60 ∷ x ∷ t)
 element d ns x t e o = go (o .then .then)

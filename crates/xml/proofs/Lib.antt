@@ -1,6 +1,8 @@
 -- The laws of `xml`.
 -- blanks, and names that differ
 pub mod Basics
+-- `]]>` by tests
+pub mod Cuts
 -- `]]>` by counting brackets
 pub mod Runs
 -- a piece by its bytes

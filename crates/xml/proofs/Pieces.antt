@@ -8,7 +8,7 @@ use native.Mathlib.Omega.{arith}
 use lib.Dec.{leb, ltb, eqb}
 use borrow.Author.Tests.{lt-ltb, le-ltb, le-leb, ne-eqb, ltb-true, ltb-false, leb-true, eqb-true, eqb-false}
 use Rattle.text.specs.Bytes.{ascii, inRange}
-use Rattle.text_characters.specs.Pieces.{XmlChar, tab, line, return, low, middle, high}
+use Rattle.text_characters.proofs.Resolving.{XmlChar, tab, line, return, low, middle, high, xml-char-yes, xml-char-is}
 use Rattle.text_characters.specs.Utf8.{encode}
 use Rattle.text.proofs.Classes.{in-range, in-range-is}
 use Rattle.text_characters.proofs.Decoding.{encode1, encode2, encode3, encode4}
@@ -73,7 +73,7 @@ short x e =
     (λ h e. by (eqb x 38) e (λ _ f. not-more f)
     (λ n e. by (eqb x 60) e (λ _ f. not-bad f)
     (λ m e. by (leb 32 x || eqb x 9 || eqb x 10 || eqb x 13) e
-    (λ k _. record { good = (ascii-char x (ltb-true x 128 h) k, eqb-false x 60 m, eqb-false x 38 n); is = encode1 x (ltb-true x 128 h) })
+    (λ k _. record { good = (xml-char-yes x (ascii-char x (ltb-true x 128 h) k), eqb-false x 60 m, eqb-false x 38 n); is = encode1 x (ltb-true x 128 h) })
     (λ _ f. not-bad f))))
     (λ _ e. long-not-all x e)
 
@@ -172,7 +172,7 @@ pub record Found (x : ℕ) (l : List ℕ) : Type 0 where
   pub is : spell piece ≡ x ∷ l
 
 found-char : (x c : ℕ) (l : List ℕ) → 128 ≤ c → XmlChar c → encode c ≡ x ∷ l → Found x l
-found-char x c l h k e = record { piece = char c; good = (k, omega arith, omega arith); plain = h; is = e }
+found-char x c l h k e = record { piece = char c; good = (xml-char-yes c k, omega arith, omega arith); plain = h; is = e }
 
 dec2 : (x : ℕ) (l : List ℕ) → 194 ≤ x → x < 224 → One 128 191 l → Found x l
 dec2 x l a b o =
@@ -430,7 +430,7 @@ seen-entity quot = s-long tt 38 (ascii "quot;") ampersand refl refl refl
 seen-entity apos = s-long tt 38 (ascii "apos;") ampersand refl refl refl
 
 pub seen : (p : Piece) → GoodPiece p → Seen p
-seen (char c) g = seen-char c (g .0) (g .1) (g .2)
+seen (char c) g = seen-char c (xml-char-is c (g .0)) (g .1) (g .2)
 seen (entity e) g = seen-entity e
 
 pub plain-not : (p : Piece) (c : ℕ) → c < 128 → Plain p → p ≢ char c

@@ -6,8 +6,11 @@ use native.Mathlib.Omega.{arith}
 use lib.Dec.{leb, eqb}
 use borrow.Author.Tests.{eqb-true, ne-eqb, le-leb, lt-leb, leb-true, leb-false}
 use Rattle.text_characters.specs.Pieces.{Piece, char, entity, GoodPiece}
+use Rattle.text.specs.Bytes.{isBlank}
+use Rattle.text.specs.Lists.{All}
 use Rattle.text.proofs.Classes.{or-not}
-use Rattle.xml.specs.House.{Blanks, GoodTag, Markup, noMore, piece, emptyTag, full, begins, following, cut, GoodMarkup}
+use Rattle.xml.specs.House.{GoodTag, Markup, noMore, piece, emptyTag, full, GoodMarkup}
+use Rattle.xml.proofs.Cuts.{begins, following, isCut, no-cut, cut-no}
 
 abbrev pub cuts : ℕ → Piece → Bool
 cuts r (char c) = eqb c 62 && leb 2 r
@@ -24,7 +27,7 @@ GoodAfter d r (piece p k) = GoodPiece p × (cuts r p ≡ false) × GoodAfter d (
 GoodAfter zero r (emptyTag t k) = ⊥
 GoodAfter (suc d) r (emptyTag t k) = GoodTag t × GoodAfter (suc d) 0 k
 GoodAfter zero r (full t i g k) = ⊥
-GoodAfter (suc d) r (full t i g k) = GoodTag t × GoodAfter d 0 i × Blanks g × GoodAfter (suc d) 0 k
+GoodAfter (suc d) r (full t i g k) = GoodTag t × GoodAfter d 0 i × All isBlank g × GoodAfter (suc d) 0 k
 
 -- `]]>` begins at one of the r brackets before
 abbrev ends : ℕ → Markup → Bool
@@ -64,7 +67,7 @@ none true false = refl
 none false true = refl
 none false false = refl
 
-turn : (r : ℕ) (p : Piece) (k : Markup) → (cut (piece p k) || ends r (piece p k)) ≡ (cuts r p || ends (brackets r p) k)
+turn : (r : ℕ) (p : Piece) (k : Markup) → (isCut (piece p k) || ends r (piece p k)) ≡ (cuts r p || ends (brackets r p) k)
 turn r (entity e) k = none (leb 2 r) (leb 1 r)
 turn r (char c) k = go (eqb c 93) refl
   where
@@ -84,7 +87,7 @@ or-in a b e f = rw (e, f) refl
 after-good : (c : Markup) (d r : ℕ) → GoodMarkup d c → ends r c ≡ false → GoodAfter d r c
 after-good noMore d r g e = tt
 after-good (piece p k) d r g e =
-    let w = or-not (cuts r p) (ends (brackets r p) k) (sym (turn r p k) ∙ or-in (cut (piece p k)) (ends r (piece p k)) (g .1) e) in
+    let w = or-not (cuts r p) (ends (brackets r p) k) (sym (turn r p k) ∙ or-in (isCut (piece p k)) (ends r (piece p k)) (cut-no (piece p k) (g .1)) e) in
     (g .0, w .0, after-good k d (brackets r p) (g .2) (w .1))
 after-good (emptyTag t k) zero r g e = absurd g
 after-good (emptyTag t k) (suc d) r g e = (g .0, after-good k (suc d) 0 (g .1) refl)
@@ -95,8 +98,8 @@ good-after : (c : Markup) (d r : ℕ) → GoodAfter d r c → GoodMarkup d c × 
 good-after noMore d r g = (tt, none (leb 2 r) (leb 1 r))
 good-after (piece p k) d r g =
     let ih = good-after k d (brackets r p) (g .2) in
-    let w = or-not (cut (piece p k)) (ends r (piece p k)) (turn r p k ∙ or-in (cuts r p) (ends (brackets r p) k) (g .1) (ih .1)) in
-    ((g .0, w .0, ih .0), w .1)
+    let w = or-not (isCut (piece p k)) (ends r (piece p k)) (turn r p k ∙ or-in (cuts r p) (ends (brackets r p) k) (g .1) (ih .1)) in
+    ((g .0, no-cut (piece p k) (w .0), ih .0), w .1)
 good-after (emptyTag t k) zero r g = absurd g
 good-after (emptyTag t k) (suc d) r g = ((g .0, good-after k (suc d) 0 (g .1) .0), none (leb 2 r) (leb 1 r))
 good-after (full t i b k) zero r g = absurd g

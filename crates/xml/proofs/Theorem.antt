@@ -6,12 +6,13 @@ use Prim.Native.Nat.{ℕ, zero, suc, _≤_, zero-le, suc-le-suc}
 use native.Mathlib.Nat.{le-of-suc-le-suc}
 use native.Mathlib.Omega.{arith}
 use lib.ListN.{length, take}
-use Rattle.xml.specs.House.{noMore, emptyTag, full, render, declaration, HouseXml, Viable, Longest}
+use Rattle.xml.specs.House.{noMore, emptyTag, full, render, declaration, HouseXml, Viable}
 use Rattle.xml.specs.mirror.Auto.{done, start, St, dead, at, step, run, isDead, liveLen}
 use Rattle.xml.proofs.Runs.{to-after, from-after}
 use Rattle.xml.proofs.Lang.{on, Rest, StartL, BeforeL, RootL, ElementL, e-empty, e-full, element, LS, back, live}
 use Rattle.xml.proofs.Forward.{start-run}
 use Rattle.xml.proofs.Render.{render-on}
+use Rattle.text.specs.Lists.{LongestBeginning}
 
 house : (s : List ℕ) → StartL s → HouseXml s
 house s o = go (element 15 [] (ro .head) (ro .rest) (ro .starts) (ro .then))
@@ -115,14 +116,10 @@ live-len (x ∷ s) st e = go (isDead (step st x)) refl (live-len s (step st x))
         m (suc k) h w = absurd (true≢false (ap isDead (sym (ap (λ (z : St). run z (take k s)) (dead-is (step st x) d) ∙ dead-run (take k s))) ∙ w))
 
 -- the longest viable beginning is what stands before the automaton dies
-pub longest : (s : List ℕ) → Longest s (liveLen (at start) s)
+pub longest : (s : List ℕ) → LongestBeginning Viable s (liveLen (at start) s)
 longest s =
     let l = live-len s (at start) refl in
     record { within = l .within; begins = live-viable (take (liveLen (at start) s) s) (l .alive); most = λ k h v. l .most k h (viable-live (take k s) v) }
-
--- and there is only one
-pub longest-one : (s : List ℕ) (m n : ℕ) → Longest s m → Longest s n → m ≡ n
-longest-one s m n a b = omega (arith, a .most n (b .within) (b .begins), b .most m (a .within) (a .begins))
 
 -- what is not taken is no house XML
 pub refused : (s : List ℕ) → (run (at start) s ≡ at done → ⊥) → HouseXml s → ⊥

@@ -9,11 +9,11 @@ use lib.Dec.{ltb, eqb}
 use lib.ListN.{getD}
 use borrow.Author.Tests.{ltb-true, ltb-false}
 use Rattle.text.specs.Bytes.{isBlank, isNameStart, isNamePart}
-use Rattle.text_characters.specs.Pieces.{XmlChar, tab, line, return, low, middle, high}
+use Rattle.text_characters.proofs.Resolving.{XmlChar, tab, line, return, low, middle, high, xml-char-is}
 use Rattle.text_characters.specs.Utf8.{encode}
 use Rattle.text.specs.Lists.{All, Begins}
 use Rattle.text_characters.specs.Pieces.{Entity, amp, lt, gt, quot, apos, word, Piece, char, entity, spell, GoodPiece}
-use Rattle.xml.specs.House.{Blanks, SomeBlanks, Quote, singleQuote, double, mark, GoodValue, Attr, GoodAttr, GoodAttrs, Tag, GoodTag, Markup, noMore, piece, emptyTag, full, OneElement, declaration, Tree, GoodTree, whole}
+use Rattle.xml.specs.House.{Quote, singleQuote, double, mark, GoodValue, Attr, GoodAttr, GoodAttrs, Tag, GoodTag, Markup, noMore, piece, emptyTag, full, OneElement, declaration, Tree, GoodTree, whole}
 use Rattle.xml.proofs.Runs.{brackets, GoodAfter, to-after}
 use Rattle.xml.specs.mirror.Auto.{Part, Read, bad, all, more, lead, go-on, takes}
 use Rattle.xml.proofs.Basics.{blank-no-rest, blank-no-start, isFullPart, blank-no-full, full-name}
@@ -137,7 +137,7 @@ encode-head c n = go (ltb c 0x80) (ltb c 0x800) (ltb c 0x10000) refl refl refl
     go false false false e f g = λ h. omega arith
 
 spell-one : (p q : Piece) → GoodPiece p → GoodPiece q → spell p ≡ spell q → p ≡ q
-spell-one (char c) (char d) g h e = ap char (sym (encode-number c (below c (g .0))) ∙ ap number e ∙ encode-number d (below d (h .0)))
+spell-one (char c) (char d) g h e = ap char (sym (encode-number c (below c (xml-char-is c (g .0)))) ∙ ap number e ∙ encode-number d (below d (xml-char-is d (h .0))))
 spell-one (char c) (entity f) g h e = absurd (encode-head c (g .2) (ap (λ (l : List ℕ). getD l 0 0) e ∙ word-head f))
 spell-one (entity f) (char c) g h e = absurd (encode-head c (h .2) (ap (λ (l : List ℕ). getD l 0 0) (sym e) ∙ word-head f))
 spell-one (entity f) (entity k) g h e = ap entity (sym (which-word f) ∙ ap which e ∙ which-word k)
@@ -171,11 +171,11 @@ no-less p u w g e =
 
 value-one : (q : Quote) (a b : List Piece) (u v : List ℕ) → GoodValue q a → GoodValue q b → spellsOn a (mark q ∷ u) ≡ spellsOn b (mark q ∷ v) → Same a b u v
 value-one q [] [] u v g h e = record { first = refl; rest = tail-eq-of-cons-eq e }
-value-one q [] (p ∷ b) u v g h e = absurd (no-mark q p u (spellsOn b (mark q ∷ v)) (h .1) (seen p (h .0)) e)
-value-one q (p ∷ a) [] u v g h e = absurd (no-mark q p v (spellsOn a (mark q ∷ u)) (g .1) (seen p (g .0)) (sym e))
+value-one q [] (p ∷ b) u v g h e = absurd (no-mark q p u (spellsOn b (mark q ∷ v)) (h .0 .1) (seen p (h .0 .0)) e)
+value-one q (p ∷ a) [] u v g h e = absurd (no-mark q p v (spellsOn a (mark q ∷ u)) (g .0 .1) (seen p (g .0 .0)) (sym e))
 value-one q (p ∷ a) (r ∷ b) u v g h e =
-    let s = piece-one p r (spellsOn a (mark q ∷ u)) (spellsOn b (mark q ∷ v)) (g .0) (h .0) e in
-    let t = value-one q a b u v (g .2) (h .2) (s .rest) in
+    let s = piece-one p r (spellsOn a (mark q ∷ u)) (spellsOn b (mark q ∷ v)) (g .0 .0) (h .0 .0) e in
+    let t = value-one q a b u v (g .1) (h .1) (s .rest) in
     record { first = ap₂ _∷_ (s .first) (t .first); rest = t .rest }
 
 -- a rest that begins with a byte that fails the test
@@ -197,7 +197,7 @@ start-no-blank x e = go (isBlank x) refl
     go true f = absurd (true≢false (sym e ∙ blank-no-start x f))
     go false f = refl
 
-some-all : (g : List ℕ) → SomeBlanks g → Blanks g
+some-all : (g : List ℕ) → Begins isBlank isBlank g → All isBlank g
 some-all [] b = absurd b
 some-all (x ∷ g) b = b
 
@@ -213,15 +213,15 @@ stop-mark double w = record { byte = 34; others = w; is = refl; ends = refl }
 stop-at : (p : ℕ → Bool) (x : ℕ) (w : List ℕ) → p x ≡ false → Stop p (x ∷ w)
 stop-at p x w e = record { byte = x; others = w; is = refl; ends = e }
 
-stop-blanks : (p : ℕ → Bool) → ((x : ℕ) → isBlank x ≡ true → p x ≡ false) → (g : List ℕ) (z : ℕ) (u : List ℕ) → Blanks g → p z ≡ false → Stop p (g ++ (z ∷ u))
+stop-blanks : (p : ℕ → Bool) → ((x : ℕ) → isBlank x ≡ true → p x ≡ false) → (g : List ℕ) (z : ℕ) (u : List ℕ) → All isBlank g → p z ≡ false → Stop p (g ++ (z ∷ u))
 stop-blanks p f [] z u b e = stop-at p z u e
 stop-blanks p f (x ∷ g) z u b e = stop-at p x (g ++ (z ∷ u)) (f x (b .0))
 
-stop-some : (g u : List ℕ) → SomeBlanks g → Stop isNamePart (g ++ u)
+stop-some : (g u : List ℕ) → Begins isBlank isBlank g → Stop isNamePart (g ++ u)
 stop-some [] u b = absurd b
 stop-some (x ∷ g) u b = stop-at isNamePart x (g ++ u) (blank-no-rest x (b .0))
 
-stop-attrs : (l : List Attr) (k : ℕ) (ss : List (List ℕ)) (g : List ℕ) (z : ℕ) (u : List ℕ) → GoodAttrs k ss l → Blanks g → isNamePart z ≡ false → Stop isNamePart (attrsOn l (g ++ (z ∷ u)))
+stop-attrs : (l : List Attr) (k : ℕ) (ss : List (List ℕ)) (g : List ℕ) (z : ℕ) (u : List ℕ) → GoodAttrs k ss l → All isBlank g → isNamePart z ≡ false → Stop isNamePart (attrsOn l (g ++ (z ∷ u)))
 stop-attrs [] k ss g z u h b e = stop-blanks isNamePart blank-no-rest g z u b e
 stop-attrs (a ∷ l) zero ss g z u h b e = absurd h
 stop-attrs (a ∷ l) (suc k) ss g z u h b e = stop-some (a .gap) _ (h .0 .gap)
@@ -268,12 +268,12 @@ record Attributes (l m : List Attr) (g h u v : List ℕ) : Type 0 where
   rest : u ≡ v
 
 module _ (z y : ℕ) (bz : isBlank z ≡ false) (by : isBlank y ≡ false) (nz : isNameStart z ≡ false) (ny : isNameStart y ≡ false) where
-  no-attr : (x : ℕ) (a : Attr) (g u w : List ℕ) → isBlank x ≡ false → isNameStart x ≡ false → GoodAttr a → Blanks g → g ++ (x ∷ u) ≡ attrOn a w → ⊥
+  no-attr : (x : ℕ) (a : Attr) (g u w : List ℕ) → isBlank x ≡ false → isNameStart x ≡ false → GoodAttr a → All isBlank g → g ++ (x ∷ u) ≡ attrOn a w → ⊥
   no-attr x a g u w bx nx ga b e =
       let s = spans isBlank g (a .gap) (x ∷ u) _ b (some-all (a .gap) (ga .gap)) (stop-at isBlank x u bx) (stop-name isFullPart (a .name) _ (full-name (a .name) (ga .name))) e in
       no-name isFullPart x u (a .name) _ nx (full-name (a .name) (ga .name)) (s .rest)
 
-  attrs-one : (l m : List Attr) (k k′ : ℕ) (ss ss′ : List (List ℕ)) (g h u v : List ℕ) → GoodAttrs k ss l → GoodAttrs k′ ss′ m → Blanks g → Blanks h → attrsOn l (g ++ (z ∷ u)) ≡ attrsOn m (h ++ (y ∷ v)) → Attributes l m g h (z ∷ u) (y ∷ v)
+  attrs-one : (l m : List Attr) (k k′ : ℕ) (ss ss′ : List (List ℕ)) (g h u v : List ℕ) → GoodAttrs k ss l → GoodAttrs k′ ss′ m → All isBlank g → All isBlank h → attrsOn l (g ++ (z ∷ u)) ≡ attrsOn m (h ++ (y ∷ v)) → Attributes l m g h (z ∷ u) (y ∷ v)
   attrs-one [] [] k k′ ss ss′ g h u v p q b c e = let s = spans isBlank g h (z ∷ u) (y ∷ v) b c (stop-at isBlank z u bz) (stop-at isBlank y v by) e in record { attributes = refl; gap = s .first; rest = s .rest }
   attrs-one [] (a ∷ m) k zero ss ss′ g h u v p q b c e = absurd q
   attrs-one [] (a ∷ m) k (suc k′) ss ss′ g h u v p q b c e = absurd (no-attr z a g u _ bz nz (q .0) b e)
@@ -317,7 +317,7 @@ pub record Both (a b : Markup) (g h u v : List ℕ) : Type 0 where
   pub gap : g ≡ h
   pub rest : u ≡ v
 
-close-one : (n g h u v : List ℕ) → Blanks g → Blanks h → endOn n g u ≡ endOn n h v → Both noMore noMore g h u v
+close-one : (n g h u v : List ℕ) → All isBlank g → All isBlank h → endOn n g u ≡ endOn n h v → Both noMore noMore g h u v
 unfolding isBlank
 close-one n g h u v b c e =
     let f = cancel n (g ++ (62 ∷ u)) (h ++ (62 ∷ v)) (tail-eq-of-cons-eq (tail-eq-of-cons-eq e)) in
@@ -327,7 +327,7 @@ close-one n g h u v b c e =
 full-is : {t s : Tag} {i j : Markup} {b c : List ℕ} {k l : Markup} → t ≡ s → i ≡ j → b ≡ c → k ≡ l → full t i b k ≡ full s j c l
 full-is {t} {s} {i} {j} {b} {c} {k} {l} e f g h = cc
 
-pub content-one : (a b : Markup) (d r d′ r′ : ℕ) (n g h u v : List ℕ) → GoodAfter d r a → GoodAfter d′ r′ b → Blanks g → Blanks h → on a (endOn n g u) ≡ on b (endOn n h v) → Both a b g h u v
+pub content-one : (a b : Markup) (d r d′ r′ : ℕ) (n g h u v : List ℕ) → GoodAfter d r a → GoodAfter d′ r′ b → All isBlank g → All isBlank h → on a (endOn n g u) ≡ on b (endOn n h v) → Both a b g h u v
 unfolding isNameStart
 content-one noMore noMore d r d′ r′ n g h u v p q b c e = close-one n g h u v b c e
 content-one noMore (piece x k) d r d′ r′ n g h u v p q b c e = absurd (no-less x _ _ (q .0) e)
@@ -404,7 +404,7 @@ no-question (piece x k) u w o g e = o
 no-question (emptyTag t k) u w o g e = no-tag 63 w t _ refl (g .0) (tail-eq-of-cons-eq (sym e))
 no-question (full t i m k) u w o g e = no-tag 63 w t _ refl (g .0) (tail-eq-of-cons-eq (sym e))
 
-no-declaration : (b : List ℕ) (a : Markup) (u w : List ℕ) → Blanks b → OneElement a → GoodAfter 16 0 a → b ++ on a u ≡ 60 ∷ 63 ∷ w → ⊥
+no-declaration : (b : List ℕ) (a : Markup) (u w : List ℕ) → All isBlank b → OneElement a → GoodAfter 16 0 a → b ++ on a u ≡ 60 ∷ 63 ∷ w → ⊥
 unfolding isBlank
 no-declaration [] a u w c o g e = no-question a u w o g e
 no-declaration (x ∷ b) a u w c o g e = true≢false (sym (c .0) ∙ ap isBlank (head-eq-of-cons-eq e))
@@ -412,13 +412,13 @@ no-declaration (x ∷ b) a u w c o g e = true≢false (sym (c .0) ∙ ap isBlank
 tree-is : {a b : Bool} {c d : List ℕ} {f g : Markup} {h i : List ℕ} → a ≡ b → c ≡ d → f ≡ g → h ≡ i → _≡_ {A = Tree} (record { declared = a; before = c; root = f; after = h }) (record { declared = b; before = d; root = g; after = i })
 tree-is {a} {b} {c} {d} {f} {g} {h} {i} e1 e2 e3 e4 = rw (e1, e2, e3, e4) refl
 
-rest-one : (d : Bool) (b c : List ℕ) (x y : Markup) (u v : List ℕ) → Blanks b → Blanks c → OneElement x → OneElement y → GoodAfter 16 0 x → GoodAfter 16 0 y → b ++ on x u ≡ c ++ on y v → _≡_ {A = Tree} (record { declared = d; before = b; root = x; after = u }) (record { declared = d; before = c; root = y; after = v })
+rest-one : (d : Bool) (b c : List ℕ) (x y : Markup) (u v : List ℕ) → All isBlank b → All isBlank c → OneElement x → OneElement y → GoodAfter 16 0 x → GoodAfter 16 0 y → b ++ on x u ≡ c ++ on y v → _≡_ {A = Tree} (record { declared = d; before = b; root = x; after = u }) (record { declared = d; before = c; root = y; after = v })
 rest-one d b c x y u v p q o r g h e =
     let s = spans isBlank b c (on x u) (on y v) p q (stop-root x u o) (stop-root y v r) e in
     let t = root-one x y u v o r g h (s .rest) in
     tree-is refl (s .first) (t .first) (t .rest)
 
-trees-one : (d f : Bool) (b c : List ℕ) (x y : Markup) (u v : List ℕ) → Blanks b → Blanks c → OneElement x → OneElement y → GoodAfter 16 0 x → GoodAfter 16 0 y → declaration d ++ (b ++ on x u) ≡ declaration f ++ (c ++ on y v) → _≡_ {A = Tree} (record { declared = d; before = b; root = x; after = u }) (record { declared = f; before = c; root = y; after = v })
+trees-one : (d f : Bool) (b c : List ℕ) (x y : Markup) (u v : List ℕ) → All isBlank b → All isBlank c → OneElement x → OneElement y → GoodAfter 16 0 x → GoodAfter 16 0 y → declaration d ++ (b ++ on x u) ≡ declaration f ++ (c ++ on y v) → _≡_ {A = Tree} (record { declared = d; before = b; root = x; after = u }) (record { declared = f; before = c; root = y; after = v })
 trees-one true true b c x y u v p q o r g h e = rest-one true b c x y u v p q o r g h (cancel (declaration true) (b ++ on x u) (c ++ on y v) e)
 trees-one true false b c x y u v p q o r g h e = absurd (no-declaration c y v _ q r h (sym e))
 trees-one false true b c x y u v p q o r g h e = absurd (no-declaration b x u _ p o g e)

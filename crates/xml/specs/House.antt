@@ -1,42 +1,34 @@
 -- House XML: a text is house XML when it is the rendering of a good tree. Assumes nothing.
 use mathlib.Core.Path.{_≡_}
 use mathlib.Core.Logic.{_≢_}
-use mathlib.Core.Bool.{Bool, true, false, _&&_}
+use mathlib.Core.Bool.{Bool, true, false}
 use mathlib.Core.List.{List, [], _∷_, _++_}
-use Prim.Native.Nat.{ℕ, zero, suc, _≤_}
-use lib.Dec.{eqb}
-use lib.ListN.{length, take}
+use Prim.Native.Nat.{ℕ, zero, suc}
+use Prim.Native.Char.{code}
 use Rattle.text.specs.Bytes.{ascii, isBlank, isNameStart, isNamePart}
-use Rattle.text.specs.Lists.{All, Begins}
-use Rattle.text_characters.specs.Pieces.{less, greater, solidus, equal, bracket, apostrophe, quotation, Piece, char, entity, spell, spells, GoodPiece}
+use Rattle.text.specs.Lists.{Each, All, Begins}
+use Rattle.text_characters.specs.Pieces.{Piece, char, spell, spells, GoodPiece}
 
--- "blanks"; "one or more blanks"; "A name is a letter or `_`, then letters, digits, `.`, `-`, `_` (ASCII)"
-abbrev pub Blanks : List ℕ → Type 0
-Blanks l = All isBlank l
-
-abbrev pub SomeBlanks : List ℕ → Type 0
-SomeBlanks l = Begins isBlank isBlank l
-
+-- "A name is a letter or `_`, then letters, digits, `.`, `-`, `_` (ASCII)"
 abbrev pub IsName : List ℕ → Type 0
 IsName l = Begins isNameStart isNamePart l
 
 -- "Attribute names may hold one colon between two names; element names may not"
 pub data IsAttrName (n : List ℕ) : Type 0 where
   unprefixed : IsName n → IsAttrName n
-  prefixed : (p q : List ℕ) → IsName p → IsName q → n ≡ p ++ (58 ∷ q) → IsAttrName n
+  prefixed : (p q : List ℕ) → IsName p → IsName q → n ≡ p ++ (code ":" ∷ q) → IsAttrName n
 
 -- "either quote"
 pub data Quote : Type 0 where
   singleQuote double : Quote
 
 abbrev pub mark : Quote → ℕ
-mark singleQuote = apostrophe
-mark double = quotation
+mark singleQuote = code "'"
+mark double = code "\""
 
 -- "their values are XML 1.0 characters without the quote used"
 abbrev pub GoodValue : Quote → List Piece → Type 0
-GoodValue q [] = Unit {0}
-GoodValue q (p ∷ ps) = GoodPiece p × (p ≢ char (mark q)) × GoodValue q ps
+GoodValue q ps = Each (λ (p : Piece). GoodPiece p × (p ≢ char (mark q))) ps
 
 -- an attribute: "after one or more blanks", "blanks allowed around `=`"
 pub record Attr : Type 0 where
@@ -48,29 +40,24 @@ pub record Attr : Type 0 where
   pub value : List Piece
 
 abbrev pub attr : Attr → List ℕ
-attr a = a .gap ++ (a .name ++ (a .before ++ (equal ∷ (a .after ++ (mark (a .quote) ∷ (spells (a .value) ++ (mark (a .quote) ∷ [])))))))
+attr a = a .gap ++ (a .name ++ (a .before ++ (code "=" ∷ (a .after ++ (mark (a .quote) ∷ (spells (a .value) ++ (mark (a .quote) ∷ [])))))))
 
 abbrev pub attrs : List Attr → List ℕ
 attrs [] = []
 attrs (a ∷ more) = attr a ++ attrs more
 
 pub record GoodAttr (a : Attr) : Type 0 where
-  pub gap : SomeBlanks (a .gap)
+  pub gap : Begins isBlank isBlank (a .gap)
   pub name : IsAttrName (a .name)
-  pub before : Blanks (a .before)
-  pub after : Blanks (a .after)
+  pub before : All isBlank (a .before)
+  pub after : All isBlank (a .after)
   pub value : GoodValue (a .quote) (a .value)
-
--- a name that is none of those
-abbrev pub Fresh : List ℕ → List (List ℕ) → Type 0
-Fresh n [] = Unit {0}
-Fresh n (m ∷ ms) = (n ≢ m) × Fresh n ms
 
 -- "At most four attributes, .. all names different": at most k, with other names than those seen
 abbrev pub GoodAttrs : ℕ → List (List ℕ) → List Attr → Type 0
 GoodAttrs k seen [] = Unit {0}
 GoodAttrs zero seen (a ∷ more) = ⊥
-GoodAttrs (suc k) seen (a ∷ more) = GoodAttr a × Fresh (a .name) seen × GoodAttrs k (a .name ∷ seen) more
+GoodAttrs (suc k) seen (a ∷ more) = GoodAttr a × Each (λ (n : List ℕ). a .name ≢ n) seen × GoodAttrs k (a .name ∷ seen) more
 
 -- what stands between `<` and `>` or `/>`: "Blanks are allowed before `>` and `/>`"
 pub record Tag : Type 0 where
@@ -84,7 +71,7 @@ tag t = t .name ++ (attrs (t .attributes) ++ t .gap)
 pub record GoodTag (t : Tag) : Type 0 where
   pub name : IsName (t .name)
   pub attributes : GoodAttrs 4 [] (t .attributes)
-  pub gap : Blanks (t .gap)
+  pub gap : All isBlank (t .gap)
 
 -- what stands between an element's tags: nothing more; or a piece of text, `<a/>`, or `<a>`, what it holds, `</a` blanks `>`; and what follows it
 pub data Markup : Type 0 where
@@ -96,38 +83,21 @@ pub data Markup : Type 0 where
 abbrev pub render : Markup → List ℕ
 render noMore = []
 render (piece p k) = spell p ++ render k
-render (emptyTag t k) = less ∷ (tag t ++ (solidus ∷ greater ∷ render k))
-render (full t i g k) = less ∷ (tag t ++ (greater ∷ (render i ++ (less ∷ solidus ∷ (t .name ++ (g ++ (greater ∷ render k)))))))
+render (emptyTag t k) = code "<" ∷ (tag t ++ (code "/" ∷ code ">" ∷ render k))
+render (full t i g k) = code "<" ∷ (tag t ++ (code ">" ∷ (render i ++ (code "<" ∷ code "/" ∷ (t .name ++ (g ++ (code ">" ∷ render k)))))))
 
--- the piece is this character
-abbrev pub isChar : ℕ → Piece → Bool
-isChar x (char c) = eqb c x
-isChar x (entity e) = false
+-- `]]>` as it stands, and what follows it
+abbrev pub cut : Markup → Markup
+cut k = piece (char (code "]")) (piece (char (code "]")) (piece (char (code ">")) k))
 
-abbrev pub begins : ℕ → Markup → Bool
-begins x noMore = false
-begins x (piece p k) = isChar x p
-begins x (emptyTag t k) = false
-begins x (full t i g k) = false
-
-abbrev pub following : Markup → Markup
-following noMore = noMore
-following (piece p k) = k
-following (emptyTag t k) = noMore
-following (full t i g k) = noMore
-
--- "Text is XML 1.0 characters without .. `]]>`": the next three pieces are `]`, `]` and `>` as they stand
-abbrev pub cut : Markup → Bool
-cut c = begins bracket c && (begins bracket (following c) && begins greater (following (following c)))
-
--- good, where elements may nest d deep
+-- good, where elements may nest d deep: "Text is XML 1.0 characters without .. `]]>`"
 abbrev pub GoodMarkup : ℕ → Markup → Type 0
 GoodMarkup d noMore = Unit {0}
-GoodMarkup d (piece p k) = GoodPiece p × (cut (piece p k) ≡ false) × GoodMarkup d k
+GoodMarkup d (piece p k) = GoodPiece p × ((m : Markup) → piece p k ≢ cut m) × GoodMarkup d k
 GoodMarkup zero (emptyTag t k) = ⊥
 GoodMarkup (suc d) (emptyTag t k) = GoodTag t × GoodMarkup (suc d) k
 GoodMarkup zero (full t i g k) = ⊥
-GoodMarkup (suc d) (full t i g k) = GoodTag t × GoodMarkup d i × Blanks g × GoodMarkup (suc d) k
+GoodMarkup (suc d) (full t i g k) = GoodTag t × GoodMarkup d i × All isBlank g × GoodMarkup (suc d) k
 
 -- exactly one element
 abbrev pub OneElement : Markup → Type 0
@@ -153,10 +123,10 @@ whole t = declaration (t .declared) ++ (t .before ++ (render (t .root) ++ t .aft
 
 -- "Nesting is at most 16, the root being 1"
 pub record GoodTree (t : Tree) : Type 0 where
-  pub before : Blanks (t .before)
+  pub before : All isBlank (t .before)
   pub one : OneElement (t .root)
   pub root : GoodMarkup 16 (t .root)
-  pub after : Blanks (t .after)
+  pub after : All isBlank (t .after)
 
 pub record HouseXml (s : List ℕ) : Type 0 where
   pub tree : Tree
@@ -166,9 +136,3 @@ pub record HouseXml (s : List ℕ) : Type 0 where
 -- some house XML text begins so
 unfoldable pub Viable : List ℕ → Type 0
 Viable p = (t : List ℕ) × HouseXml (p ++ t)
-
--- "most leading bytes that still begin some house XML text"
-pub record Longest (s : List ℕ) (n : ℕ) : Type 0 where
-  pub within : n ≤ length s
-  pub begins : Viable (take n s)
-  pub most : (k : ℕ) → k ≤ length s → Viable (take k s) → k ≤ n

@@ -1,9 +1,9 @@
 -- A message: what a tree holds once blanks in tags are passed over and entities resolved, with the byte place of each `<` and of each
 -- character. Assumes nothing.
-use mathlib.Core.List.{List, [], _∷_}
+use mathlib.Core.List.{List, map}
 use Prim.Native.Nat.{ℕ, _+_}
 use lib.ListN.{length}
-use Rattle.text_characters.specs.Pieces.{spell, resolved, resolvedAll}
+use Rattle.text_characters.specs.Pieces.{spell, resolved}
 use Rattle.xml.specs.House.{Attr, tag, Markup, noMore, piece, emptyTag, full, render, declaration, Tree}
 
 -- attributes in order: the name, and the characters of the value "after entities are resolved"
@@ -19,8 +19,7 @@ pub data Inside : Type 0 where
   element : ℕ → List ℕ → Attrs → Inside → Inside → Inside
 
 abbrev pub attrsOf : List Attr → Attrs
-attrsOf [] = []
-attrsOf (a ∷ more) = (a .name, resolvedAll (a .value)) ∷ attrsOf more
+attrsOf as′ = map (λ (a : Attr). (a .name, map resolved (a .value))) as′
 
 -- what stands inside markup whose first byte is at place o
 abbrev pub partsOf : ℕ → Markup → Inside
@@ -30,10 +29,10 @@ partsOf o (emptyTag t k) = element o (t .name) (attrsOf (t .attributes)) nothing
 partsOf o (full t i g k) =
     element o (t .name) (attrsOf (t .attributes)) (partsOf (o + (length (tag t) + 2)) i) (partsOf (o + length (render (full t i g noMore))) k)
 
--- where the one element of a text begins
-abbrev pub rootAt : Tree → ℕ
-rootAt t = length (declaration (t .declared)) + length (t .before)
-
 -- the message of a tree: its one element
 abbrev pub messageOf : Tree → Inside
-messageOf t = partsOf (rootAt t) (t .root)
+messageOf t = partsOf (length (declaration (t .declared)) + length (t .before)) (t .root)
+
+-- where that begins, as the laws name it
+abbrev pub rootAt : Tree → ℕ
+rootAt t = length (declaration (t .declared)) + length (t .before)

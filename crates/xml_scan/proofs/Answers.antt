@@ -6,8 +6,9 @@ use Prim.Native.Nat.{ℕ, _+_, _≤_, _<_}
 use lib.ListN.{length, getD, drop}
 use Rattle.text.specs.Bytes.{isBlank}
 use Rattle.text.specs.Lists.{span}
+use Rattle.text.proofs.Parts.{longest-one}
 use Rattle.xml.specs.mirror.Auto.{done, start, root, dead, at, next}
-use Rattle.xml.proofs.Theorem.{longest-one}
+use Rattle.xml.specs.House.{Viable}
 use Rattle.xml_scan.specs.mirror.Goes.{fate, Goes}
 use Rattle.xml_scan.specs.Right.{Right}
 use Rattle.xml_pieces.specs.declared.Went.{Went}
@@ -22,7 +23,7 @@ pub right-one : (s : List ℕ) (a b : Scanned) → Right s a → Right s b → a
 right-one s Whole Whole p q = refl
 right-one s Whole (Stops n) p q = absurd (q .0 p)
 right-one s (Stops m) Whole p q = absurd (p .0 q)
-right-one s (Stops m) (Stops n) p q = ap Stops (longest-one s m n (p .1) (q .1))
+right-one s (Stops m) (Stops n) p q = ap Stops (longest-one Viable s m n (p .1) (q .1))
 
 done-blank : (x : ℕ) → isBlank x ≡ true → next done x ≡ at done
 unfolding next

@@ -9,9 +9,9 @@ use native.Mathlib.Decide.{decLt}
 use native.Mathlib.Omega.{arith}
 use lib.ListN.{length, getD, drop, take, length-drop, drop-of-length-le}
 use lib.Seq.{drop-cons, drop-drop, getD-drop}
-use Rattle.text.specs.Lists.{span}
+use Rattle.text.specs.Lists.{span, LongestBeginning}
 use Rattle.text.proofs.Spans.{span-le, span-next, span-end, span-stop}
-use Rattle.xml.specs.House.{HouseXml, Longest}
+use Rattle.xml.specs.House.{HouseXml, Viable}
 use Rattle.xml.specs.mirror.Auto.{At, done, start, first, before, root, declare, name, tail, gap, attr, equals, quote, value, within, slash, content, part, less, close, St, dead, at, next, step, run, isDead, liveLen}
 use Rattle.xml.proofs.Theorem.{accepts, accepted, longest, dead-run}
 use Rattle.xml_scan.specs.mirror.Goes.{mayEnd, ends, comes, fate}
@@ -159,7 +159,7 @@ pub whole : (s : List ℕ) (n : ℕ) → fate s 0 start ≡ (true, n) → HouseX
 unfolding comes
 whole s n e = accepted s (done-is (run (at start) s) (ap (λ (w : Bool × ℕ). w .0) e))
 
-pub stopped : (s : List ℕ) (n : ℕ) → fate s 0 start ≡ (false, n) → (HouseXml s → ⊥) × Longest s n
+pub stopped : (s : List ℕ) (n : ℕ) → fate s 0 start ≡ (false, n) → (HouseXml s → ⊥) × LongestBeginning Viable s n
 unfolding comes
 stopped s n e =
     let k : liveLen (at start) s ≡ n = omega (arith, ap (λ (w : Bool × ℕ). w .1) e) in

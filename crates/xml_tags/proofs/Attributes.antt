@@ -13,7 +13,7 @@ use Rattle.text.specs.Lists.{All, Begins, span}
 use Rattle.text_characters.specs.Pieces.{Piece, spells}
 use Rattle.text.proofs.Classes.{not-so}
 use Rattle.text.proofs.Spans.{span-le, span-of}
-use Rattle.xml.specs.House.{Blanks, SomeBlanks, Quote, singleQuote, double, mark, GoodValue, Attr, attr, attrs, GoodAttr, GoodAttrs}
+use Rattle.xml.specs.House.{Quote, singleQuote, double, mark, GoodValue, Attr, attr, attrs, GoodAttr, GoodAttrs}
 use Rattle.xml.proofs.Basics.{by-blank, blank-no-start, all-append, all-weaken, isFullPart, start-full, full-name}
 use Rattle.xml_tags.specs.declared.attribute.Attribute.{Attribute}
 use Rattle.xml_tags.specs.declared.attribute.Passed.{Passed}
@@ -149,16 +149,16 @@ pub full-in : (n : List ℕ) → Begins isNameStart isFullPart n → All inName 
 full-in [] i = tt
 full-in (x ∷ n) i = (part-in-name x (start-full x (i .0)), all-weaken isFullPart inName part-in-name n (i .1))
 
-some-blanks : (g : List ℕ) → SomeBlanks g → Blanks g
+some-blanks : (g : List ℕ) → Begins isBlank isBlank g → All isBlank g
 some-blanks [] b = absurd b
 some-blanks (x ∷ g) b = b
 
 -- a blank ends a name
-blanks-end-name : (g w : List ℕ) → Blanks g → span inName w ≡ 0 → span inName (g ++ w) ≡ 0
+blanks-end-name : (g w : List ℕ) → All isBlank g → span inName w ≡ 0 → span inName (g ++ w) ≡ 0
 blanks-end-name [] w b e = e
 blanks-end-name (x ∷ g) w b e = stops inName x (g ++ w) (blank-stops x (b .0))
 
-some-end-name : (g w : List ℕ) → SomeBlanks g → span inName (g ++ w) ≡ 0
+some-end-name : (g w : List ℕ) → Begins isBlank isBlank g → span inName (g ++ w) ≡ 0
 some-end-name [] w b = absurd b
 some-end-name (x ∷ g) w b = stops inName x (g ++ w) (blank-stops x (b .0))
 
@@ -180,7 +180,7 @@ unfolding noQuote
 mark-quote singleQuote = refl
 mark-quote double = refl
 
-equals-all : (b a : List ℕ) → Blanks b → Blanks a → All noQuote (b ++ (61 ∷ a))
+equals-all : (b a : List ℕ) → All isBlank b → All isBlank a → All noQuote (b ++ (61 ∷ a))
 unfolding noQuote
 equals-all b a h k =
     all-append noQuote b (61 ∷ a) (all-weaken isBlank noQuote blank-no-quote b h) (refl, all-weaken isBlank noQuote blank-no-quote a k)
@@ -220,7 +220,7 @@ attribute-is o a w g =
     value = mark (a .quote) ∷ (spells (a .value) ++ (mark (a .quote) ∷ w))
 
 -- blanks, and then no name
-pub attribute-none : (o : ℕ) (g w : List ℕ) → Blanks g → span isBlank w ≡ 0 → span inName w ≡ 0
+pub attribute-none : (o : ℕ) (g w : List ℕ) → All isBlank g → span isBlank w ≡ 0 → span inName w ≡ 0
     → attributeAt o (g ++ w) ≡ nowhere (o + length g)
 unfolding attributeAt namedAt
 attribute-none o g w b e f = pass-over isBlank namedAt o g w b e ∙ rw f refl
@@ -243,7 +243,7 @@ attribute-drop o a w =
     let e : attributeOf o a .end - o ≡ length (attr a) = omega (arith, attribute-end o a) in
     rw (e, drop-append-seam (attr a) w)
 
-module _ (g w : List ℕ) (b : Blanks g) (e : span isBlank w ≡ 0) (f : span inName w ≡ 0) where
+module _ (g w : List ℕ) (b : All isBlank g) (e : span isBlank w ≡ 0) (f : span inName w ≡ 0) where
   none-from : (o n : ℕ) → passedFrom (suc n) o (g ++ w) ≡ record { count = 0; end = o + length g }
   unfolding passedFrom
   none-from o n = rw (attribute-none o g w b e f, eq-eqb (o + length g) (o + length g) refl)
@@ -274,7 +274,7 @@ module _ (g w : List ℕ) (b : Blanks g) (e : span isBlank w ≡ 0) (f : span in
   first-is o (a ∷ l) h = ap (attributeAt o) (append-assoc (attr a) (attrs l) (g ++ w)) ∙ attribute-is o a (attrs l ++ (g ++ w)) (h .0)
 
 -- a tag's name does not go on into what stands after it
-pub attrs-end-name : (g w : List ℕ) → Blanks g → span inName w ≡ 0 → (l : List Attr) → GoodAttrs 4 [] l → span inName (attrs l ++ (g ++ w)) ≡ 0
+pub attrs-end-name : (g w : List ℕ) → All isBlank g → span inName w ≡ 0 → (l : List Attr) → GoodAttrs 4 [] l → span inName (attrs l ++ (g ++ w)) ≡ 0
 attrs-end-name g w b f [] h = blanks-end-name g w b f
 attrs-end-name g w b f (a ∷ l) h =
     ap (span inName) (append-assoc (attr a) (attrs l) (g ++ w) ∙ append-assoc (a .gap) _ (attrs l ++ (g ++ w)))

@@ -64,4 +64,4 @@ text-avoids (p ∷ ps) g = all-append (but less) (spell p) (spells ps) (piece-av
 pub value-avoids : (q : Quote) (v : List Piece) → GoodValue q v → All (but (mark q)) (spells v)
 value-avoids q [] g = tt
 value-avoids q (p ∷ v) g =
-    all-append (but (mark q)) (spell p) (spells v) (spell-avoids (mark q) p (mark-apart q) (g .1)) (value-avoids q v (g .2))
+    all-append (but (mark q)) (spell p) (spells v) (spell-avoids (mark q) p (mark-apart q) (g .0 .1)) (value-avoids q v (g .1))

@@ -6,9 +6,9 @@ use native.Mathlib.Omega.{arith}
 use lib.ListN.{length, drop, length-append}
 use lib.Seq.{slice}
 use Rattle.text.specs.Bytes.{isBlank}
-use Rattle.text.specs.Lists.{Each, span}
+use Rattle.text.specs.Lists.{Each, span, All}
 use Rattle.text_characters.specs.Pieces.{Piece, spell, spells, resolvedAll, GoodPiece, Spells}
-use Rattle.xml.specs.House.{Blanks, IsName, Quote, mark, GoodValue, Attr, attr, attrs, GoodAttrs, Tag, tag, GoodTag, Markup, noMore, piece, emptyTag, full, render}
+use Rattle.xml.specs.House.{IsName, Quote, mark, GoodValue, Attr, attr, attrs, GoodAttrs, Tag, tag, GoodTag, Markup, noMore, piece, emptyTag, full, render}
 use Rattle.xml.specs.Message.{attrsOf}
 use Rattle.xml.proofs.Lang.{endOn}
 use Rattle.xml_tags.specs.declared.attribute.Attribute.{Attribute}
@@ -45,7 +45,7 @@ module _ (s : List ℕ) where
 
   value-good : (q : Quote) (v : List Piece) → GoodValue q v → Each GoodPiece v
   value-good q [] g = tt
-  value-good q (p ∷ v) g = (g .0, value-good q v (g .2))
+  value-good q (p ∷ v) g = (g .0 .0, value-good q v (g .1))
 
   pub finds : (l : List Attr) (k : ℕ) (ss : List (List ℕ)) (o : ℕ) (w : List ℕ) → GoodAttrs k ss l → drop o s ≡ attrs l ++ w
       → Finds s o (attrsOf l)
@@ -146,7 +146,7 @@ module _ (s : List ℕ) where
     pub token : tokenIn s o ≡ bare Close o (o + (length n + length g + 3))
     pub behind : drop (o + (length n + length g + 3)) s ≡ w
 
-  pub close-at : (o : ℕ) (n g w : List ℕ) → IsName n → Blanks g → drop o s ≡ endOn n g w → CloseAt o n g w
+  pub close-at : (o : ℕ) (n g w : List ℕ) → IsName n → All isBlank g → drop o s ≡ endOn n g w → CloseAt o n g w
   close-at o n g w i b e =
       let d = drop-is o (o + 2) s (60 ∷ 47 ∷ []) (n ++ (g ++ (62 ∷ w))) e refl in
       let d1 = drop-is (o + 2) (o + 2 + length n) s n (g ++ (62 ∷ w)) d refl in

@@ -5,10 +5,11 @@ use mathlib.Core.List.{List, [], _∷_, _++_}
 use Prim.Native.Nat.{ℕ, _+_}
 use lib.ListN.{length, drop}
 use borrow.Author.Tests.{ne-eqb}
+use Rattle.text.specs.Lists.{All}
 use Rattle.text.specs.Bytes.{ascii, isBlank, isNameStart}
 use Rattle.text_characters.specs.Pieces.{greater}
 use Rattle.text.proofs.Spans.{span-of}
-use Rattle.xml.specs.House.{Blanks, IsName, declaration}
+use Rattle.xml.specs.House.{IsName, declaration}
 use Rattle.xml_tags.specs.Marks.{but, one, headIs}
 use Rattle.xml_tags.specs.mirror.Tokens.{rootFrom, startOf}
 use Rattle.xml_tags.proofs.Passing.{stops, pass-over}
@@ -18,7 +19,7 @@ use Rattle.xml_tags.proofs.Avoid.{all-passed}
 declared : List ℕ
 declared = ascii "<?xml version=\"1.0\" encoding=\"UTF-8\"?"
 
-root-from : (o : ℕ) (b w : List ℕ) → Blanks b → rootFrom o (b ++ (60 ∷ w)) ≡ o + length b
+root-from : (o : ℕ) (b w : List ℕ) → All isBlank b → rootFrom o (b ++ (60 ∷ w)) ≡ o + length b
 unfolding rootFrom isBlank
 root-from o b w h = ap (λ (n : ℕ). o + n) (span-of isBlank b (60 ∷ w) h (stops isBlank 60 w refl))
 
@@ -27,7 +28,7 @@ pub name-not : (b : ℕ) → isNameStart b ≡ false → (n w : List ℕ) → Is
 name-not b f [] w i = absurd i
 name-not b f (x ∷ n) w i = ne-eqb x b (λ e. true≢false (sym (i .0) ∙ ap isNameStart e ∙ f))
 
-pub start-is : (d : Bool) (b n w : List ℕ) → Blanks b → IsName n
+pub start-is : (d : Bool) (b n w : List ℕ) → All isBlank b → IsName n
     → startOf (declaration d ++ (b ++ (60 ∷ (n ++ w)))) ≡ length (declaration d) + length b
 unfolding startOf declared isBlank isNameStart
 start-is true b n w h i =

@@ -6,9 +6,9 @@ use native.Mathlib.Omega.{arith}
 use lib.ListN.{length, drop, length-append}
 use lib.Seq.{drop-append-seam}
 use Rattle.text.specs.Bytes.{isBlank, isNameStart}
-use Rattle.text.specs.Lists.{Each}
+use Rattle.text.specs.Lists.{Each, All}
 use Rattle.text_characters.specs.Pieces.{less, Piece, spell, spells, resolved, GoodPiece}
-use Rattle.xml.specs.House.{Blanks, IsName, attrs, Tag, tag, GoodTag, Markup, noMore, piece, emptyTag, full, render, GoodMarkup, OneElement, declaration, Tree, whole, GoodTree}
+use Rattle.xml.specs.House.{IsName, attrs, Tag, tag, GoodTag, Markup, noMore, piece, emptyTag, full, render, GoodMarkup, OneElement, declaration, Tree, whole, GoodTree}
 use Rattle.xml.specs.Message.{Attrs, attrsOf, partsOf, rootAt, messageOf}
 use Rattle.xml.proofs.Basics.{all-weaken}
 use Rattle.xml.proofs.Lang.{endOn}
@@ -85,7 +85,7 @@ module _ (s : List ℕ) where
         let y = open-at s o t w g (x .behind) in
         enters-by a ps more _ (x .token ∙ y .token) refl (record { good = h; is = x .part }) (y .tagged) k
 
-    close-told : (n g w : List ℕ) (more : List Event) → IsName n → Blanks g → drop a s ≡ spells ps ++ endOn n g w
+    close-told : (n g w : List ℕ) (more : List Event) → IsName n → All isBlank g → drop a s ≡ spells ps ++ endOn n g w
         → Tells s (o + (length n + length g + 3)) more
         → Tells s a (chars a ps (leave ∷ more))
     close-told n g w more i b e k =
@@ -96,7 +96,7 @@ module _ (s : List ℕ) where
   -- ---- content with its end tag, after a text
 
   content-told : (c : Markup) (d a o z : ℕ) (ps : List Piece) (n g u : List ℕ) (more : List Event)
-      → GoodMarkup d c → Each GoodPiece ps → IsName n → Blanks g
+      → GoodMarkup d c → Each GoodPiece ps → IsName n → All isBlank g
       → o ≡ a + length (spells ps) → z ≡ o + length (render c) + (length n + length g + 3)
       → drop a s ≡ spells ps ++ (render c ++ endOn n g u)
       → Tells s z more
@@ -129,12 +129,12 @@ module _ (s : List ℕ) where
 
   -- ---- the root, and blanks after it
 
-  blanks-told : (o : ℕ) (l : List ℕ) → Blanks l → drop o s ≡ l → Tells s o []
+  blanks-told : (o : ℕ) (l : List ℕ) → All isBlank l → drop o s ≡ l → Tells s o []
   unfolding isBlank
   blanks-told o l b e =
       ends (ap (λ (w : List ℕ). tokenAt o w .kind) e ∙ ap (λ (t : Token). t .kind) (token-end o l (all-weaken isBlank (but less) (but-by isBlank less refl) l b)))
 
-  root-told : (c : Markup) (o : ℕ) (u : List ℕ) → OneElement c → GoodMarkup 16 c → Blanks u → drop o s ≡ render c ++ u
+  root-told : (c : Markup) (o : ℕ) (u : List ℕ) → OneElement c → GoodMarkup 16 c → All isBlank u → drop o s ≡ render c ++ u
       → Tells s o (events (partsOf o c) [])
   root-told noMore o u one g b e = absurd one
   root-told (piece p c) o u one g b e = absurd one

@@ -12,7 +12,7 @@ use borrow.Author.Tests.{ne-eqb}
 use Rattle.text.specs.Bytes.{isBlank, isNamePart, isNameStart}
 use Rattle.text.specs.Lists.{All, Each, span}
 use Rattle.text_characters.specs.Pieces.{less, greater, solidus, Piece, spells, GoodPiece}
-use Rattle.xml.specs.House.{Blanks, IsName, attrs, Tag, tag, GoodTag}
+use Rattle.xml.specs.House.{IsName, attrs, Tag, tag, GoodTag}
 use Rattle.xml.proofs.Basics.{all-append, all-weaken, name-all, name-full}
 use Rattle.xml_tags.specs.declared.attribute.Attribute.{Attribute}
 use Rattle.xml_tags.specs.declared.token.Kind.the-variants.{Open, Empty, Close, End}
@@ -147,13 +147,13 @@ token-empty o t w g =
 
 -- ---- end tags
 
-close-all : (n g : List ℕ) → IsName n → Blanks g → All (but greater) (47 ∷ (n ++ g))
+close-all : (n g : List ℕ) → IsName n → All isBlank g → All (but greater) (47 ∷ (n ++ g))
 unfolding isBlank isNamePart
 close-all n g i b =
     (refl, all-append (but greater) n g (all-weaken isNamePart (but greater) (but-by isNamePart greater refl) n (name-all n i)) (all-weaken isBlank (but greater) (but-by isBlank greater refl) g b))
 
 -- `</a>`
-pub token-close : (o : ℕ) (n g w : List ℕ) → IsName n → Blanks g
+pub token-close : (o : ℕ) (n g w : List ℕ) → IsName n → All isBlank g
     → tokenAt o (60 ∷ 47 ∷ (n ++ (g ++ (62 ∷ w)))) ≡ bare Close o (o + (length n + length g + 3))
 unfolding tagAt behind
 token-close o n g w i b =

@@ -11,7 +11,7 @@ use Rattle.text.specs.Bytes.{isBlank}
 use Rattle.text.specs.Lists.{Each}
 use Rattle.list.specs.Listing.{Leaf, Kind, group, choice, leaf, Listing, rowAt, Child, child, isGroup}
 use Rattle.list.specs.WellFormed.{LeafOk, KindOk, WellFormed}
-use Rattle.list.specs.Content.{Content, end, value, node, rows, ValueOf, GroupOf, Good, Meets}
+use Rattle.list.specs.Content.{Content, end, value, node, rows, ValueOf, Good, Meets}
 use Rattle.xml.specs.Message.{Attrs, Inside, nothingInside, character, element}
 use Rattle.file_walk.specs.declared.found.Found.{Found}
 use Rattle.file_walk.specs.declared.found.Found.the-variants.{Fine}
@@ -29,16 +29,6 @@ use Rattle.file_walk.proofs.violation.Tests.{Opened, opened, opens, clo
 
 firstOf4 : (a b c d : Found) → a ≡ Fine → b ≡ Fine → c ≡ Fine → d ≡ Fine → firstOf (a ∷ b ∷ c ∷ d ∷ []) ≡ Fine
 firstOf4 a b c d ha hb hc hd = rw (ha, hb, hc, hd)
-
-group-of : (t : Types) (l : Listing) (k : Kind) → isGroup k ≡ true → GroupOf (t .Is) l k
-group-of t l group g = tt
-group-of t l choice g = tt
-group-of t l (leaf f) g = absurd (false≢true g)
-
-of-group : (t : Types) (l : Listing) (k : Kind) → GroupOf (t .Is) l k → isGroup k ≡ true
-of-group t l group g = refl
-of-group t l choice g = refl
-of-group t l (leaf f) g = absurd g
 
 module _ (t : Types) (y : Spelling t) (j : Judge) (d : Decides t j) (l : Listing) (w : WellFormed l) where
   -- ---- from no violation to a content
@@ -85,7 +75,7 @@ module _ (t : Types) (y : Spelling t) (j : Judge) (d : Decides t j) (l : Listing
         record {
           content = node (child l p n) (f .content) (after .content);
           denotes = ((c, nm), (g, group-attrs j (kindOf l (child l p n)) ats g (op .attrs)), f .denotes, after .denotes);
-          good = ((group-of t l (kindOf l (child l p n)) g, y), f .good, after .good);
+          good = ((g, y), f .good, after .good);
           steps = (op .fits, after .steps);
           theirs = (c, after .theirs);
           rowed = ap (λ rs. child l p n ∷ rs) (after .rowed);
@@ -209,7 +199,7 @@ module _ (t : Types) (y : Spelling t) (j : Judge) (d : Decides t j) (l : Listing
       let k = closed j l w (kindOf l 1) 1 o ats (rows (f .content)) (textOf i) root-group refl (f .steps) (f .theirs)
       (subst (λ rs. closing j l (kindOf l 1) 1 o ats rs (textOf i) ≡ Fine) (f .rowed) (c .0)) in (
         node 1 (f .content) end,
-        record { root = refl; good = ((group-of t l (kindOf l 1) root-group, k), f .good, tt) },
+        record { root = refl; good = ((root-group, k), f .good, tt) },
         record { root = not-false (isRoot l n ats) (refuse-no (not (isRoot l n ats)) (table.wrongRoot o) (a .0)); alone = one; kids = f .content; is = refl; parts = f .denotes },
       )
 

@@ -19,7 +19,7 @@ use Rattle.image.proofs.answers.One.{not-kindless, accepting}
 module _ (vs : Values) (ls : List Listing) where
   -- of a run that begins with an image, its items and the closing 0
   accepts-counts : (run : List ℕ) (k : ℕ) (w : Accepts vs ls run k) (a : Answer) → a .code ≡ 0 → CountsItems vs ls run a (suc (length (items (w .holds .content))))
-  accepts-counts run k w a z = counted (w .list) (w .among) (w .head) (w .behind) (w .front) (w .at) (closed (w .size) (w .holds) z refl)
+  accepts-counts run k w a z = counted (w .list) (w .among) (w .head) (w .after) (w .front) (w .at) (closed (w .size) (w .holds) z refl)
 
   -- some number, whatever is answered
   pub counts-some : (run : List ℕ) (a : Answer) → Reads vs ls run a → (n : ℕ) × CountsItems vs ls run a n
@@ -59,7 +59,7 @@ module _ (vs : Values) (ls : List Listing) where
         w = accepting vs ls run a r z .1
 
         few : n + length (w .head) ≤ a .place
-        few = omega (arith, counts-one n (suc (length (items (w .holds .content)))) c (accepts-counts run (a .place) w a z), body-few vs (w .list) (w .behind) (w .size) (w .holds), w .long)
+        few = omega (arith, counts-one n (suc (length (items (w .holds .content)))) c (accepts-counts run (a .place) w a z), body-few vs (w .list) (w .after) (w .size) (w .holds), w .long)
 
         sized : (5 ≤ length (w .head)) × (take 5 run ≡ versioned 1 → length (w .head) ≡ 5) × (take 5 run ≡ versioned 2 → length (w .head) ≡ 6)
-        sized = subst (λ (x : List ℕ). (5 ≤ length (w .head)) × (take 5 x ≡ versioned 1 → length (w .head) ≡ 5) × (take 5 x ≡ versioned 2 → length (w .head) ≡ 6)) (sym (w .at)) (front-size (w .list) (w .head) (w .front) (w .behind))
+        sized = subst (λ (x : List ℕ). (5 ≤ length (w .head)) × (take 5 x ≡ versioned 1 → length (w .head) ≡ 5) × (take 5 x ≡ versioned 2 → length (w .head) ≡ 6)) (sym (w .at)) (front-size (w .list) (w .head) (w .front) (w .after))

@@ -19,7 +19,7 @@ use Rattle.list.specs.WellFormed.{WellFormed}
 use Rattle.list.specs.Content.{Content, Meets}
 use Rattle.image.specs.Image.{Values, Lawful, Item, versioned, header, itemsBytes, body, image}
 use Rattle.image.specs.Place.{Holds, Breaks, Front, current, Among, Apart, Accepts, Reads, over, foreign, version, kindless, broken, wholeImage}
-use Rattle.image.specs.Pick.{rowsOf, Picked, Missing, Picks, refused, missing, found, PickAnswers, Hands}
+use Rattle.image.specs.Pick.{rowsOf, Picked, Missing, Picks, refused, missing, found}
 use Rattle.image.proofs.content.Rows.{less, same, clash}
 use Rattle.image.proofs.content.Prefix.{body-prefix}
 use Rattle.image.proofs.content.Stops.{breaks-one}
@@ -63,7 +63,7 @@ module _ (vs : Values) (l : Listing) where
 
   pub picked-one : (from : ℕ) (c : Content (vs .Value)) (r n p q : ℕ) (s t : List ℕ) → Picked vs l from c r n p s → Picked vs l from c r n q t → (p ≡ q) × (s ≡ t)
   picked-one from c r n p q s t a b =
-      let o = nth-one r (a .before) (b .before) (a .behind) (b .behind) (a .value) (b .value) (a .nth ∙ sym (b .nth)) (sym (a .at) ∙ b .at) in
+      let o = nth-one r (a .before) (b .before) (a .after) (b .after) (a .value) (b .value) (a .nth ∙ sym (b .nth)) (sym (a .at) ∙ b .at) in
       let k : a .type ≡ b .type = cc (a .kind, b .kind) in (
         a .starts ∙ ap₂ (λ (z : List (Item vs)) (m : Leaf). from + length (itemsBytes vs l z) + 1 + vs .head m) (o .0) k ∙ sym (b .starts),
         a .holds ∙ ap₂ (λ (z : vs .Value) (m : Leaf). drop (vs .head m) (vs .bytes m z)) (o .1) k ∙ sym (b .holds),
@@ -72,7 +72,7 @@ module _ (vs : Values) (l : Listing) where
   not-missing : (from : ℕ) (c : Content (vs .Value)) (r n p : ℕ) (s : List ℕ) → Picked vs l from c r n p s → Missing vs l c r n → ⊥
   not-missing from c r n p s a (inl h) = clash h (ap isGroup (a .kind))
   not-missing from c r n p s a (inr h) =
-      omega (arith, ap (many r) (a .at), many-append r (a .before) ((r, some (a .value)) ∷ a .behind), many-same r (some (a .value)) (a .behind), a .nth)
+      omega (arith, ap (many r) (a .at), many-append r (a .before) ((r, some (a .value)) ∷ a .after), many-same r (some (a .value)) (a .after), a .nth)
 
 -- ---- the header and what stands after it
 
@@ -102,7 +102,7 @@ module _ (vs : Values) (ls : List Listing) where
     among = i;
     head = header l;
     front = current refl;
-    behind = body vs l c ++ u;
+    after = body vs l c ++ u;
     at = append-assoc (header l) (body vs l c) u;
     size = length (body vs l c);
     holds = record { content = c; meets = m; rest = u; at = refl; long = refl };
@@ -139,7 +139,7 @@ module _ (vs : Values) (ls : List Listing) where
       among = a .among;
       head = a .head;
       front = a .front;
-      behind = body vs (a .list) (a .holds .content) ++ u;
+      after = body vs (a .list) (a .holds .content) ++ u;
       at = ap (λ (z : List ℕ). z ++ u) (ap₂ take first-long first-at ∙ take-append-seam first (a .holds .rest)) ∙ append-assoc (a .head) (body vs (a .list) (a .holds .content)) u;
       size = a .size;
       holds = record { content = a .holds .content; meets = a .holds .meets; rest = u; at = refl; long = a .holds .long };
@@ -174,11 +174,11 @@ module _ (vs : Values) (ls : List Listing) where
         (o .0, o .1, c .0, c .1)
 
     module _ (run : List ℕ) (m n : ℕ) (a : Accepts vs ls run m) (b : Accepts vs ls run n) where
-      one-front : (a .list ≡ b .list) × (a .head ≡ b .head) × (a .behind ≡ b .behind)
-      one-front = apart .one (a .list) (b .list) (a .among) (b .among) (a .head) (b .head) (a .behind) (b .behind) (a .front) (b .front) (sym (a .at) ∙ b .at)
+      one-front : (a .list ≡ b .list) × (a .head ≡ b .head) × (a .after ≡ b .after)
+      one-front = apart .one (a .list) (b .list) (a .among) (b .among) (a .head) (b .head) (a .after) (b .after) (a .front) (b .front) (sym (a .at) ∙ b .at)
 
       one-body : (a .holds .content ≡ b .holds .content) × (a .size ≡ b .size)
-      one-body = same-holds (a .list) (b .list) (a .among) (one-front .0) (a .behind) (b .behind) (one-front .2) (a .size) (b .size) (a .holds) (b .holds)
+      one-body = same-holds (a .list) (b .list) (a .among) (one-front .0) (a .after) (b .after) (one-front .2) (a .size) (b .size) (a .holds) (b .holds)
 
       -- the first image has one list, one content, one length
       pub accepts-list : a .list ≡ b .list
@@ -195,8 +195,8 @@ module _ (vs : Values) (ls : List Listing) where
 
     unbroken : (run : List ℕ) (l : Listing) → Among l ls → (h : List ℕ) → Front l h → (s : List ℕ) → run ≡ h ++ s → (j : ℕ) → Breaks vs l s j → (n : ℕ) → Accepts vs ls run n → ⊥
     unbroken run l i h f s x j y n w =
-        let o = apart .one l (w .list) i (w .among) h (w .head) s (w .behind) f (w .front) (sym x ∙ w .at) in
-        not-both l (w .list) (o .0) s (w .behind) (o .2) j (w .size) y (w .holds)
+        let o = apart .one l (w .list) i (w .among) h (w .head) s (w .after) f (w .front) (sym x ∙ w .at) in
+        not-both l (w .list) (o .0) s (w .after) (o .2) j (w .size) y (w .holds)
 
     -- the reader has one answer only
     pub reads-one : (run : List ℕ) (a b : Answer) → Reads vs ls run a → Reads vs ls run b → a ≡ b
@@ -211,19 +211,19 @@ module _ (vs : Values) (ls : List Listing) where
     reads-one run a b (foreign i x e) (version j y z u w f) = absurd (foreign-not run x y z)
     reads-one run a b (foreign i x e) (kindless j y z f) = absurd (foreign-no-second run x y)
     reads-one run a b (foreign i x e) (broken j l k p q s y n z f) = absurd (not-headed run l p s q y x)
-    reads-one run a b (foreign i x e) (wholeImage j n y f) = absurd (not-headed run (y .list) (y .head) (y .behind) (y .front) (y .at) x)
+    reads-one run a b (foreign i x e) (wholeImage j n y f) = absurd (not-headed run (y .list) (y .head) (y .after) (y .front) (y .at) x)
     reads-one run a b (version i x y z w e) (over g f) = absurd (omega arith)
     reads-one run a b (version i x y z w e) (foreign j u f) = absurd (foreign-not run u x y)
     reads-one run a b (version i x y z w e) (version j u v t r f) = e ∙ sym f
     reads-one run a b (version i x y z w e) (kindless j u v f) = absurd (w u)
     reads-one run a b (version i x y z w e) (broken j l k p q s u n v f) = absurd (not-version run l p s q u z w)
-    reads-one run a b (version i x y z w e) (wholeImage j n u f) = absurd (not-version run (u .list) (u .head) (u .behind) (u .front) (u .at) z w)
+    reads-one run a b (version i x y z w e) (wholeImage j n u f) = absurd (not-version run (u .list) (u .head) (u .after) (u .front) (u .at) z w)
     reads-one run a b (kindless i x y e) (over g f) = absurd (omega arith)
     reads-one run a b (kindless i x y e) (foreign j u f) = absurd (foreign-no-second run u x)
     reads-one run a b (kindless i x y e) (version j u v t r f) = absurd (r x)
     reads-one run a b (kindless i x y e) (kindless j u v f) = e ∙ sym f
     reads-one run a b (kindless i x y e) (broken j l k p q s u n v f) = absurd (not-kindless run l p s q u x (y l k))
-    reads-one run a b (kindless i x y e) (wholeImage j n u f) = absurd (not-kindless run (u .list) (u .head) (u .behind) (u .front) (u .at) x (y (u .list) (u .among)))
+    reads-one run a b (kindless i x y e) (wholeImage j n u f) = absurd (not-kindless run (u .list) (u .head) (u .after) (u .front) (u .at) x (y (u .list) (u .among)))
     reads-one run a b (broken i l k h q s x n y e) (over g f) = absurd (omega arith)
     reads-one run a b (broken i l k h q s x n y e) (foreign j u f) = absurd (not-headed run l h s q x u)
     reads-one run a b (broken i l k h q s x n y e) (version j u v t r f) = absurd (not-version run l h s q x t r)
@@ -234,9 +234,9 @@ module _ (vs : Values) (ls : List Listing) where
         e ∙ ap₂ (λ (g : List ℕ) (m : ℕ). brokenImage (length g + m)) (o .1) z ∙ sym f
     reads-one run a b (broken i l k h q s x n y e) (wholeImage j m u f) = absurd (unbroken run l k h q s x n y m u)
     reads-one run a b (wholeImage i n x e) (over g f) = absurd (omega arith)
-    reads-one run a b (wholeImage i n x e) (foreign j y f) = absurd (not-headed run (x .list) (x .head) (x .behind) (x .front) (x .at) y)
-    reads-one run a b (wholeImage i n x e) (version j y z u w f) = absurd (not-version run (x .list) (x .head) (x .behind) (x .front) (x .at) u w)
-    reads-one run a b (wholeImage i n x e) (kindless j u v f) = absurd (not-kindless run (x .list) (x .head) (x .behind) (x .front) (x .at) u (v (x .list) (x .among)))
+    reads-one run a b (wholeImage i n x e) (foreign j y f) = absurd (not-headed run (x .list) (x .head) (x .after) (x .front) (x .at) y)
+    reads-one run a b (wholeImage i n x e) (version j y z u w f) = absurd (not-version run (x .list) (x .head) (x .after) (x .front) (x .at) u w)
+    reads-one run a b (wholeImage i n x e) (kindless j u v f) = absurd (not-kindless run (x .list) (x .head) (x .after) (x .front) (x .at) u (v (x .list) (x .among)))
     reads-one run a b (wholeImage i n x e) (broken j l k h q s y m z f) = absurd (unbroken run l k h q s y m z n x)
     reads-one run a b (wholeImage i n x e) (wholeImage j m y f) = e ∙ ap accepted (accepts-one run n m x y) ∙ sym f
 
@@ -278,8 +278,8 @@ module _ (vs : Values) (ls : List Listing) where
         let o = picked-one vs (w′ .list) (length (w′ .head)) (w′ .holds .content) r n p p′ s t (same-picked run k k′ w w′ r n p s u) u′ in
         (e ∙ ap (picked r) (o .0) ∙ sym e′, o .1)
 
-    pub answers-one : (run : List ℕ) (r n : ℕ) (a b : Answer) → PickAnswers vs ls run r n a → PickAnswers vs ls run r n b → a ≡ b
-    answers-one run r n a b x y = picks-one run r n a b (x .part) (y .part) (x .picks) (y .picks) .0
+    pub answers-one : (run : List ℕ) (r n : ℕ) (a b : Answer) → ((s : List ℕ) × Picks vs ls run r n a s) → ((s : List ℕ) × Picks vs ls run r n b s) → a ≡ b
+    answers-one run r n a b x y = picks-one run r n a b (x .0) (y .0) (x .1) (y .1) .0
 
-    pub hands-one : (run : List ℕ) (r n : ℕ) (s t : List ℕ) → Hands vs ls run r n s → Hands vs ls run r n t → s ≡ t
-    hands-one run r n s t x y = picks-one run r n (x .answer) (y .answer) s t (x .picks) (y .picks) .1
+    pub hands-one : (run : List ℕ) (r n : ℕ) (s t : List ℕ) → ((a : Answer) × Picks vs ls run r n a s) → ((a : Answer) × Picks vs ls run r n a t) → s ≡ t
+    hands-one run r n s t x y = picks-one run r n (x .0) (y .0) s t (x .1) (y .1) .1

@@ -81,7 +81,7 @@ module _ (vs : Values) (l : Listing) where
                       kind = v .1;
                       before = o .before;
                       value = v .2 .0;
-                      behind = o .behind;
+                      after = o .behind;
                       at = o .at ∙ ap (λ (x : Option (vs .Value)). o .before ++ ((r, x) ∷ o .behind)) (v .2 .1);
                       nth = o .nth;
                       starts = refl;

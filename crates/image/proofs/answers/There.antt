@@ -36,7 +36,7 @@ module _ (vs : Values) (ls : List Listing) (run : List ℕ) where
     before = itemsBytes vs (w .list) (g .before)
 
     abbrev behind : List ℕ
-    behind = itemsBytes vs (w .list) (g .behind)
+    behind = itemsBytes vs (w .list) (g .after)
 
     bytes-append : (a b : List (Item vs)) → itemsBytes vs (w .list) (a ++ b) ≡ itemsBytes vs (w .list) a ++ itemsBytes vs (w .list) b
     bytes-append [] b = refl
@@ -45,7 +45,7 @@ module _ (vs : Values) (ls : List Listing) (run : List ℕ) where
 
     items-are : itemsBytes vs (w .list) (items (w .holds .content)) ≡ before ++ (r ∷ (value ++ behind))
     items-are =
-        ap (itemsBytes vs (w .list)) (g .at) ∙ bytes-append (g .before) ((r, some (g .value)) ∷ g .behind)
+        ap (itemsBytes vs (w .list)) (g .at) ∙ bytes-append (g .before) ((r, some (g .value)) ∷ g .after)
         ∙ ap (λ z. before ++ (r ∷ (valueBytes vs (w .list) z (some (g .value)) ++ behind))) (g .kind)
 
     abbrev rest : List ℕ

@@ -11,7 +11,7 @@ use Rattle.list.specs.Content.{Content, end, value, node, rows, items, Good, Me
 use Rattle.image.specs.Image.{Values, Lawful, Item}
 use Rattle.image.specs.Place.{BeginsContent}
 use Rattle.image.specs.mirror.Follow.{Simple, Compound, Over, top, Trail, Trace, lastRow, Whole}
-use Rattle.image.proofs.content.Rows.{clash, is-group, value-is, next-in, Well, well}
+use Rattle.image.proofs.content.Rows.{clash, value-is, next-in, Well, well}
 use Rattle.image.proofs.content.Derive.{After, Rest, root, more, Takes, after, inside, fwd, back, rest-over, over-rest}
 use Rattle.image.proofs.content.Levels.{Chain, chain-children, children-chain}
 use Rattle.image.proofs.content.Live.{live}
@@ -71,7 +71,7 @@ module _ (vs : Values) (lw : Lawful vs) (l : Listing) (wf : WellFormed l) where
       let o = of-after i 1 0 a in
       record {
         content = node 1 i end;
-        meets = record { root = refl; good = ((is-group (vs .Is) l (rowAt l 1 .kind) n, chain-children l wf 1 (rows i) (o .0)), o .1, tt) };
+        meets = record { root = refl; good = ((n, chain-children l wf 1 (rows i) (o .0)), o .1, tt) };
         is = cc (e, rest-one r);
       }
 

@@ -1,22 +1,23 @@
 -- What each row still takes, as items of contents; a row that may come next takes one item off it. Assumes nothing.
 use mathlib.Core.Path.{_≡_, refl, sym, _∙_, ap, subst}
 use mathlib.Core.Logic.{_≢_}
+use mathlib.Core.Bool.{true}
 use mathlib.Core.List.{List, [], _∷_, _++_, append-assoc, head-eq-of-cons-eq, tail-eq-of-cons-eq, nil≢cons}
 use mathlib.Core.Option.{Option, none, some}
 use Prim.Native.Nat.{ℕ, zero, suc, _+_, _≤_, _<_}
 use native.Mathlib.Omega.{arith}
-use Rattle.list.specs.Listing.{group, leaf, Listing, size, rowAt, Child}
-use Rattle.list.specs.Content.{Content, end, value, node, items, ValueOf, GroupOf}
+use Rattle.list.specs.Listing.{group, leaf, Listing, size, rowAt, Child, isGroup}
+use Rattle.list.specs.Content.{Content, end, value, node, items, ValueOf}
 use Rattle.image.specs.Image.{Values, Item}
 use Rattle.image.specs.mirror.Follow.{parentOf, Simple, Compound, Fits, Shut, Climb, beside, out, Next, down, on, Over, top, ItemOk}
-use Rattle.image.proofs.content.Rows.{clash, group-is, value-is, Well}
+use Rattle.image.proofs.content.Rows.{clash, value-is, Well}
 
 module _ (vs : Values) (l : Listing) where
   -- what may follow in p after its child q (0: none yet)
   abbrev pub After : ℕ → ℕ → Content (vs .Value) → Type 0
   After p q end = Shut l p q
   After p q (value r v k) = Fits l p q r × ValueOf (vs .Is) l (rowAt l r .kind) v × After p r k
-  After p q (node r i k) = Fits l p q r × GroupOf (vs .Is) l (rowAt l r .kind) × After r 0 i × After p r k
+  After p q (node r i k) = Fits l p q r × (isGroup (rowAt l r .kind) ≡ true) × After r 0 i × After p r k
 
   -- what may follow when q is over
   pub data Rest : ℕ → List (Item vs) → Type 0 where
@@ -69,7 +70,7 @@ module _ (vs : Values) (l : Listing) where
         let er : r ≡ x = sym (ap (λ (z : Item vs). z .0) j) in
         let ey : none ≡ v = sym (ap (λ (z : Item vs). z .1) j) in
         let et : t ≡ items i ++ (items k ++ u) = tail-eq-of-cons-eq e ∙ append-assoc (items i) (items k) u in
-        let took : Took p q r none t = record { fits = a .0; item = a .1; takes = inside (group-is (vs .Is) l (rowAt l r .kind) (a .1)) i (a .2) (items k ++ u) et (behind h (a .0 .child) k (a .3) u refl rest) } in
+        let took : Took p q r none t = record { fits = a .0; item = a .1; takes = inside (a .1) i (a .2) (items k ++ u) et (behind h (a .0 .child) k (a .3) u refl rest) } in
         subst (λ (z : ℕ). Took p q z v t) er (subst (λ (z : Option (vs .Value)). Took p q r z t) ey took)
 
     pub record Onward (q x : ℕ) (v : Option (vs .Value)) (t : List (Item vs)) : Type 0 where
@@ -117,7 +118,7 @@ module _ (vs : Values) (l : Listing) where
         let g = rest-of h (f .child) r in
         record { content = value x y (g .content); fits = (f, i, g .fits); tail = g .tail; is = ap (λ (z : List (Item vs)). (x, some y) ∷ z) (g .is); then = g .then }
     put {p} {q} {x} {t} (some y) h f i (inside n c a u e r) = absurd (clash n (value-is (vs .Is) l (rowAt l x .kind) y i))
-    put {p} {q} {x} {t} none h f i (after k r) = absurd (clash (group-is (vs .Is) l (rowAt l x .kind) i) k)
+    put {p} {q} {x} {t} none h f i (after k r) = absurd (clash i k)
     put {p} {q} {x} {t} none h f i (inside n c a u et r) =
         let g = rest-of h (f .child) r in
         let is : (x, none) ∷ t ≡ (x, none) ∷ ((items c ++ items (g .content)) ++ g .tail) = cc (et, g .is, append-assoc (items c) (items (g .content)) (g .tail)) in

@@ -110,8 +110,8 @@ module _ (vs : Values) (lw : Lawful vs) (l : Listing) (w : Well l) where
       rest = rec p x (within h (f .child) b)
 
       kind : (m : Kind) → kindOf l x ≡ m → Filled p q
-      kind group e = let i = rec x 0 (opened (f .child .first) (f .child .last) (ap isGroup e) b) in (node x (i .0) (rest .0), (f, rw e tt, i .1, rest .1))
-      kind choice e = let i = rec x 0 (opened (f .child .first) (f .child .last) (ap isGroup e) b) in (node x (i .0) (rest .0), (f, rw e tt, i .1, rest .1))
+      kind group e = let i = rec x 0 (opened (f .child .first) (f .child .last) (ap isGroup e) b) in (node x (i .0) (rest .0), (f, ap isGroup e, i .1, rest .1))
+      kind choice e = let i = rec x 0 (opened (f .child .first) (f .child .last) (ap isGroup e) b) in (node x (i .0) (rest .0), (f, ap isGroup e, i .1, rest .1))
       kind (leaf k) e =
           let v = lw .has k (rw e at (w .kinds x)) in
           (value x (v .0) (rest .0), (f, rw e (v .1), rest .1))

@@ -1,6 +1,7 @@
 -- Images tell contents apart, and none is a shorter beginning of another. Assumes nothing.
 use mathlib.Core.Path.{_≡_, refl, sym, _∙_, ap, ap₂, subst}
 use mathlib.Core.Logic.{_≢_}
+use mathlib.Core.Bool.{false≢true}
 use mathlib.Core.List.{List, [], _∷_, _++_, append-assoc, head-eq-of-cons-eq, tail-eq-of-cons-eq, nil≢cons}
 use mathlib.Core.Option.{Option, none, some}
 use Prim.Native.Nat.{ℕ, _+_, _≤_, _<_}
@@ -11,7 +12,7 @@ use Rattle.list.specs.WellFormed.{KindOk, WellFormed}
 use Rattle.list.specs.Content.{Content, end, value, node, rows, items, Meets}
 use Rattle.image.specs.Image.{Values, Lawful, Item, header, valueBytes, itemBytes, itemsBytes, body, image}
 use Rattle.image.specs.mirror.Follow.{parentOf, Compound, OfKind, ItemOk, Trail, Whole}
-use Rattle.image.proofs.content.Rows.{clash, is-group, value-is, next-in, well}
+use Rattle.image.proofs.content.Rows.{clash, value-is, next-in, well}
 use Rattle.image.proofs.content.Derive.{After, above}
 use Rattle.image.proofs.content.Levels.{children-chain}
 use Rattle.image.proofs.content.Begins.{after-of, content-whole, no-more, root-group}
@@ -33,7 +34,7 @@ module _ (vs : Values) (lw : Lawful vs) (l : Listing) (wf : WellFormed l) where
   trail-oks (i ∷ is) q h = (next-in l (h .0) .0, h .1, trail-oks is (i .0) (h .2))
 
   pub root-oks : (is : List (Item vs)) → Trail vs l 1 is → Oks ((1, none) ∷ is)
-  root-oks is h = (omega arith, is-group (vs .Is) l (rowAt l 1 .kind) (root-group vs lw l wf), trail-oks is 1 h)
+  root-oks is h = (omega arith, root-group vs lw l wf, trail-oks is 1 h)
 
   kind-cut : (k : Kind) (v u : Option (vs .Value)) (a b : List ℕ) → KindOk k → OfKind vs l k v → OfKind vs l k u → valueBytes vs l k v ++ a ≡ valueBytes vs l k u ++ b → (v ≡ u) × (a ≡ b)
   kind-cut group none none a b o h g t = (refl, t)
@@ -42,8 +43,8 @@ module _ (vs : Values) (lw : Lawful vs) (l : Listing) (wf : WellFormed l) where
   kind-cut choice none none a b o h g t = (refl, t)
   kind-cut choice none (some u) a b o h g t = absurd g
   kind-cut choice (some v) u a b o h g t = absurd h
-  kind-cut (leaf k) none u a b o h g t = absurd h
-  kind-cut (leaf k) (some v) none a b o h g t = absurd g
+  kind-cut (leaf k) none u a b o h g t = absurd (false≢true h)
+  kind-cut (leaf k) (some v) none a b o h g t = absurd (false≢true g)
   kind-cut (leaf k) (some v) (some u) a b o h g t = let z = lw .prefix k v u a b o h g t in (ap some (z .0), z .1)
 
   pub value-cut : (x y : ℕ) (v u : Option (vs .Value)) (a b : List ℕ) → x ≡ y → ItemOk vs l x v → ItemOk vs l y u

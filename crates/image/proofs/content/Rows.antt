@@ -12,7 +12,7 @@ use Rattle.text.proofs.Classes.{and-is, or-is}
 use Rattle.text.specs.Lists.{Each}
 use Rattle.list.specs.Listing.{Leaf, Kind, group, choice, leaf, alternative, Row, Rule, both, Listing, size, rowAt, Child, isGroup, up}
 use Rattle.list.specs.WellFormed.{KindOk, BothOk, RuleOk, WellFormed}
-use Rattle.list.specs.Content.{ValueOf, GroupOf}
+use Rattle.list.specs.Content.{ValueOf}
 use Rattle.list.proofs.rows.Next.{row-past}
 use Rattle.image.specs.mirror.Follow.{parentOf, countOf, kindOf, Compound, paired, ruled, Climb, beside, out, Next, down, on}
 
@@ -41,16 +41,6 @@ pub clash : {b : Bool} → b ≡ true → b ≡ false → ⊥
 clash a b = true≢false (sym a ∙ b)
 
 module _ {A : Type 0} (Is : Leaf → A → Type 0) (l : Listing) where
-  pub group-is : (k : Kind) → GroupOf Is l k → isGroup k ≡ true
-  group-is group h = refl
-  group-is choice h = refl
-  group-is (leaf k) h = absurd h
-
-  pub is-group : (k : Kind) → isGroup k ≡ true → GroupOf Is l k
-  is-group group e = tt
-  is-group choice e = tt
-  is-group (leaf k) e = absurd (false≢true e)
-
   pub value-is : (k : Kind) (v : A) → ValueOf Is l k v → isGroup k ≡ false
   value-is group v h = absurd h
   value-is choice v h = absurd h

@@ -52,7 +52,7 @@ module _ (vs : Values) (l : Listing) where
   pub leaf-value : (k : Kind) (v : Option (vs .Value)) → OfKind vs l k v → isGroup k ≡ false → (f : Leaf) × (k ≡ leaf f) × ((w : vs .Value) × (v ≡ some w) × vs .Is f w)
   leaf-value group v h e = absurd (true≢false e)
   leaf-value choice v h e = absurd (true≢false e)
-  leaf-value (leaf f) none h e = absurd h
+  leaf-value (leaf f) none h e = absurd (true≢false (sym h))
   leaf-value (leaf f) (some w) h e = (f, refl, (w, refl, h))
 
 -- one turn, by its tests
@@ -299,7 +299,7 @@ module _ (t : List ℕ) (fin : ℕ → ℕ → ℕ) (s : List ℕ) where
             kind = o .1;
             before = g .before;
             value = o .2 .0;
-            behind = g .behind;
+            after = g .behind;
             at = g .at ∙ ap (λ (v : Option (vs .Value)). g .before ++ ((r, v) ∷ g .behind)) (o .2 .1);
             nth = g .nth;
             starts = ap₂ _+_ (g .place) h;

@@ -7,7 +7,7 @@ use mathlib.Core.Option.{Option, none, some}
 use Prim.Native.Nat.{ℕ, suc, _<_}
 use lib.Dec.{eqb}
 use Rattle.list.specs.Listing.{Kind, choice, Count, Rule, both, Listing, size, rowAt, Child, isGroup, required}
-use Rattle.list.specs.Content.{ValueOf, GroupOf}
+use Rattle.list.specs.Content.{ValueOf}
 use Rattle.image.specs.Image.{Values, Item}
 
 -- more than once
@@ -79,7 +79,7 @@ module _ (l : Listing) where
 module _ (vs : Values) (l : Listing) where
   -- a leaf's row with a value of its type, or a group's row
   abbrev pub OfKind : Kind → Option (vs .Value) → Type 0
-  OfKind k none = GroupOf (vs .Is) l k
+  OfKind k none = isGroup k ≡ true
   OfKind k (some v) = ValueOf (vs .Is) l k v
 
   abbrev pub ItemOk : ℕ → Option (vs .Value) → Type 0

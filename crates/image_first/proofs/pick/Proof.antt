@@ -11,7 +11,7 @@ begun-requires c κs = search needs
 
 returns : tie.Need-returns
 returns c =
-    record { part = []; picks = begun-none _ _ (c .before .before .before .begun .ensures .0) _ _ (c .before .if1 .taken) }
+    ([], begun-none _ _ (c .before .before .before .begun .ensures .0) _ _ (c .before .if1 .taken))
 
 kind-requires : tie.Need-kind-requires
 kind-requires c κs = search needs
@@ -21,7 +21,7 @@ no-such-leaf-requires c κs = search needs
 
 returns-2 : tie.Need-returns-2
 returns-2 c =
-    record { part = []; picks = rw (c .no-such-leaf .ensures) (begun-group _ _ (c .before .before .before .before .before .begun .ensures .0) _ _ (omega (arith, c .before .before .before .if1 .left)) (omega (arith, c .before .before .kind .ensures, c .before .if2 .taken))) }
+    ([], rw (c .no-such-leaf .ensures) (begun-group _ _ (c .before .before .before .before .before .begun .ensures .0) _ _ (omega (arith, c .before .before .before .if1 .left)) (omega (arith, c .before .before .kind .ensures, c .before .if2 .taken))))
 
 pick-from-requires : tie.Need-pick-from-requires
 pick-from-requires c κs = search needs

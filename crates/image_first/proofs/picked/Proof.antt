@@ -22,7 +22,7 @@ part-result-end c = search needs
 returns : tie.Need-returns
 returns c =
     record {
-      hands = record { answer = c .before .before .before .begun .result .answer; picks = begun-none _ _ (c .before .before .before .begun .ensures .0) _ _ (c .before .if1 .taken) };
+      hands = (c .before .before .before .begun .result .answer, begun-none _ _ (c .before .before .before .begun .ensures .0) _ _ (c .before .if1 .taken));
       lies = λ a h z. absurd (begun-nowhere _ _ (c .before .before .before .begun .ensures .0) _ _ (c .before .if1 .taken) a h z);
     }
 
@@ -41,7 +41,7 @@ part-result-end-2 c = search needs
 returns-2 : tie.Need-returns-2
 returns-2 c =
     record {
-      hands = record { answer = noSuchLeaf; picks = begun-group _ _ (c .before .before .before .before .before .begun .ensures .0) _ _ (omega (arith, c .before .before .before .if1 .left)) (omega (arith, c .before .before .kind .ensures, c .before .if2 .taken)) };
+      hands = (noSuchLeaf, begun-group _ _ (c .before .before .before .before .before .begun .ensures .0) _ _ (omega (arith, c .before .before .before .if1 .left)) (omega (arith, c .before .before .kind .ensures, c .before .if2 .taken)));
       lies = λ a h z. absurd (group-nowhere _ _ (c .before .before .before .before .before .begun .ensures .0) _ _ (omega (arith, c .before .before .before .if1 .left)) (omega (arith, c .before .before .kind .ensures, c .before .if2 .taken)) a h z);
     }
 

@@ -1,19 +1,14 @@
 -- A mirror: how the next character of a text is read, entities resolved. Assumes nothing.
-use mathlib.Core.Bool.{Bool, cond, _||_}
+use mathlib.Core.Bool.{cond}
 use mathlib.Core.List.{List, [], _∷_}
 use Prim.Native.Nat.{ℕ}
 use lib.Dec.{eqb}
 use lib.ListN.{length}
-use Rattle.text.specs.Bytes.{inRange}
 use Rattle.text.specs.Words.{starts}
-use Rattle.text_characters.specs.Pieces.{ampersand, less, Entity, amp, lt, gt, quot, apos, word, stands}
+use Rattle.text_characters.specs.Pieces.{ampersand, less, isXmlChar, Entity, amp, lt, gt, quot, apos, word, stands}
 use Rattle.text_characters.specs.Chars.{charOf}
 use Rattle.text_characters.specs.mirror.Decoding.{decoded}
 use Rattle.text_characters.specs.declared.utf8.Char.{Char}
-
-unfoldable pub isXmlChar : ℕ → Bool
-isXmlChar c =
-    eqb c 0x9 || eqb c 0xA || eqb c 0xD || inRange 0x20 0xD7FF c || inRange 0xE000 0xFFFD c || inRange 0x10000 0x10FFFF c
 
 -- an entity, where the text begins with it, or what else is there
 abbrev pub orElse : Entity → List ℕ → Char → Char

@@ -1,9 +1,9 @@
 -- What a caller has of the promises: the value that a leaf's raw text spells is what is written. Assumes nothing.
 use mathlib.Core.Path.{_≡_, refl, sym, _∙_, ap, subst}
 use mathlib.Core.Bool.{Bool, true, false}
-use mathlib.Core.List.{List, [], _∷_, _++_}
+use mathlib.Core.List.{List, [], _∷_}
 use mathlib.Core.Logic.{_≢_}
-use Prim.Native.Nat.{ℕ, _+_, _≤_, _<_}
+use Prim.Native.Nat.{ℕ, _≤_, _<_}
 use native.Mathlib.Omega.{arith}
 use lib.Dec.{eqb}
 use lib.ListN.{length, length-append}
@@ -32,9 +32,7 @@ text-few cs h = omega (arith, encoded-most cs)
 value-counted : (l : Leaf) (v : Value) → LeafOk l → IsValue l v → Counted v
 value-counted l v ok (IsValue.reference {cs} r) = text-few cs (omega (arith, r .chars .most))
 value-counted l v ok (IsValue.writing {k} {cs} r) = text-few cs (omega (arith, r .most, ok .1))
-value-counted l v ok (IsValue.account {cs} r) =
-    text-few cs
-    (omega (arith, ap length (r .is), length-append (r .country) (r .check ++ r .rest), length-append (r .check) (r .rest), r .capitals .0, r .digits .0, r .lengths .1))
+value-counted l v ok (IsValue.account {cs} r) = text-few cs (omega (arith, r .lengths .1))
 value-counted l v ok (IsValue.currency {cs} r) = text-few cs (omega (arith, r .three))
 value-counted l v ok (IsValue.listed h j) = tt
 value-counted l v ok IsValue.either = tt

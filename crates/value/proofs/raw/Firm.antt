@@ -1,19 +1,20 @@
 -- Texts that have no blank and that no entity stands in: all kinds but REF and TXTk. Assumes nothing.
-use mathlib.Core.Path.{sym, ap, subst}
+use mathlib.Core.Path.{sym, subst}
 use mathlib.Core.Bool.{Bool, true, false}
-use mathlib.Core.List.{List, [], _∷_, _++_}
+use mathlib.Core.List.{List, [], _∷_}
 use mathlib.Core.Logic.{⊎-elim}
-use Prim.Native.Nat.{ℕ, zero, suc, _+_, _<_, zero-le, suc-le-suc}
+use Prim.Native.Nat.{ℕ, zero, suc, _<_, zero-le, suc-le-suc}
 use native.Mathlib.Omega.{arith}
-use lib.ListN.{length, length-append, getD}
-use Rattle.text.specs.Bytes.{isCapital, isDigit}
+use lib.ListN.{length, getD}
+use Rattle.text.specs.Bytes.{isCapital}
 use Rattle.text.specs.Lists.{Each, Begins}
 use Rattle.list.specs.Listing.{Leaf, ref, iban, ccy, bool, num, amt, date, dtm, txt, enum}
-use Rattle.value.specs.Code.{Iban, Ccy, isLetterOrDigit}
+use Rattle.value.specs.Code.{Iban, Ccy}
 use Rattle.value.specs.Plain.{SaysTruth}
 use Rattle.value.specs.Value.{Value}
 use Rattle.value.specs.Form.{Form}
-use Rattle.value.proofs.classes.Classes.{Solid, solid-digit, solid-capital, solid-either, each-all, each-append}
+use Rattle.value.proofs.classes.Codes.{iban-each}
+use Rattle.value.proofs.classes.Classes.{Solid, solid-digit, solid-capital, solid-either, each-all}
 use Rattle.value.proofs.raw.Trim.{Dense}
 use Rattle.value.proofs.numbers.Decimals.{written-dense, digits-dense}
 use Rattle.value.proofs.dates.Dates.{day-dense, moment-dense}
@@ -37,13 +38,7 @@ Firm dtm = Unit {0}
 Firm (enum ws) = Each (Begins isCapital isCapital) ws
 
 pub iban-dense : (cs : List ℕ) → Iban cs → Dense cs
-iban-dense cs i =
-    record {
-      solid = subst (λ (l : List ℕ). Each Solid l) (sym (i .is))
-          (each-append Solid (i .country) (i .check ++ i .rest) (each-all isCapital Solid solid-capital (i .country) (i .capitals .1))
-          (each-append Solid (i .check) (i .rest) (each-all isDigit Solid solid-digit (i .check) (i .digits .1)) (each-all isLetterOrDigit Solid solid-either (i .rest) (i .class))));
-      some = omega (arith, i .lengths .0, ap length (i .is), length-append (i .country) (i .check ++ i .rest), length-append (i .check) (i .rest));
-    }
+iban-dense cs i = record { solid = iban-each Solid solid-capital solid-digit solid-either cs i; some = omega (arith, i .lengths .0) }
 
 pub ccy-dense : (cs : List ℕ) → Ccy cs → Dense cs
 ccy-dense cs c = record { solid = each-all isCapital Solid solid-capital cs (c .capitals); some = omega (arith, c .three) }

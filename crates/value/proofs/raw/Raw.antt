@@ -8,8 +8,9 @@ use native.Mathlib.Omega.{arith}
 use lib.ListN.{length, length-append}
 use Rattle.text.specs.Bytes.{isBlank}
 use Rattle.text.specs.Lists.{Each}
+use Rattle.text_characters.proofs.Resolving.{XmlChar, xml-char-yes}
 use Rattle.text_characters.specs.Utf8.{encode, encodeAll}
-use Rattle.text_characters.specs.Pieces.{XmlChar, amp, lt, gt, quot, apos, Piece, char, entity, spells, resolvedAll, Spells}
+use Rattle.text_characters.specs.Pieces.{isXmlChar, amp, lt, gt, quot, apos, Piece, char, entity, spells, resolvedAll, Spells}
 use Rattle.value.proofs.classes.Classes.{Solid}
 use Rattle.text.proofs.Classes.{is-in, blank}
 use Rattle.text_characters.proofs.Decoding.{encode1}
@@ -18,23 +19,23 @@ use Rattle.value.proofs.raw.Encoding.{encoded-long}
 -- a character that stands for itself alone
 pub record Tame (x : ℕ) : Type 0 where
   pub below : x < 128
-  pub known : XmlChar x
+  pub known : isXmlChar x ≡ true
   pub amp : x ≢ 38
   pub less : x ≢ 60
   pub greater : x ≢ 62
   pub quotes : (x ≢ 34) × (x ≢ 39)
 
 pub solid-tame : (x : ℕ) → Solid x → Tame x
-solid-tame x s = record { below = omega (arith, s .high); known = XmlChar.low (omega (arith, s .low)) (omega (arith, s .high)); amp = omega (arith, s .low); less = s .less; greater = s .greater; quotes = (omega (arith, s .low), omega (arith, s .low)) }
+solid-tame x s = record { below = omega (arith, s .high); known = xml-char-yes x (XmlChar.low (omega (arith, s .low)) (omega (arith, s .high))); amp = omega (arith, s .low); less = s .less; greater = s .greater; quotes = (omega (arith, s .low), omega (arith, s .low)) }
 
 pub blank-tame : (x : ℕ) → isBlank x ≡ true → Tame x
 blank-tame x e =
     ⊎-elim
     (⊎-elim
-    (⊎-elim (λ a. record { below = omega arith; known = XmlChar.low (omega arith) (omega arith); amp = omega arith; less = omega arith; greater = omega arith; quotes = omega arith })
-    (λ a. record { below = omega arith; known = XmlChar.tab a; amp = omega arith; less = omega arith; greater = omega arith; quotes = omega arith }))
-    (λ a. record { below = omega arith; known = XmlChar.line a; amp = omega arith; less = omega arith; greater = omega arith; quotes = omega arith }))
-    (λ a. record { below = omega arith; known = XmlChar.return a; amp = omega arith; less = omega arith; greater = omega arith; quotes = omega arith })
+    (⊎-elim (λ a. record { below = omega arith; known = xml-char-yes x (XmlChar.low (omega arith) (omega arith)); amp = omega arith; less = omega arith; greater = omega arith; quotes = omega arith })
+    (λ a. record { below = omega arith; known = xml-char-yes x (XmlChar.tab a); amp = omega arith; less = omega arith; greater = omega arith; quotes = omega arith }))
+    (λ a. record { below = omega arith; known = xml-char-yes x (XmlChar.line a); amp = omega arith; less = omega arith; greater = omega arith; quotes = omega arith }))
+    (λ a. record { below = omega arith; known = xml-char-yes x (XmlChar.return a); amp = omega arith; less = omega arith; greater = omega arith; quotes = omega arith })
     (is-in blank x e)
 
 pub raw-to : (s : List ℕ) → Each Tame s → Spells s s

@@ -7,7 +7,7 @@ use Prim.Native.Nat.{ℕ, _+_, _-_, _/_, _%_, _^_, _≤_, _<_}
 use native.Mathlib.Omega.{arith}
 use native.Mathlib.Decide.{ℕ-discrete, decLt}
 use lib.Dec.{eqb, ltb}
-use lib.ListN.{length, getD, take, drop, length-append, List·getD-eq-default}
+use lib.ListN.{length, getD, take, drop, List·getD-eq-default}
 use lib.Seq.{take-at, drop-at, drop-drop, getD-drop}
 use borrow.Author.Tests.{ne-eqb, eqb-true, ltb-false}
 use Rattle.text.specs.Bytes.{ascii}
@@ -247,8 +247,7 @@ module _ (c k : ℕ) (ws : List (List ℕ)) (u : List ℕ) where
   unfolding rawText
   raw-of f v e ok (IsValue.reference {cs = cs} r) = text-raw cs u (few cs 35 (r .chars .most) (omega arith))
   raw-of f v e ok (IsValue.writing {k = m} {cs = cs} r) = text-raw cs u (few cs m (r .most) (ok .1))
-  raw-of f v e ok (IsValue.account {cs = cs} r) =
-      text-raw cs u (few cs 34 (omega (arith, ap length (r .is), length-append (r .country) (r .check ++ r .rest), length-append (r .check) (r .rest), r .capitals .0, r .digits .0, r .lengths .1)) (omega arith))
+  raw-of f v e ok (IsValue.account {cs = cs} r) = text-raw cs u (few cs 34 (r .lengths .1) (omega arith))
   raw-of f v e ok (IsValue.currency {cs = cs} r) = text-raw cs u (few cs 3 (omega (arith, r .three)) (omega arith))
   raw-of f v e ok (IsValue.listed {ws = vs} {n = n} a b) =
       word-raw ws n u a ∙ ap (λ (l : List (List ℕ)). getD l (n - 1) []) (enum-words c k ws vs e) ∙ firm-raw (enum vs) (place n) (ok .1) (IsValue.listed a b)

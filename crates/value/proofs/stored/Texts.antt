@@ -8,7 +8,7 @@ use lib.Dec.{leb}
 use lib.ListN.{length, take, drop, length-append, length-drop, take-append-drop}
 use lib.Seq.{take-at, drop-at}
 use borrow.Author.Tests.{leb-true, le-leb}
-use Rattle.text.specs.Bytes.{isCapital, isDigit}
+use Rattle.text.specs.Bytes.{isCapital}
 use Rattle.text.specs.Lists.{Each}
 use Rattle.text.specs.Numbers.{bigEndian, number}
 use Rattle.text_characters.specs.Utf8.{Scalar, encodeAll}
@@ -17,7 +17,7 @@ use Rattle.text.proofs.Numbers.{Byte, number-big, big-length, big-bytes}
 use Rattle.list.specs.Listing.{Leaf, ref, txt, iban, ccy}
 use Rattle.value.specs.Text.{Ref, Chars, isRef, isTxt}
 use Rattle.value.specs.mirror.Tests.{notSpace}
-use Rattle.value.specs.Code.{Iban, Ccy, isLetterOrDigit}
+use Rattle.value.specs.Code.{Iban, Ccy}
 use Rattle.value.specs.Value.{Value, text, IsValue}
 use Rattle.value.proofs.classes.Classes.{each-all, each-map, each-append, digit-range, capital-range, solid-either}
 use Rattle.value.proofs.raw.Encoding.{encoded-most}
@@ -27,6 +27,7 @@ use Rattle.value.specs.mirror.Chars.{chars}
 use Rattle.value.specs.mirror.Judges.{textFrom, isReference, isWriting, isAccount, isCurrency}
 use Rattle.value.proofs.stored.Listed.{every-all, all-every, some-any, any-some}
 use Rattle.value.proofs.stored.Exactly.{Stored, Passes, Exact, number-at}
+use Rattle.value.proofs.classes.Codes.{iban-each}
 use Rattle.value.proofs.stored.Codes.{currency-exactly, account-exactly}
 use Rattle.value.proofs.stored.Slashes.{apart-to, apart-from}
 use Rattle.value.proofs.stored.Classes.{txt-scalar}
@@ -153,15 +154,10 @@ currency-exact =
 -- ---- IBAN
 
 iban-lows : (b : List ℕ) → Iban b → Each Low b
-iban-lows b i =
-    subst (λ (l : List ℕ). Each Low l) (sym (i .is))
-    (each-append Low (i .country) (i .check ++ i .rest) (each-all isCapital Low (λ x e. let r = capital-range x e in omega arith) (i .country) (i .capitals .1))
-    (each-append Low (i .check) (i .rest) (each-all isDigit Low (λ x e. let r = digit-range x e in omega arith) (i .check) (i .digits .1)) (each-all isLetterOrDigit Low (λ x e. omega (arith, solid-either x e .high)) (i .rest) (i .class))))
+iban-lows = iban-each Low (λ x e. let r = capital-range x e in omega arith) (λ x e. let r = digit-range x e in omega arith) (λ x e. omega (arith, solid-either x e .high))
 
 account-body : (v : Value) → IsValue iban v → Body isAccount v
-account-body v (IsValue.account {cs = cs} i) =
-    low-body isAccount cs (iban-lows cs i) (account-exactly cs .1 i)
-    (omega (arith, i .capitals .0, i .digits .0, i .lengths .1, ap length (i .is), length-append (i .country) (i .check ++ i .rest), length-append (i .check) (i .rest)))
+account-body v (IsValue.account {cs = cs} i) = low-body isAccount cs (iban-lows cs i) (account-exactly cs .1 i) (omega (arith, i .lengths .1))
 
 pub account-exact : Exact iban 2 (λ t. 2 + number (take 2 t)) isAccount
 account-exact =

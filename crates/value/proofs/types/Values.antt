@@ -74,7 +74,7 @@ one-txt k h = record { some = omega arith; most = h; class = (refl, tt); ink = i
 
 one-iban : Iban (65 ∷ 65 ∷ 48 ∷ 48 ∷ 65 ∷ [])
 unfolding isCapital isDigit isLetterOrDigit isLetter
-one-iban = record { country = 65 ∷ 65 ∷ []; check = 48 ∷ 48 ∷ []; rest = 65 ∷ []; is = refl; capitals = (refl, (refl, (refl, tt))); digits = (refl, (refl, (refl, tt))); lengths = omega arith; class = (refl, tt) }
+one-iban = record { lengths = omega arith; capitals = (refl, (refl, tt)); digits = (refl, (refl, tt)); class = (refl, tt) }
 
 one-ccy : Ccy (65 ∷ 65 ∷ 65 ∷ [])
 unfolding isCapital
