@@ -18,6 +18,12 @@ PAGE = ROOT / 'docs' / 'BELIEVE.md'
 # The crates whose promises count: the entries with their C exports, the held reader, the programs that make images and files.
 PROMISING = ('unit', 'image_hold', 'kto', 'write', 'tidy')
 
+# Of these, the functions that document 01 asks for by itself: what they rest on is counted apart.
+FIRST = (
+    'unit::check unit::read unit::pick unit::picked unit::kto_check unit::kto_read unit::kto_pick '
+    'image_hold::hold image_hold::next image_hold::next_at image_hold::pick image_hold::picked kto::said'
+).split()
+
 # The crate with the demands, which are read first: what they say of these promises has names of its own.
 DEMANDS = 'demands'
 
@@ -293,6 +299,11 @@ def counted():
     return reached(what for crate in PROMISING for _, cited in promises(crate) for _, what in cited)
 
 
+def counted_first():
+    """Every definition that the functions of FIRST rest on."""
+    return reached(what for crate in PROMISING for name, cited in promises(crate) if name in FIRST for _, what in cited)[0]
+
+
 def reached(start):
     """Every definition that these rest on, themselves among them; and what is named besides, as {path: names}."""
     waiting, known, besides = list(start), {}, {}
@@ -352,6 +363,8 @@ def faults(definitions, besides):
         if d.file.name not in lent:
             yield f'{d.file.name}:{d.number}: {d.name} is a mirror'
     yield from (f'{file}: no exception is needed for it' for file in sorted(lent - seen))
+    promised = {name for crate in PROMISING for name, _ in promises(crate)}
+    yield from (f'{name}: counted apart, and there is no such function' for name in FIRST if name not in promised)
     spared = dict(item.split() for names in NAMES.values() for item in names.split(', '))
     double = doubles(*reached(definitions + demanded()))
     for name, where in double.items():
@@ -389,10 +402,13 @@ def ticked(names):
 
 def page(definitions, besides):
     files = ordered(definitions)
+    first = counted_first()
     out = ['# What must be believed', '']
     out += [wrapped(
         f'A promise is worth what its words mean. Here are all definitions that the promises of {ticked(PROMISING)} rest on, in reading '
         f'order: **{len(files)} files, {sum(d.lines for d in definitions):,} lines of definitions** (no comments, blank lines or imports). '
+        f'Of these, {sum(d.lines for d in first):,} lines in {len({d.file.name for d in first})} files are under the promises that document 01 asks '
+        'for by itself: check, read, pick and picked with their calls for C, the held reader, and `kto`. '
         'What does not stand here, other definitions, laws and proofs, cannot change what these promises say. '
         '`.ci/believe.py` makes this page from the imports; the gate fails where it is stale, where a mirror of the code is among the '
         'files, and where one name has two meanings in them, but for the exceptions at the end.'), '']
