@@ -135,12 +135,12 @@ abbrev begun : ℕ → ℕ → ℕ → Reading
 begun n from count = record { answer = accepted n; kind = 1; from = from; count = count }
 
 fronted-former : (s : List ℕ) (n : ℕ) → Shaped s n 1 5 → 5 < n → n ≤ 67 → Fronts s (begun 5 5 0)
-fronted-former s n h l u = front-starts s (begun 5 5 0) (omega (arith, h .long)) (starts-former s (begun 5 5 0) (omega (arith, h .long), h .named) (h .versioned) refl refl)
+fronted-former s n h l u = front-starts s (begun 5 5 0) (omega (arith, h .long)) (starts-former s (begun 5 5 0) (omega (arith, h .long), h .named) (h .versioned) refl refl (refl, refl))
 
 fronted-current : (s : List ℕ) (n : ℕ) → Shaped s n 2 6 → getD s 5 0 ≡ 1 → 6 < n → n ≤ 68 → Fronts s (begun 6 6 0)
 fronted-current s n h b l u =
     front-starts s (begun 6 6 0) (omega (arith, h .long))
-    (starts-current s (begun 6 6 0) (omega (arith, h .long), h .named) (h .versioned) 1 (good-kind s 1 (sym b) (omega arith)) (λ z. omega arith) refl refl)
+    (starts-current s (begun 6 6 0) (omega (arith, h .long), h .named) (h .versioned) 1 (good-kind s 1 (sym b) (omega arith)) (λ z. omega arith) refl refl (refl, refl))
 
 -- read as n bytes, or broken off at a place
 module _ (s : List ℕ) (n v from : ℕ) (h : Shaped s n v from) (l : from < n) (f : Fronts s (begun from from 0)) where

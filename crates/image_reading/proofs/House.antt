@@ -69,7 +69,7 @@ module _ (run : List ℕ) where
   -- before any item
   module _ (x : Reading) (a : Answer) (t : Refused x a 0) where
     no-start : Bare → (length run ≤ limit → HouseReads run a) → a .code ≢ 0 → Starts run x
-    no-start b h n = record { head = bare b (t .1) (t .2); why = λ z. (refused-code x a 0 t n, (λ l. refused-reads x a 0 t (h l)), headless b (t .3)) }
+    no-start b h n = record { head = bare b (t .1) (t .2); so = λ z. absurd (z (t .1)); why = λ z. (refused-code x a 0 t n, (λ l. refused-reads x a 0 t (h l)), headless b (t .3)) }
 
     pub starts-foreign : (length run < 5) ⊎ (take 3 run ≢ ascii "KTO") → a ≡ noHeader → Starts run x
     starts-foreign k e =
@@ -90,31 +90,34 @@ module _ (run : List ℕ) where
     pub front-long : limit < length run → a ≡ tooLong → Fronts run x
     front-long h e =
         let c = ap (λ (y : Answer). y .code) e in
-        nothing (refused-reads x a 0 t (over h e)) (refused-code x a 0 t (λ z. omega (arith, c))) (t .1) (t .2) (refused-counts x a 0 t (uncounted (λ z. omega (arith, c)) (λ z. omega (arith, c)) refl))
+        nothing (λ lim l i g s f at. omega (arith, h, lim)) (refused-reads x a 0 t (over h e)) (refused-code x a 0 t (λ z. omega (arith, c))) (t .1) (t .2) (refused-counts x a 0 t (uncounted (λ z. omega (arith, c)) (λ z. omega (arith, c)) refl))
 
   -- as one does
   module _ (x : Reading) where
-    starts : (l : Listing) → Among l stored → (h s : List ℕ) → Front l h → run ≡ h ++ s → x .kind ≡ l .byte → x .from ≡ length h → Starts run x
-    starts l i h s f at k e = record { head = leads l i h s f at k e; why = λ z. absurd (omega (arith, k, z, kept-well l i .byte .0)) }
+    starts : (l : Listing) → Among l stored → (h s : List ℕ) → Front l h → run ≡ h ++ s → x .kind ≡ l .byte → x .from ≡ length h
+        → (x .answer ≡ accepted (x .from)) × (x .count ≡ 0) → Starts run x
+    starts l i h s f at k e o = record { head = leads l i h s f at k e; so = λ z. o; why = λ z. absurd (omega (arith, k, z, kept-well l i .byte .0)) }
 
-    pub starts-former : Kto run → versionOf run ≡ 1 → x .kind ≡ 1 → x .from ≡ 5 → Starts run x
-    starts-former k v e f =
+    pub starts-former : Kto run → versionOf run ≡ 1 → x .kind ≡ 1 → x .from ≡ 5 → (x .answer ≡ accepted 5) × (x .count ≡ 0) → Starts run x
+    starts-former k v e f o =
         starts storedHouse house-stored (take 5 run) (drop 5 run) (earlier stored-house-byte (version-first run k v)) (sym (take-append-drop 5 run)) (e ∙ sym stored-house-byte)
-        (f ∙ sym (length-take-le 5 run (k .0)))
+        (f ∙ sym (length-take-le 5 run (k .0))) (o .0 ∙ ap accepted (sym f), o .1)
 
-    pub starts-current : Kto run → versionOf run ≡ 2 → (k : ℕ) → KindByte run k → k ≢ 0 → x .kind ≡ k → x .from ≡ 6 → Starts run x
-    starts-current k v b j n e f =
+    pub starts-current : Kto run → versionOf run ≡ 2 → (k : ℕ) → KindByte run k → k ≢ 0 → x .kind ≡ k → x .from ≡ 6 → (x .answer ≡ accepted 6) × (x .count ≡ 0) → Starts run x
+    starts-current k v b j n e f u =
         let o = kind-some run b j n in
         let w = kind-header run (version-second run k v) b j n (o .list) (o .byte) in
         starts (o .list) (o .among) (take 6 run) (drop 6 run) (current w) (sym (take-append-drop 6 run)) (e ∙ o .byte) (f ∙ sym (ap length w ∙ header-length (o .list)))
+        (u .0 ∙ ap accepted (sym f), u .1)
 
     -- within the limit
     pub front-starts : length run ≤ limit → Starts run x → Fronts run x
     front-starts lim s = go (s .head)
       where
         go : Headed run (x .kind) (x .from) → Fronts run x
-        go (bare n k f) = let w = s .why k in nothing (w .1 lim) (w .0) k f (w .2)
-        go (leads l i h u f at k e) = headed lim l i h u f at k e
+        go (bare n k f) = let w = s .why k in nothing (λ z. n) (w .1 lim) (w .0) k f (w .2)
+        go (leads l i h u f at k e) =
+            let o = s .so (λ z. omega (arith, k, z, kept-well l i .byte .0)) in headed lim l i h u f at k e (o .0 ∙ ap accepted e) (o .1)
 
   -- every run begins somehow
   pub starts-some : (x : Reading) × Starts run x
@@ -126,12 +129,12 @@ module _ (run : List ℕ) where
           (x, starts-kindless x (brokenImage 5) (refl, refl, refl, refl) k v (subst (KindByte run) z j) refl)
       of-kind k v b j (no z) =
           let x : Reading = record { answer = accepted 6; kind = b; from = 6; count = 0 } in
-          (x, starts-current x k v b j z refl refl)
+          (x, starts-current x k v b j z refl refl (refl, refl))
 
       of-version : Kto run → Dec (versionOf run ≡ 1) → Dec (versionOf run ≡ 2) → (x : Reading) × Starts run x
       of-version k (yes v) d =
           let x : Reading = record { answer = accepted 5; kind = 1; from = 5; count = 0 } in
-          (x, starts-former x k v refl refl)
+          (x, starts-former x k v refl refl (refl, refl))
       of-version k (no u) (yes v) = let b = kind-told run in of-kind k v (b .0) (b .1) (ℕ-discrete (b .0) 0)
       of-version k (no u) (no v) =
           let x : Reading = record { answer = wrongVersion; kind = 0; from = 0; count = 0 } in
@@ -205,8 +208,8 @@ module _ (run : List ℕ) where
 
   -- where no image begins
   pub begins-none : (x : Reading) → Fronts run x → x .kind ≡ 0 → Begun run x × (x .answer .code ≢ 0)
-  begins-none x (nothing h n f g c) z = (refuses h n f g c, n)
-  begins-none x (headed lim l i h s f at k e) z = absurd (omega (arith, k, z, kept-well l i .byte .0))
+  begins-none x (nothing b h n f g c) z = (refuses h n f g c, n)
+  begins-none x (headed lim l i h s f at k e u v) z = absurd (omega (arith, k, z, kept-well l i .byte .0))
 
   -- where one may, by what its items say
   module _ (x : Reading) (g : Fronts run x) (z : x .kind ≢ 0) (t : List ℕ) (y : Says t (x .kind)) where
@@ -215,8 +218,8 @@ module _ (run : List ℕ) where
       begins-with c = go g
         where
           go : Fronts run x → Begun run (record { answer = a; kind = x .kind; from = x .from; count = m })
-          go (nothing h n f e u) = absurd (z f)
-          go (headed lim l i h s f at k e) =
+          go (nothing p h n f e u) = absurd (z f)
+          go (headed lim l i h s f at k e u v) =
               let o = behind-tells lim l i h s f at t (x .kind) y k (x .from) e a m b in
               tells-begun lim l i h s f at a (x .kind) (x .from) m k e (o .0) (o .1) c
 
@@ -227,8 +230,8 @@ module _ (run : List ℕ) where
           (refuses (refused-reads run v a m r (o .0)) n (r .1) (r .2) (refused-counts run v a m r (o .1)), n)
         where
           go : Fronts run x → HouseReads run a × HouseCounts run a m
-          go (nothing h n f e u) = absurd (z f)
-          go (headed lim l i h s f at k e) =
+          go (nothing p h n f e u) = absurd (z f)
+          go (headed lim l i h s f at k e u v) =
               let o = behind-tells lim l i h s f at t (x .kind) y k (x .from) e a m b in
               (tells-reads lim l i h s f at a (o .0), taken-counts lim l i h s f at a m (o .1))
 
@@ -236,8 +239,8 @@ module _ (run : List ℕ) where
     begins-some = go g
       where
         go : Fronts run x → (a : Answer) × HouseReads run a
-        go (nothing h n f e u) = absurd (z f)
-        go (headed lim l i h s f at k e) =
+        go (nothing p h n f e u) = absurd (z f)
+        go (headed lim l i h s f at k e u v) =
             let o = behind-some lim l i h s f at t (x .kind) y k (x .from) e in
             (o .0, tells-reads lim l i h s f at (o .0) (o .1))
 
@@ -358,6 +361,21 @@ module _ (run : List ℕ) where
   pub house-few-items : (a : Answer) (n : ℕ) → HouseReads run a → HouseCounts run a n → a .code ≡ 0
       → (n + 4 ≤ a .place) × (take 5 run ≡ versioned 1 → n + 5 ≤ a .place) × (take 5 run ≡ versioned 2 → n + 6 ≤ a .place)
   house-few-items = few-items values stored lawful kept-well lists-apart run
+
+  -- nor a second way up to the items
+  pub fronts-one : (x y : Reading) → Fronts run x → Fronts run y → x ≡ y
+  fronts-one x y (nothing b h n k f c) (nothing b′ h′ n′ k′ f′ c′) =
+      let e = house-reads-one (x .answer) (y .answer) h h′ in
+      let m = house-counts-one (y .answer) (x .count) (y .count) (subst (λ (a : Answer). HouseCounts run a (x .count)) e c) c′ in
+      λ i. record { answer = e i; kind = (k ∙ sym k′) i; from = (f ∙ sym f′) i; count = m i }
+  fronts-one x y (nothing b h n k f c) (headed lim l i g s w at k′ f′ a m) = absurd (b lim l i g s w at)
+  fronts-one x y (headed lim l i g s w at k f a m) (nothing b h n k′ f′ c) = absurd (b lim l i g s w at)
+  fronts-one x y (headed lim l i g s w at k f a m) (headed lim′ l′ i′ g′ s′ w′ at′ k′ f′ a′ m′) =
+      let o = lists-apart .one l l′ i i′ g g′ s s′ w w′ (sym at ∙ at′) in
+      let e = a ∙ ap (λ (z : List ℕ). accepted (length z)) (o .1) ∙ sym a′ in
+      let b = k ∙ ap (λ (z : Listing). z .byte) (o .0) ∙ sym k′ in
+      let d = f ∙ ap length (o .1) ∙ sym f′ in
+      λ j. record { answer = e j; kind = b j; from = d j; count = (m ∙ sym m′) j }
 
   -- nor a second kind byte, or a second place of the items
   pub begun-one : (x y : Reading) → Begun run x → Begun run y → x ≡ y

@@ -15,10 +15,13 @@ pub data Headed (run : List ℕ) (kind from : ℕ) : Type 0 where
   bare : ((l : Listing) → Among l stored → (h s : List ℕ) → Front l h → run ≡ h ++ s → ⊥) → kind ≡ 0 → from ≡ 0 → Headed run kind from
   leads : (l : Listing) → Among l stored → (h s : List ℕ) → Front l h → run ≡ h ++ s → kind ≡ l .byte → from ≡ length h → Headed run kind from
 
--- up to the items: no image begins here, or one of the list of this kind byte may, whose items begin after its header
+-- up to the items: the run is too long or begins as no image does; or as one of the list of this kind byte, whose items begin after its header: the
+-- answer so far is the header's length, and no item is counted
 pub data Fronts (run : List ℕ) (r : Reading) : Type 0 where
-  nothing : HouseReads run (r .answer) → r .answer .code ≢ 0 → r .kind ≡ 0 → r .from ≡ 0 → HouseCounts run (r .answer) (r .count) → Fronts run r
-  headed : length run ≤ limit → (l : Listing) → Among l stored → (h s : List ℕ) → Front l h → run ≡ h ++ s → r .kind ≡ l .byte → r .from ≡ length h → Fronts run r
+  nothing : (length run ≤ limit → (l : Listing) → Among l stored → (h s : List ℕ) → Front l h → run ≡ h ++ s → ⊥)
+      → HouseReads run (r .answer) → r .answer .code ≢ 0 → r .kind ≡ 0 → r .from ≡ 0 → HouseCounts run (r .answer) (r .count) → Fronts run r
+  headed : length run ≤ limit → (l : Listing) → Among l stored → (h s : List ℕ) → Front l h → run ≡ h ++ s → r .kind ≡ l .byte → r .from ≡ length h
+      → r .answer ≡ accepted (length h) → r .count ≡ 0 → Fronts run r
 
 -- the reader's answer and its count; of an image that it accepts, the kind byte of its list and where its items begin; of a refusal 0 and 0
 pub data Begun (run : List ℕ) (r : Reading) : Type 0 where

@@ -5,7 +5,7 @@ use mathlib.Core.Bool.{Bool, true, false}
 use mathlib.Core.List.{List}
 use Prim.Native.Nat.{ℕ, _+_, _*_, _≤_, _<_}
 use lib.ListN.{length, getD, take}
-use Rattle.answer.specs.Table.{limit}
+use Rattle.answer.specs.Table.{limit, accepted}
 use Rattle.text.specs.Bytes.{ascii}
 use Rattle.image_reading.specs.Reads.{HouseReads, HouseCounts}
 use Rattle.image_reading.specs.Forms.{Headed}
@@ -28,7 +28,8 @@ pub record KindByte (s : List ℕ) (k : ℕ) : Type 0 where
   pub its : k ≢ 0 → (k ≤ 2) × (k ≡ getD s 5 0)
   pub none : k ≡ 0 → (getD s 5 0 ≡ 0) ⊎ (2 < getD s 5 0)
 
--- how a run of any length begins; where as no image does, what a reader answers and counts
+-- how a run of any length begins; where as an image does, the answer so far is the header's length; where as none, what a reader answers and counts
 pub record Starts (run : List ℕ) (r : Reading) : Type 0 where
   pub head : Headed run (r .kind) (r .from)
+  pub so : r .kind ≢ 0 → (r .answer ≡ accepted (r .from)) × (r .count ≡ 0)
   pub why : r .kind ≡ 0 → (r .answer .code ≢ 0) × (length run ≤ limit → HouseReads run (r .answer)) × HouseCounts run (r .answer) (r .count)

@@ -33,7 +33,7 @@ returns-2 : tie.Need-returns-2
 returns-2 c =
     let at-version = c .before .before in
     let at-named = at-version .before .before in
-    starts-former _ _ (at-named .named .ensures .yes′ (not-false (at-named .named .result) (at-version .before .if1 .left))) (sym (at-version .version .ensures) ∙ c .before .if2 .taken) refl refl
+    starts-former _ _ (at-named .named .ensures .yes′ (not-false (at-named .named .result) (at-version .before .if1 .left))) (sym (at-version .version .ensures) ∙ c .before .if2 .taken) refl refl (c .accepted .ensures, refl)
 
 wrong-version-requires : tie.Need-wrong-version-requires
 wrong-version-requires c κs = search needs
@@ -70,7 +70,7 @@ returns-5 : tie.Need-returns-5
 returns-5 c =
     let at-version = c .before .before .before .before .before in
     let at-named = at-version .before .before in
-    starts-current _ _ (at-named .named .ensures .yes′ (not-false (at-named .named .result) (at-version .before .if1 .left))) (omega (arith, at-version .version .ensures, c .before .before .before .if3 .left)) _ (c .before .before .kind-byte .ensures) (c .before .if4 .left) refl refl
+    starts-current _ _ (at-named .named .ensures .yes′ (not-false (at-named .named .result) (at-version .before .if1 .left))) (omega (arith, at-version .version .ensures, c .before .before .before .if3 .left)) _ (c .before .before .kind-byte .ensures) (c .before .if4 .left) refl refl (c .accepted2 .ensures, refl)
 
 pub start-spec : {M : Type 1} → statement M
 start-spec =
