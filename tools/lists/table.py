@@ -1,6 +1,6 @@
 """The tables of the lists: sixteen cells for each row, and one pool of bytes for all of them.
 
-crates/list/specs/Table.antt says what each cell is. What follows from the rows is computed here; the prover computes it once more.
+crates/list/specs/tables/Table.antt says what each cell is. What follows from the rows is computed here; the prover computes it once more.
 """
 from source import COUNTS, KINDS
 

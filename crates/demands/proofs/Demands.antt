@@ -24,7 +24,7 @@ use Rattle.xml.specs.House.{HouseXml, Viable}
 use Rattle.xml.specs.Message.{Inside, messageOf, rootAt}
 use Rattle.xml.proofs.Coded.{house-utf8}
 use Rattle.value.specs.Value.{Value, IsValue}
-use Rattle.value.specs.Former.{present}
+use Rattle.value.specs.parts.Former.{present}
 use Rattle.value.specs.Spelled.{Spelled, SpelledByEither}
 use Rattle.value.proofs.script.Scripts.{both-rules}
 use Rattle.file_walk.specs.declared.found.Found.the-variants.{Violation}
@@ -46,18 +46,18 @@ use Rattle.image_hold.proofs.Holding.{next-one, next-some}
 use Rattle.file.specs.Instance.{houseTypes, houseKinds}
 use Rattle.file.specs.File.{Whole, messageIn}
 use Rattle.file.specs.Checks.{Answers, Chosen, Checks, Finds, long, badBytes, markup, violation, room, imaged}
-use Rattle.file.proofs.Codes.{violation-code}
-use Rattle.file.proofs.One.{message-one, of-long, of-bytes, of-markup, of-violation, of-room}
+use Rattle.file.proofs.answers.Codes.{violation-code}
+use Rattle.file.proofs.answers.One.{message-one, of-long, of-bytes, of-markup, of-violation, of-room}
 use Rattle.file.proofs.Chosen.{checks-over, filed-answers}
-use Rattle.file.proofs.House.{spelling, houseJudge, deciding, image-no-longer, one-content, checks-one, finds-one, taken, taken-filed, accepted-image, written-image, images-tell}
-use Rattle.file.proofs.Some.{checks-some}
-use Rattle.file_letter.proofs.Trees.{treeOf, letter-is}
+use Rattle.file.proofs.answers.House.{spelling, houseJudge, deciding, image-no-longer, one-content, checks-one, finds-one, taken, taken-filed, accepted-image, written-image, images-tell}
+use Rattle.file.proofs.answers.Some.{checks-some}
+use Rattle.file_letter.proofs.tree.Trees.{treeOf, letter-is}
 use Rattle.file_letter.specs.Letter.{letterOf}
 use Rattle.file_letter.specs.Stale.{NoneOf, Withdrawn}
 use Rattle.file_letter.proofs.Meeting.{meets-on, said-is, has-said}
 use Rattle.file_letter.proofs.Present.{meets-present, named-message}
-use Rattle.file_letter.proofs.Has.{letter-has}
-use Rattle.file_letter.proofs.Good.{letter-good}
+use Rattle.file_letter.proofs.tree.Has.{letter-has}
+use Rattle.file_letter.proofs.tree.Good.{letter-good}
 use Rattle.demands.specs.Demands.{Kinded, HouseFile, houseImage, CodeFrom, FileRefused, RunRefused, PickRefused, Demand1, WalkedBy, Told, Meeting, Together, Stored, BeginsStored, Message, Demand2, CheckWrote, Imaged, Laid, Divides, Tells, Demand3}
 use Rattle.demands.proofs.Causes.{causes}
 use Rattle.text.specs.Lists.{LongestBeginning}

@@ -32,7 +32,7 @@ use Rattle.list_house.specs.Lists.{asked, askedOf, stored}
 use Rattle.xml.specs.House.{HouseXml, Viable}
 use Rattle.xml.specs.Message.{Inside, messageOf}
 use Rattle.value.specs.Value.{Value, IsValue}
-use Rattle.value.specs.Former.{present}
+use Rattle.value.specs.parts.Former.{present}
 use Rattle.value.specs.Spelled.{Spelled, SpelledByEither}
 use Rattle.file_walk.specs.declared.found.Found.{Found}
 use Rattle.file_walk.specs.declared.found.Found.the-variants.{Fine, Violation}

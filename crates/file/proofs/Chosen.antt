@@ -27,7 +27,7 @@ use Rattle.file_walk.proofs.violation.Attrs.{root-tag}
 use Rattle.file.specs.Instance.{Kinds, houseKinds}
 use Rattle.file.specs.File.{Whole, messageIn, rootOf, File}
 use Rattle.file.specs.Checks.{Answers, long, badBytes, markup, violation, room, imaged, valueOf, Chosen, Checks, Filed}
-use Rattle.file.proofs.One.{message-one}
+use Rattle.file.proofs.answers.One.{message-one}
 
 -- what xmlns says on a message's root
 abbrev pub spaceIn : Inside → List ℕ

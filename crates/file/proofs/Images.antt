@@ -17,7 +17,7 @@ use Rattle.image.proofs.content.Within.{image-within}
 use Rattle.image.proofs.answers.One.{told-kinds}
 use Rattle.file.specs.Instance.{Kinds, valuesOf}
 use Rattle.file.specs.File.{imageOf}
-use Rattle.file.proofs.Accepted.{Taken, written}
+use Rattle.file.proofs.answers.Accepted.{Taken, written}
 
 -- an image is the same over the list that its list lies within
 kept-image : (k : Kinds) (l : Listing) (ls : List Listing) (w : Kept l ls) (c : Content (k .types .A)) → imageOf k l c ≡ imageOf k (w .list) c

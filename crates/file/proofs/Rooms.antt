@@ -11,7 +11,7 @@ use Rattle.image_reading.proofs.House.{house-reads-one}
 use Rattle.file.specs.Instance.{houseKinds}
 use Rattle.file.specs.File.{imageOf}
 use Rattle.file.specs.Checks.{Answers, long, badBytes, markup, violation, room, imaged, Checks}
-use Rattle.file.proofs.House.{checks-one, accepted-exactly, accepted-image, written-image, read-back}
+use Rattle.file.proofs.answers.House.{checks-one, accepted-exactly, accepted-image, written-image, read-back}
 
 module _ (s d : List ℕ) (a : Answer) (d′ : List ℕ) where
   pub place-fits : Checks s d a d′ → a .code ≡ 0 → a .place ≤ length d

@@ -18,10 +18,10 @@ use Rattle.text_characters.specs.Pieces.{Piece, char}
 use Rattle.text.proofs.Classes.{and-is}
 use Rattle.list.specs.Words.{firstFrom}
 use Rattle.list.specs.Listing.{Listing, rowAt, child, nextDue}
-use Rattle.list.specs.Sound.{firstOf, secondOf}
+use Rattle.list.specs.tables.Sound.{firstOf, secondOf}
 use Rattle.list.specs.Content.{Content as Kept}
 use Rattle.list_house.specs.House.{house, report}
-use Rattle.list.specs.Test.{every as all, begins}
+use Rattle.list.specs.tables.Test.{every as all, begins}
 use Rattle.list_house.proofs.Lists.{house-asked, asked-well}
 use Rattle.list.proofs.rows.Words.{same-eq}
 use Rattle.xml.specs.House.{double, Tag, Markup, noMore, piece, emptyTag, full, OneElement, whole}
@@ -29,12 +29,12 @@ use Rattle.xml.specs.Message.{Inside, messageOf}
 use Rattle.xml.specs.mirror.Auto.{at, start, step, next, lead, run, liveLen}
 use Rattle.xml.proofs.Theorem.{longest, refused}
 use Rattle.xml_tags.specs.Story.{events}
-use Rattle.value.specs.Plain.{decimalFrom}
-use Rattle.value.specs.Text.{isRef, isTxt}
+use Rattle.value.specs.types.Plain.{decimalFrom}
+use Rattle.value.specs.types.Text.{isRef, isTxt}
 use Rattle.value.specs.mirror.Texts.{textFrom}
 use Rattle.value.specs.mirror.Reading.{readOf, signedOf, pointOf, wholeOf, fracOf, answer as judged}
-use Rattle.list.specs.Table.{placeFrom}
-use Rattle.value.specs.Spell.{spell, frontOff, backOff, passesFrom, dayOf, fractionOf, zoneOf, momentOf}
+use Rattle.list.specs.tables.Table.{placeFrom}
+use Rattle.value.specs.decided.Spell.{spell, frontOff, backOff, passesFrom, dayOf, fractionOf, zoneOf, momentOf}
 use Rattle.value.specs.Value.{Value}
 use Rattle.file_walk.specs.declared.found.Found.{Found}
 use Rattle.file_walk.specs.declared.found.Found.the-variants.{Fine, Violation}
@@ -49,12 +49,12 @@ use Rattle.file.specs.File.{Whole, File, imageOf}
 use Rattle.file.specs.Checks.{Answers, Chosen, Checks}
 use Rattle.file.specs.Checks as checks
 use Rattle.file.specs.Stars.{Buffers, every, from, under, Lent, Star, Shows, stars, times, reports}
-use Rattle.file.proofs.One.{message-one}
+use Rattle.file.proofs.answers.One.{message-one}
 use Rattle.file.proofs.Chosen.{listFor, list-among, list-chosen}
-use Rattle.file.proofs.House.{spelling, computing, houseJudge, deciding}
+use Rattle.file.proofs.answers.House.{spelling, computing, houseJudge, deciding}
 use Rattle.file.proofs.Trees.{contentTest, rootTree, tree-good, asciiTest, ascii-utf8, not-is}
 use Rattle.file_walk.proofs.bytes.Root.{one-element}
-use Rattle.file.proofs.Some.{isDone}
+use Rattle.file.proofs.answers.Some.{isDone}
 
 -- ---- the test of a row
 

@@ -13,7 +13,7 @@ use Rattle.text_characters.proofs.Resolving.{low, xml-char-yes}
 use Rattle.text_characters.specs.Utf8.{Scalar, encode, encodeAll, Utf8}
 use Rattle.text_characters.specs.Pieces.{less, ampersand, Piece, char, entity, GoodPiece}
 use Rattle.text.proofs.Classes.{and-is}
-use Rattle.list.specs.Test.{every, begins}
+use Rattle.list.specs.tables.Test.{every, begins}
 use Rattle.list.proofs.sound.Tests.{clash}
 use Rattle.list.proofs.sound.Sound.{every-is, begins-is}
 use Rattle.xml.proofs.Cuts.{isCut, no-cut}

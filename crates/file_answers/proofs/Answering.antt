@@ -12,7 +12,7 @@ use lib.Seq.{slice}
 use borrow.Author.Tests.{lt-ltb, le-ltb}
 use Rattle.answer.specs.declared.Answer.{Answer}
 use Rattle.answer.specs.Table.{limit, accepted, noRoom, tooLarge, tooFine, retired}
-use Rattle.list.specs.Table.{cell}
+use Rattle.list.specs.tables.Table.{cell}
 use Rattle.file_answers.specs.Answers.{goneBy, refusedBy, sizedBy}
 
 pub gone-test : (t pool : List ℕ) (r a b n : ℕ) → a ≡ cell t r 4 → b ≡ cell t r 5 → n ≡ length (slice a b pool) → eqb n 0 ≡ goneBy t pool r

@@ -6,7 +6,7 @@ use lib.Dec.{ltb, eqb}
 use lib.ListN.{length}
 use Rattle.answer.specs.declared.Answer.{Answer}
 use Rattle.answer.specs.Table.{limit, accepted, noRoom, tooLarge, tooFine, retired}
-use Rattle.list.specs.Table.{nameIn}
+use Rattle.list.specs.tables.Table.{nameIn}
 
 -- a row whose name has no byte
 unfoldable pub goneBy : List ℕ → List ℕ → ℕ → Bool

@@ -10,8 +10,8 @@ use lib.Dec.{eqb, ltb}
 use borrow.Author.Tests.{eq-eqb, ne-eqb, lt-ltb, le-ltb}
 use Rattle.text.specs.Lists.{same}
 use Rattle.list.specs.Listing.{Listing, rowAt, size, Child, child}
-use Rattle.list.specs.Table.{cell, nameIn, listOf}
-use Rattle.list.specs.Sound.{nextChild}
+use Rattle.list.specs.tables.Table.{cell, nameIn, listOf}
+use Rattle.list.specs.tables.Sound.{nextChild}
 use Rattle.list.proofs.rows.Words.{same-eq, same-of}
 use Rattle.list.proofs.rows.Rows.{size-is, name-is}
 use Rattle.list.proofs.rows.Next.{next-child, no-child}

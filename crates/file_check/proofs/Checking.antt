@@ -12,7 +12,7 @@ use Rattle.text.proofs.Pasting.{pasted-yes}
 use Rattle.text.proofs.Puts.{puts-pasted, puts-as}
 use Rattle.list.specs.Listing.{Listing}
 use Rattle.list.specs.Within.{Among}
-use Rattle.list.specs.Table.{listOf}
+use Rattle.list.specs.tables.Table.{listOf}
 use Rattle.list.specs.Content.{Content}
 use Rattle.list_house.specs.Lists.{asked}
 use Rattle.list_house.specs.mirror.HouseTable.{housePool}
@@ -25,7 +25,7 @@ use Rattle.file.specs.Instance.{houseKinds}
 use Rattle.file.specs.File.{File, imageOf}
 use Rattle.file.specs.Checks.{Answers, Checks, Filed, Finds, long, badBytes, markup, violation, room, imaged}
 use Rattle.file.proofs.Chosen.{filed-chosen}
-use Rattle.file.proofs.House.{image-no-longer, good-fine}
+use Rattle.file.proofs.answers.House.{image-no-longer, good-fine}
 use Rattle.file_measure.specs.declared.Finding.{Finding}
 use Rattle.file_measure.specs.Measured.{Faultless}
 use Rattle.file_measure.specs.Measures.{Measures, measured, faulty}

@@ -17,8 +17,8 @@ use Rattle.text.specs.Pasting.{pasted}
 use Rattle.text.specs.Puts.{Puts}
 use Rattle.text_characters.specs.Pieces.{less, greater, solidus}
 use Rattle.list.specs.Listing.{Listing, rowAt, size, Child, child, isGroup}
-use Rattle.list.specs.Table.{cell, listOf}
-use Rattle.list.specs.Sound.{Sound}
+use Rattle.list.specs.tables.Table.{cell, listOf}
+use Rattle.list.specs.tables.Sound.{Sound}
 use Rattle.list.proofs.rows.Along.{child-along}
 use Rattle.list.proofs.rows.Rows.{size-is, parent-is}
 use Rattle.xml.specs.House.{HouseXml}
@@ -35,7 +35,7 @@ use Rattle.file_walk.specs.declared.step.Turn.{Turn}
 use Rattle.file_walk.specs.Types.{Spelling}
 use Rattle.file_walk.specs.First.{First}
 use Rattle.file_walk.specs.mirror.Machine.{Speller, judgeOf, spellerOf, before, advance, run}
-use Rattle.list.specs.Numbers.{isGroupIn}
+use Rattle.list.specs.tables.Numbers.{isGroupIn}
 use Rattle.file_walk.specs.mirror.Tables.{levels}
 use Rattle.file_walk.specs.mirror.Stride.{rowIn, inner, stepIn, stackIn}
 use Rattle.file_walk.specs.mirror.Begin.{beginIn}
@@ -50,7 +50,7 @@ use Rattle.file_check.specs.declared.fill.Spot.{Spot}
 use Rattle.file_measure.specs.Pass.{Shuts, Passes, violates, holds}
 use Rattle.file_check.specs.Fill.{spotAt, Comes}
 use Rattle.file_measure.proofs.Leaf.{opens-group, opens-leaf, shuts-group}
-use Rattle.file.proofs.One.{fine-found}
+use Rattle.file.proofs.answers.One.{fine-found}
 use Rattle.file_measure.proofs.Going.{Computed, Going, first-found, begun, goes-first, at-most, steps, step-enters, step-leaves, step-ends, goes-in, goes-out, bad-value, ends-in}
 
 -- a stack to begin with: the walk asks of it only that it has room

@@ -12,9 +12,9 @@ use Rattle.text.specs.Bytes.{isBlank}
 use Rattle.text.specs.Lists.{span}
 use Rattle.text.specs.Pasting.{pasted}
 use Rattle.text_characters.specs.Pieces.{less, greater, solidus}
-use Rattle.list.specs.Table.{cell, listOf}
+use Rattle.list.specs.tables.Table.{cell, listOf}
 use Rattle.list.specs.Listing.{child}
-use Rattle.list.specs.Sound.{Sound}
+use Rattle.list.specs.tables.Sound.{Sound}
 use Rattle.xml.specs.House.{HouseXml}
 use Rattle.xml_tags.specs.declared.token.Token.{Token}
 use Rattle.xml_tags.specs.Marks.{but, headIs, behind}
@@ -22,10 +22,10 @@ use Rattle.xml_tags.specs.mirror.Tokens.{openAt}
 use Rattle.file_walk.specs.declared.step.Turn.{Turn}
 use Rattle.xml_tags.specs.declared.skim.Tag.{Tag}
 use Rattle.xml_tags.specs.mirror.Skimmed.{tagOf}
-use Rattle.list.specs.Numbers.{isGroupIn}
+use Rattle.list.specs.tables.Numbers.{isGroupIn}
 use Rattle.file_walk.specs.mirror.Begin.{beginIn}
 use Rattle.file.specs.Instance.{houseKinds}
-use Rattle.file.proofs.House.{spelling}
+use Rattle.file.proofs.answers.House.{spelling}
 use Rattle.file_check.specs.declared.fill.Spot.{Spot}
 use Rattle.file_measure.specs.Pass.{Shuts}
 use Rattle.file_check.specs.Fill.{HeadPut, spotAt, Comes, Fillable, FilledIn}

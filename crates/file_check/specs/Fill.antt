@@ -10,8 +10,8 @@ use Rattle.text.specs.Pasting.{pasted}
 use Rattle.text.specs.Puts.{Puts}
 use Rattle.list.specs.Listing.{Listing, size, Child, child}
 use Rattle.list.specs.Content.{Content}
-use Rattle.list.specs.Table.{cell, listOf}
-use Rattle.list.specs.Sound.{Sound}
+use Rattle.list.specs.tables.Table.{cell, listOf}
+use Rattle.list.specs.tables.Sound.{Sound}
 use Rattle.image.specs.Image.{header}
 use Rattle.file.specs.Instance.{Kinds}
 use Rattle.file.specs.File.{imageOf}

@@ -6,7 +6,7 @@ use Rattle.text.specs.Bytes.{ascii}
 use Rattle.list.specs.Listing.{rowAt}
 use Rattle.text_characters.specs.Utf8.{encode}
 use Rattle.text.specs.Digits.{digits, inDigits, padded}
-use Rattle.value.specs.Script.{fractionFor}
+use Rattle.value.specs.script.Script.{fractionFor}
 use Rattle.image.specs.Example.{whole}
 use Rattle.file.specs.Stars.{statement}
 use Rattle.file_letter.specs.Letter.{letterOf}

@@ -16,7 +16,7 @@ use Rattle.list.specs.Within.{Among}
 use Rattle.list_house.specs.Lists.{asked}
 use Rattle.list_house.proofs.Lists.{asked-well}
 use Rattle.list_house.proofs.Retired.{Narrowed, stored-narrowed}
-use Rattle.value.specs.Former.{present}
+use Rattle.value.specs.parts.Former.{present}
 use Rattle.value.specs.Value.{Value, IsValue}
 use Rattle.value.specs.Spelled.{Spelled}
 use Rattle.xml.specs.House.{Tree, GoodTree, whole, HouseXml}
@@ -36,16 +36,16 @@ use Rattle.file.specs.Instance.{houseTypes, houseKinds}
 use Rattle.file.specs.File.{messageIn, File, imageOf}
 use Rattle.file.specs.Checks.{Answers, Checks, Filed, Finds}
 use Rattle.file.proofs.Chosen.{filed-chosen}
-use Rattle.file.proofs.House.{spelling, image-no-longer, accepted-image}
-use Rattle.file.proofs.Accepted.{good-accepted}
-use Rattle.file_letter.proofs.Trees.{treeOf, letter-is}
+use Rattle.file.proofs.answers.House.{spelling, image-no-longer, accepted-image}
+use Rattle.file.proofs.answers.Accepted.{good-accepted}
+use Rattle.file_letter.proofs.tree.Trees.{treeOf, letter-is}
 use Rattle.file_letter.specs.Letter.{letterOf}
 use Rattle.file_letter.specs.Stale.{NoneOf, Withdrawn, Finer}
 use Rattle.file_letter.specs.Writes.{askedIn, letterIn, itemsIn, imageIn}
 use Rattle.file_letter.proofs.Meeting.{said-is, has-fine}
 use Rattle.file_letter.proofs.Present.{said-present}
-use Rattle.file_letter.proofs.Has.{letter-has}
-use Rattle.file_letter.proofs.Good.{letter-good}
+use Rattle.file_letter.proofs.tree.Has.{letter-has}
+use Rattle.file_letter.proofs.tree.Good.{letter-good}
 
 -- some house XML, of any length, is a message of the content
 pub record Sayable (l : Listing) (c : Content Value) : Type 0 where

@@ -1,10 +1,4 @@
 -- The laws of `file_letter`.
--- of which characters a value's text is
-pub mod Chars
--- the written file as a tree
-pub mod Trees
--- what is told is the tree
-pub mod Telling
 -- document 01's example
 pub mod Example
 -- what a file may say, and what an image may hold
@@ -13,10 +7,6 @@ pub mod Meeting
 pub mod Stale
 -- what a stored content is to the list of files
 pub mod Present
--- the written message's content
-pub mod Has
--- the written tree is good
-pub mod Good
 -- the written file is a file of its content
 pub mod Files
 -- what writing answers
@@ -25,3 +15,5 @@ pub mod Writing
 pub mod Rooms
 -- what tidying answers
 pub mod Tidying
+-- the tree that is written for a content
+pub mod tree

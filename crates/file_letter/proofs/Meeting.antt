@@ -10,7 +10,7 @@ use Rattle.text.specs.Lists.{Each}
 use Rattle.list.specs.Listing.{Leaf, Kind, group, choice, leaf, Listing, rowAt}
 use Rattle.list.specs.Content.{Content, end, value, node, items, Meets, ValueOf, Good}
 pub use Rattle.list.proofs.Retired.{each-first, each-last}
-use Rattle.value.specs.Former.{present}
+use Rattle.value.specs.parts.Former.{present}
 use Rattle.value.specs.Value.{Value, text, place, truth, natural, amount, day, moment, IsValue}
 use Rattle.value.specs.Rules.{InThousandths}
 use Rattle.value.proofs.Rules.{spelt-fine}

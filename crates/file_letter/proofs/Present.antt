@@ -17,7 +17,7 @@ use Rattle.list.proofs.Retired.{present-of}
 use Rattle.list_house.specs.Lists.{asked, askedOf, stored}
 use Rattle.list_house.proofs.Lists.{kept-well}
 use Rattle.list_house.proofs.Retired.{GoneRows, gone-rows, Narrowed, stored-narrowed}
-use Rattle.value.specs.Former.{present}
+use Rattle.value.specs.parts.Former.{present}
 use Rattle.value.specs.Value.{Value, IsValue}
 use Rattle.value.specs.Spelled.{Spelled}
 use Rattle.xml.specs.House.{IsName, Markup as Tags, noMore as over, piece, emptyTag, full, render, tag, GoodMarkup, OneElement, Tree, GoodTree}

@@ -12,7 +12,7 @@ use Rattle.list.specs.Listing.{Listing}
 use Rattle.list.specs.Content.{Content, items, Meets}
 use Rattle.list_house.specs.Lists.{askedOf}
 use Rattle.list_house.proofs.Retired.{asked-alike}
-use Rattle.value.specs.Former.{present}
+use Rattle.value.specs.parts.Former.{present}
 use Rattle.value.specs.Value.{Value}
 use Rattle.value.specs.Spelled.{Spelled}
 use Rattle.image.specs.Kinds.{values}
@@ -21,8 +21,8 @@ use Rattle.image_reading.specs.Reads.{stored, HouseAccepts, HouseReads}
 use Rattle.file.specs.Instance.{houseKinds}
 use Rattle.file.specs.File.{messageIn, imageOf}
 use Rattle.file.specs.Checks.{Checks, Filed}
-use Rattle.file.proofs.House.{one-content, checks-one, refusal-leaves, accepted-exactly, accepted-image, read-back, read-content}
-use Rattle.file.proofs.Some.{checks-some}
+use Rattle.file.proofs.answers.House.{one-content, checks-one, refusal-leaves, accepted-exactly, accepted-image, read-back, read-content}
+use Rattle.file.proofs.answers.Some.{checks-some}
 use Rattle.file.proofs.Rooms.{rooms-alike}
 use Rattle.file_letter.specs.Letter.{letterOf}
 use Rattle.file_letter.specs.Stale.{NoneOf, Withdrawn, Finer}

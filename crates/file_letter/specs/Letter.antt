@@ -8,8 +8,8 @@ use Rattle.list.specs.Listing.{Kind, group, choice, leaf, Listing, rowAt}
 use Rattle.list.specs.Content.{Content, end, value, node}
 use Rattle.value.specs.Value.{Value, text, place, truth, natural, amount, day, moment}
 use Rattle.xml.specs.House.{double, Attr, Tag, Markup, noMore, piece, full, render}
-use Rattle.value.specs.Script.{scriptOf}
-use Rattle.value.specs.Raw.{pieceOf}
+use Rattle.value.specs.script.Script.{scriptOf}
+use Rattle.value.specs.script.Raw.{pieceOf}
 
 -- the characters of a text, "`&` and `<` and `>` as entities"
 abbrev pub textIn : List ℕ → Markup

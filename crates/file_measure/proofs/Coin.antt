@@ -3,13 +3,13 @@ use mathlib.Core.Path.{_≡_, refl, sym, subst}
 use mathlib.Core.List.{List, []}
 use Prim.Native.Nat.{ℕ}
 use Rattle.list.specs.Listing.{ccy}
-use Rattle.value.specs.Code.{Ccy}
+use Rattle.value.specs.types.Code.{Ccy}
 use Rattle.value.specs.Value.{Value, text, IsValue, currency, Wording}
 use Rattle.value.specs.mirror.Judges.{isCurrency}
-use Rattle.value.proofs.stored.Codes.{currency-exactly}
+use Rattle.value.proofs.stored.texts.Codes.{currency-exactly}
 use Rattle.file_walk.proofs.violation.Answers.{iff-same}
 use Rattle.file_walk.proofs.bytes.Own.{Coins, coins-of}
-use Rattle.file.proofs.House.{houseJudge, deciding}
+use Rattle.file.proofs.answers.House.{houseJudge, deciding}
 
 spelt-ccy : (w cs : List ℕ) (v : Value) → IsValue ccy v → Wording ccy w cs v → Ccy cs
 spelt-ccy w cs v (currency c) e = subst Ccy (sym e) c

@@ -15,7 +15,7 @@ use Rattle.file_walk.proofs.violation.Accept.{unique}
 use Rattle.file.specs.Instance.{Kinds}
 use Rattle.file.specs.File.{imageOf}
 use Rattle.file_walk.proofs.violation.Judges.{first-one}
-use Rattle.file.proofs.One.{fine-found}
+use Rattle.file.proofs.answers.One.{fine-found}
 use Rattle.file_measure.specs.Measured as measured
 use Rattle.file_measure.specs.Measured.{Says, Message}
 use Rattle.file_measure.specs.Pass.{Passes, violates, holds}

@@ -13,8 +13,8 @@ use Rattle.answer.specs.Table.{accepted, limit, tooLong, notUtf8, notHouseXml, 
 use Rattle.text_characters.specs.Utf8.{Utf8}
 use Rattle.text_characters.proofs.Longest.{whole-utf8}
 use Rattle.list.specs.Listing.{Listing}
-use Rattle.list.specs.Table.{listOf}
-use Rattle.list.specs.Sound.{Sound}
+use Rattle.list.specs.tables.Table.{listOf}
+use Rattle.list.specs.tables.Sound.{Sound}
 use Rattle.list.specs.WellFormed.{WellFormed}
 use Rattle.list.specs.Within.{Among}
 use Rattle.list.specs.Content.{Content, Meets}
@@ -42,13 +42,13 @@ use Rattle.file_walk.proofs.bytes.Root.{one-element, rooted, keeps}
 use Rattle.file.specs.Instance.{Kinds, houseTypes, houseKinds}
 use Rattle.file.specs.File.{Whole, messageIn, File, imageOf}
 use Rattle.file.specs.Checks.{Answers, Chosen, Filed, Finds, markup, violation, imaged}
-use Rattle.file.proofs.House.{spelling, image-no-longer, one-content, finds-one}
-use Rattle.file.proofs.One.{message-one, fine-found}
-use Rattle.file.proofs.Codes.{violation-code}
+use Rattle.file.proofs.answers.House.{spelling, image-no-longer, one-content, finds-one}
+use Rattle.file.proofs.answers.One.{message-one, fine-found}
+use Rattle.file.proofs.answers.Codes.{violation-code}
 use Rattle.file.proofs.Chosen as chosen
 use Rattle.file.proofs.Chosen.{rooted-chosen, filed-chosen, listFor, list-among, list-chosen}
-use Rattle.file.proofs.Early.{says-long, says-bytes}
-use Rattle.value.specs.Spell.{spell}
+use Rattle.file.proofs.answers.Early.{says-long, says-bytes}
+use Rattle.value.specs.decided.Spell.{spell}
 use Rattle.file_measure.specs.declared.Finding.{Finding}
 use Rattle.file_measure.specs.Measured.{Says, violates, holds, Measured}
 use Rattle.file_measure.specs.Measures.{Measures, measured, faulty}

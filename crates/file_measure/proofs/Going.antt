@@ -15,8 +15,8 @@ use Rattle.text.specs.Puts.{Puts}
 use Rattle.list.specs.Listing.{Leaf, amt, Kind, group, choice, leaf, Listing, rowAt, Child, isGroup}
 use Rattle.list.specs.WellFormed.{LeafOk, KindOk}
 use Rattle.list.specs.Content.{Content, items, Meets}
-use Rattle.list.specs.Table.{listOf}
-use Rattle.list.specs.Sound.{Sound}
+use Rattle.list.specs.tables.Table.{listOf}
+use Rattle.list.specs.tables.Sound.{Sound}
 use Rattle.list.proofs.rows.Rows.{size-is, kind-is}
 use Rattle.xml.specs.House.{HouseXml}
 use Rattle.xml.specs.Message.{Attrs, rootAt, messageOf}
@@ -51,7 +51,7 @@ use Rattle.file.specs.Instance.{Kinds, valuesOf}
 use Rattle.file.specs.File.{imageOf}
 use Rattle.text.proofs.Puts.{puts-none, puts-pasted, puts-then, puts-as}
 use Rattle.file_measure.specs.Pass.{kindIn, Shut, Yields, Shuts, Opens, ItemPut, Passes, violates, holds}
-use Rattle.value.proofs.stored.Codes.{currency-exactly}
+use Rattle.value.proofs.stored.texts.Codes.{currency-exactly}
 
 -- ---- what a step met
 

@@ -11,8 +11,8 @@ use Rattle.answer.specs.declared.Answer.{Answer}
 use Rattle.answer.specs.Table.{accepted, badValue}
 use Rattle.text.specs.Pasting.{pasted}
 use Rattle.text.specs.Puts.{Puts}
-use Rattle.list.specs.Table.{listOf}
-use Rattle.list.specs.Sound.{Sound}
+use Rattle.list.specs.tables.Table.{listOf}
+use Rattle.list.specs.tables.Sound.{Sound}
 use Rattle.xml.specs.House.{HouseXml}
 use Rattle.xml.specs.Message.{messageOf}
 use Rattle.file_walk.specs.declared.step.Here.{Here}
@@ -25,8 +25,8 @@ use Rattle.image.specs.Image.{header}
 use Rattle.file.specs.Instance.{houseKinds}
 use Rattle.file_measure.specs.Measured.{Measured}
 use Rattle.file_measure.specs.Pass.{Opens, Shuts, Ready, Passes, Passed}
-use Rattle.value.specs.Spell.{spell}
-use Rattle.file.proofs.House.{spelling, computing}
+use Rattle.value.specs.decided.Spell.{spell}
+use Rattle.file.proofs.answers.House.{spelling, computing}
 use Rattle.file_measure.proofs.Coin.{coins}
 use Rattle.file_measure.proofs.End.{says-of}
 use Rattle.file_measure.proofs.Going.{isOpened, isRefused, Computed, Going, begun, begin-refused, begin-other, begin-opened, goes-first, at-most, step-refused, step-lost, step-enters, step-leaves, step-ends, goes-in, goes-out, bad-value, ends-in}

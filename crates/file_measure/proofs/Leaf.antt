@@ -13,9 +13,9 @@ use Rattle.text.specs.Puts.{Puts}
 use Rattle.text.proofs.Pasting.{length-pasted}
 use Rattle.text.proofs.Puts.{puts-none, puts-pasted, puts-then}
 use Rattle.list.specs.Listing.{Leaf, leaf, isGroup}
-use Rattle.list.specs.Table.{cell, wordsIn}
+use Rattle.list.specs.tables.Table.{cell, wordsIn}
 use Rattle.list.proofs.rows.Codes.{group-is}
-use Rattle.list.specs.Numbers.{isGroupIn}
+use Rattle.list.specs.tables.Numbers.{isGroupIn}
 use Rattle.file.specs.Instance.{Kinds}
 use Rattle.file_measure.specs.Pass.{kindIn, given, Valued, ItemPut, Shuts, Opens}
 

@@ -20,17 +20,17 @@ use Rattle.text_characters.proofs.Spelling.{one-text}
 use Rattle.list.specs.Listing.{Leaf, ref, enum, Kind, group, choice, leaf, isGroup}
 use Rattle.list.proofs.rows.Codes.{group-is}
 use Rattle.list.specs.WellFormed.{LeafOk}
-use Rattle.list.specs.Table.{cell, byteOf, placeIn, kindOf, wordsIn}
+use Rattle.list.specs.tables.Table.{cell, byteOf, placeIn, kindOf, wordsIn}
 use Rattle.list.proofs.words.Places.{place-found, place-none, byte-near}
-use Rattle.value.specs.Code.{Ccy}
-use Rattle.value.specs.Form.{WordAt}
+use Rattle.value.specs.types.Code.{Ccy}
+use Rattle.value.specs.parts.Form.{WordAt}
 use Rattle.value.specs.Kind.{code, Given}
 use Rattle.value.specs.Value.{Value, text, place, IsValue, reference, writing, account, currency, listed, either, count, money, dated, timed, Spelt, bytes}
 use Rattle.value.proofs.types.Rights.{word-spelt, spelt-word}
 use Rattle.value.proofs.types.Values.{value-laws}
-use Rattle.list.specs.Numbers.{isGroupIn}
-use Rattle.value.specs.Giving.{Counted, Gives, Sized, Written}
-use Rattle.value.specs.Giving as giving
+use Rattle.list.specs.tables.Numbers.{isGroupIn}
+use Rattle.value.specs.given.Giving.{Counted, Gives, Sized, Written}
+use Rattle.value.specs.given.Giving as giving
 use Rattle.value.proofs.given.Putting.{text-long, natural-long, amount-long, day-long, moment-long}
 use Rattle.value.proofs.given.Unique.{spelt-any, euro, euro-is}
 use Rattle.value.proofs.given.Theorems.{bytes-some, write-is, write-none, size-is, size-none}

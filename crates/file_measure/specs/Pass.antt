@@ -13,11 +13,11 @@ use Rattle.text_characters.specs.Pieces.{Spells}
 use Rattle.list.specs.Listing.{Leaf, amt, Kind, leaf, Listing, isGroup}
 use Rattle.list.specs.WellFormed.{LeafOk}
 use Rattle.list.specs.Content.{Content}
-use Rattle.list.specs.Table.{cell, placeIn, kindOf, wordsIn}
-use Rattle.list.specs.Sound.{Sound}
+use Rattle.list.specs.tables.Table.{cell, placeIn, kindOf, wordsIn}
+use Rattle.list.specs.tables.Sound.{Sound}
 use Rattle.xml.specs.House.{HouseXml}
 use Rattle.xml.specs.Message.{Inside, messageOf}
-use Rattle.value.specs.Code.{Ccy}
+use Rattle.value.specs.types.Code.{Ccy}
 use Rattle.file_walk.specs.declared.found.Found.the-variants.{Fine, Violation}
 use Rattle.file_walk.specs.First.{First}
 use Rattle.file_walk.specs.Denotes.{Has}

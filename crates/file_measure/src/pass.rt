@@ -16,7 +16,7 @@ ghost use mathlib.Core.Path.{_≡_};
 ghost use mathlib.Core.List.{[]};
 ghost use Prim.Native.Nat.{_≤_};
 ghost use lib.Seq.{slice};
-ghost use Rattle.list.specs.Table.{cell, wordsIn, listOf};
+ghost use Rattle.list.specs.tables.Table.{cell, wordsIn, listOf};
 ghost use Rattle.file_walk.specs.mirror.Begin.{beginIn};
 ghost use Rattle.file.specs.Instance.{houseKinds};
 ghost use Rattle.file_measure.specs.Measured.{Measured};

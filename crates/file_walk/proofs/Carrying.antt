@@ -11,8 +11,8 @@ use Rattle.text.specs.Bytes.{ascii, isUnmarked}
 use Rattle.text.specs.Lists.{All, same}
 use Rattle.text_characters.specs.Pieces.{Spells}
 use Rattle.text_characters.proofs.Unmarked.{unmarked-same}
-use Rattle.list.specs.Table.{listOf}
-use Rattle.list.specs.Sound.{Sound}
+use Rattle.list.specs.tables.Table.{listOf}
+use Rattle.list.specs.tables.Sound.{Sound}
 use Rattle.list.proofs.rows.Words.{same-eq, same-of}
 use Rattle.xml.specs.Message.{Attrs}
 use Rattle.xml_tags.specs.declared.attribute.Attribute.{Attribute}

@@ -6,10 +6,10 @@ use Prim.Native.Nat.{ℕ, _+_, _-_, _*_, _≤_, _<_}
 use native.Mathlib.Omega.{arith}
 use lib.ListN.{length, length-append}
 use Rattle.list.specs.Listing.{Listing, size, rowAt, Child}
-use Rattle.list.specs.Table.{cell, nameIn, listOf}
+use Rattle.list.specs.tables.Table.{cell, nameIn, listOf}
 use Rattle.list.proofs.rows.Rows.{size-is, parent-is}
 use Rattle.file_letter.specs.mirror.Tell.{shuts, closes}
-use Rattle.file_letter.proofs.Telling.{same-group, no-group, one-up}
+use Rattle.file_letter.proofs.tree.Telling.{same-group, no-group, one-up}
 use Rattle.text.specs.Puts.{Puts}
 use Rattle.file_write.specs.mirror.Tags.{shutIn, Opened}
 use Rattle.text.proofs.Puts.{puts-none, puts-then, puts-as}

@@ -17,12 +17,12 @@ use Rattle.text.proofs.Puts.{puts-none, puts-then, puts-as}
 use Rattle.list.specs.Listing.{Leaf, Kind, group, choice, leaf, Listing, size, rowAt, Child, isGroup}
 use Rattle.list.specs.WellFormed.{LeafOk, KindOk}
 use Rattle.list.specs.Content.{Content, end, value, node, rows, items, Good, Meets}
-use Rattle.list.specs.Table.{cell, kindOf, wordsIn, listOf}
-use Rattle.list.specs.Sound.{wordCount, Sound}
+use Rattle.list.specs.tables.Table.{cell, kindOf, wordsIn, listOf}
+use Rattle.list.specs.tables.Sound.{wordCount, Sound}
 use Rattle.list.proofs.rows.Rows.{size-is, parent-is, kind-is}
 use Rattle.value.specs.Value.{Value, IsValue, bytes as valued}
-use Rattle.value.specs.Script.{scriptOf}
-use Rattle.value.specs.Stands.{taken}
+use Rattle.value.specs.script.Script.{scriptOf}
+use Rattle.value.specs.given.Stands.{taken}
 use Rattle.value.specs.mirror.Ends.{width}
 use Rattle.value.proofs.stored.Meaning.{ends-one}
 use Rattle.xml.specs.House.{render}
@@ -30,12 +30,12 @@ use Rattle.image.specs.Image.{Item, valueBytes, itemsBytes, body}
 use Rattle.image.specs.Kinds.{values}
 use Rattle.image.specs.Place.{Holds}
 use Rattle.image.specs.mirror.Follow.{OfKind, ItemOk}
-use Rattle.list.specs.Numbers.{isGroupIn}
+use Rattle.list.specs.tables.Numbers.{isGroupIn}
 use Rattle.file_walk.proofs.bytes.Sound.{group-in}
 use Rattle.file_letter.specs.Letter.{textIn, coinOf, wordsIn as inWords, letterOf}
 use Rattle.file_letter.specs.mirror.Tell.{opens, shuts, closes, tell}
-use Rattle.file_letter.proofs.Has.{rooted}
-use Rattle.file_letter.proofs.Telling.{letter-told}
+use Rattle.file_letter.proofs.tree.Has.{rooted}
+use Rattle.file_letter.proofs.tree.Telling.{letter-told}
 use Rattle.file_write.specs.mirror.Tags.{startIn, openIn, shutIn, rootIn, Opened}
 use Rattle.file_write.specs.mirror.Emit.{coinText, ValueAt, leafIn, LeafPut, Held, Emits}
 use Rattle.file_write.proofs.Standing.{Standing, kids, is-root, stand-first, stand-start, stand-in, stand-end, Ahead, ahead, row-parent, row-parent-in, group-none, group-after, Leafed, leafed, value-at, end-is, leaf-after}

@@ -15,14 +15,14 @@ use Rattle.text.specs.Puts.{Puts}
 use Rattle.text.proofs.Parts.{part-take, part-length}
 use Rattle.text.proofs.Puts.{puts-then, puts-as}
 use Rattle.list.specs.Listing.{Leaf, ref, iban, ccy, bool, num, amt, date, dtm, txt, enum, Kind, group, choice, leaf}
-use Rattle.list.specs.Table.{cell, kindOf, nameIn, wordsIn}
+use Rattle.list.specs.tables.Table.{cell, kindOf, nameIn, wordsIn}
 use Rattle.value.specs.Value.{Value, IsValue, bytes}
-use Rattle.value.specs.Script.{scriptOf}
-use Rattle.value.specs.Raw.{rawOf}
+use Rattle.value.specs.script.Script.{scriptOf}
+use Rattle.value.specs.script.Raw.{rawOf}
 use Rattle.value.specs.mirror.Stored.{rawAt}
 use Rattle.value.proofs.script.Meaning.{currency-first, put-value}
 use Rattle.value.proofs.stored.Numbered.{by-kind}
-use Rattle.file_letter.proofs.Good.{text-raw}
+use Rattle.file_letter.proofs.tree.Good.{text-raw}
 use Rattle.file_write.specs.mirror.Tags.{startIn, openIn, shutIn, coinIn}
 use Rattle.file_write.specs.mirror.Emit.{coinText, coinAt, ValueAt, leafIn}
 use Rattle.file_write.proofs.Putting.{part-most}

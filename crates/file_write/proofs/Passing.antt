@@ -16,8 +16,8 @@ use Rattle.text.specs.Numbers.{bigEndian, number}
 use Rattle.text.proofs.Numbers.{number-big}
 use Rattle.list.specs.Listing.{Leaf, Kind, Listing, size, rowAt}
 use Rattle.list.specs.Changed.{Gone}
-use Rattle.list.specs.Table.{cell, nameIn, listOf}
-use Rattle.list.specs.Sound.{Sound}
+use Rattle.list.specs.tables.Table.{cell, nameIn, listOf}
+use Rattle.list.specs.tables.Sound.{Sound}
 use Rattle.list.proofs.rows.Rows.{size-is, name-is}
 use Rattle.value.specs.Value.{Value, text, place, truth, natural, amount, day, moment, IsValue, bytes as valued}
 use Rattle.value.specs.Rules.{InThousandths}
@@ -26,7 +26,7 @@ use Rattle.value.specs.mirror.Ends.{width}
 use Rattle.value.proofs.script.Meaning.{kind-number}
 use Rattle.image.specs.Image.{Item, valueBytes, itemBytes, itemsBytes}
 use Rattle.image.specs.Kinds.{values}
-use Rattle.list.specs.Numbers.{isGroupIn}
+use Rattle.list.specs.tables.Numbers.{isGroupIn}
 use Rattle.file_letter.proofs.Meeting.{finer-none, finer-not, not-finer}
 use Rattle.file_letter.specs.Stale.{NoneOf, FirstAt, Withdrawn, Finer}
 use Rattle.file_answers.specs.Answers.{goneBy}

@@ -7,7 +7,7 @@ use lib.ListN.{length}
 use lib.Seq.{slice}
 use Rattle.text.specs.Pasting.{pasted}
 use Rattle.text.proofs.Parts.{part-length}
-use Rattle.list.specs.Table.{cell, nameIn}
+use Rattle.list.specs.tables.Table.{cell, nameIn}
 use Rattle.text.specs.Puts.{Puts}
 use Rattle.file_write.specs.mirror.Tags.{startIn}
 use Rattle.text.proofs.Puts.{puts-pasted, puts-then}

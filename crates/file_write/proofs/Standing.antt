@@ -15,20 +15,20 @@ use Rattle.list.specs.WellFormed.{LeafOk, KindOk}
 use Rattle.list.specs.Content.{Content, end, value, node, rows, items, ValueOf, Good}
 use Rattle.list.specs.Within.{Within}
 use Rattle.list.proofs.Within.{within-itself}
-use Rattle.list.specs.Table.{cell, kindOf, wordsIn, listOf}
-use Rattle.list.specs.Sound.{wordCount, Sound}
+use Rattle.list.specs.tables.Table.{cell, kindOf, wordsIn, listOf}
+use Rattle.list.specs.tables.Sound.{wordCount, Sound}
 use Rattle.list.proofs.rows.Rows.{size-is, parent-is, kind-is}
 use Rattle.value.specs.Value.{Value, IsValue, bytes as valued}
-use Rattle.value.specs.Stands.{taken}
+use Rattle.value.specs.given.Stands.{taken}
 use Rattle.value.specs.mirror.Ends.{width, valueEnd}
 use Rattle.value.proofs.stored.Meaning.{end-is as width-is, ends-one}
 use Rattle.image.specs.Image.{Item, valueBytes, itemsBytes, body}
 use Rattle.image.specs.Kinds.{values}
 use Rattle.image.specs.Place.{Holds}
 use Rattle.image.specs.mirror.Follow.{OfKind}
-use Rattle.list.specs.Numbers.{isGroupIn}
+use Rattle.list.specs.tables.Numbers.{isGroupIn}
 use Rattle.file_walk.proofs.bytes.Sound.{group-in}
-use Rattle.file_letter.proofs.Has.{rooted}
+use Rattle.file_letter.proofs.tree.Has.{rooted}
 use Rattle.file_write.specs.mirror.Emit.{ValueAt}
 use Rattle.file_write.specs.mirror.Stale.{ItemOf}
 

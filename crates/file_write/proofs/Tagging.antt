@@ -17,12 +17,12 @@ use Rattle.text_characters.proofs.Unmarked.{unmarked}
 use Rattle.text_characters.specs.Pieces.{spells}
 use Rattle.list.specs.Listing.{Leaf, Row, Listing, size, rowAt}
 use Rattle.list.specs.WellFormed.{WellFormed}
-use Rattle.list.specs.Table.{cell, nameIn, listOf}
+use Rattle.list.specs.tables.Table.{cell, nameIn, listOf}
 use Rattle.list.proofs.rows.Rows.{size-is, name-is}
 use Rattle.list.proofs.rows.Next.{row-past}
 use Rattle.value.specs.Value.{Value, IsValue}
 use Rattle.value.proofs.classes.Classes.{each-all}
-use Rattle.file_letter.proofs.Trees.{plainly}
+use Rattle.file_letter.proofs.tree.Trees.{plainly}
 use Rattle.file_letter.specs.Letter.{attrOf, coinOf}
 use Rattle.file_letter.specs.mirror.Tell.{opens, shuts, closes}
 use Rattle.file_write.specs.mirror.Tags.{startIn, openIn, shutIn, rootIn, coinIn}

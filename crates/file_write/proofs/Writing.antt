@@ -17,9 +17,9 @@ use Rattle.list.specs.Listing.{Kind, Listing, size, isGroup}
 use Rattle.list.specs.Content.{Content, end, node, items, Good, Meets}
 use Rattle.list.specs.Within.{Within}
 use Rattle.list.specs.Changed.{Gone}
-use Rattle.list.specs.Table.{listOf}
-use Rattle.list.specs.Sound.{Sound}
-use Rattle.list.specs.Laid.{laid}
+use Rattle.list.specs.tables.Table.{listOf}
+use Rattle.list.specs.tables.Sound.{Sound}
+use Rattle.list.specs.tables.Laid.{laid}
 use Rattle.list.proofs.Laid.{laid-list, laid-sound}
 use Rattle.list.proofs.Retired.{each-last}
 use Rattle.list_house.specs.Lists.{askedOf}
@@ -39,7 +39,7 @@ use Rattle.image_reading.proofs.House.{begun-reads}
 use Rattle.file_letter.specs.Letter.{letterOf}
 use Rattle.file_letter.specs.Writes.{askedIn, letterIn, itemsIn, large, short, delivered, Writes, unread, withdrawn, finer, begun}
 use Rattle.file_letter.specs.Stale.{NoneOf, FirstAt, Withdrawn, Finer}
-use Rattle.file_letter.proofs.Has.{Rooted, rooted}
+use Rattle.file_letter.proofs.tree.Has.{Rooted, rooted}
 use Rattle.file_letter.proofs.Present.{meets-present}
 use Rattle.file_answers.specs.Answers.{goneBy, refusedBy, sizedBy}
 use Rattle.file_answers.proofs.Answering.{sized-refused, sized-accepted}

@@ -2,7 +2,7 @@
 use crate::put::put_close;
 use list::lookup::cell;
 use list::table::PARENT;
-ghost use Rattle.list.specs.Table.{listOf};
+ghost use Rattle.list.specs.tables.Table.{listOf};
 ghost use Rattle.file_letter.specs.mirror.Tell.{closes};
 ghost use Rattle.text.specs.Puts.{Puts};
 ghost use Rattle.file_write.specs.mirror.Tags.{Opened};

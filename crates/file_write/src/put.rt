@@ -10,7 +10,7 @@ use text_bytes::number::copy;
 ghost use Prim.Native.Nat.{_+_, _≤_};
 ghost use lib.ListN.{length};
 ghost use lib.Seq.{slice};
-ghost use Rattle.list.specs.Table.{nameIn};
+ghost use Rattle.list.specs.tables.Table.{nameIn};
 ghost use Rattle.text.specs.Puts.{Puts};
 ghost use Rattle.file_write.specs.mirror.Tags.{startIn, openIn, shutIn, rootIn, coinIn};
 

@@ -11,8 +11,8 @@ use lib.ListN.{length, drop}
 use Rattle.answer.specs.declared.Answer.{Answer}
 use Rattle.list.specs.Listing.{Leaf, Kind, group, choice, leaf, Listing, size, rowAt, isGroup}
 use Rattle.list.specs.WellFormed.{LeafOk, KindOk}
-use Rattle.list.specs.Table.{cell, kindOf, wordsIn, listOf}
-use Rattle.list.specs.Sound.{wordCount, Sound}
+use Rattle.list.specs.tables.Table.{cell, kindOf, wordsIn, listOf}
+use Rattle.list.specs.tables.Sound.{wordCount, Sound}
 use Rattle.list.proofs.rows.Rows.{size-is, kind-is}
 use Rattle.value.specs.Value.{Value, IsValue, bytes}
 use Rattle.image.specs.Image.{valueBytes}
@@ -24,7 +24,7 @@ use Rattle.image.specs.Means.{ItemEnds, Told, SelectsAnswer, SelectsPart
 use Rattle.image.specs.mirror.Follow.{OfKind, ItemOk}
 use Rattle.image.specs.mirror.Step.{isLeaf}
 use Rattle.value.specs.mirror.Ends.{valueEnd}
-use Rattle.value.specs.Stands.{Ends}
+use Rattle.value.specs.given.Stands.{Ends}
 use Rattle.value.proofs.stored.Numbered.{by-kind}
 use Rattle.value.proofs.stored.Meaning.{end-none, end-some, ends}
 use Rattle.image.specs.mirror.Ends.{itemEnd}

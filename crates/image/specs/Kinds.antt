@@ -1,7 +1,7 @@
 -- The values of document 01's types, as images have them. Assumes nothing.
 use Prim.Native.Nat.{ℕ}
 use Rattle.list.specs.Listing.{Leaf}
-use Rattle.value.specs.Code.{traits}
+use Rattle.value.specs.types.Code.{traits}
 use Rattle.value.specs.Value.{Value, IsValue, bytes}
 use Rattle.image.specs.Image.{Values}
 

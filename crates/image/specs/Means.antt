@@ -6,9 +6,9 @@ use Prim.Native.Nat.{ℕ, _≤_, _<_}
 use lib.ListN.{drop}
 use Rattle.answer.specs.declared.Answer.{Answer}
 use Rattle.list.specs.Listing.{Leaf, leaf, size, rowAt, isGroup}
-use Rattle.list.specs.Table.{listOf}
-use Rattle.list.specs.Sound.{Sound}
-use Rattle.value.specs.Stands.{Ends}
+use Rattle.list.specs.tables.Table.{listOf}
+use Rattle.list.specs.tables.Sound.{Sound}
+use Rattle.value.specs.given.Stands.{Ends}
 use Rattle.image.specs.Kinds.{values}
 use Rattle.image.specs.Place.{Holds, Tells}
 use Rattle.image.specs.Count.{Taken}

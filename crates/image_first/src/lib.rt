@@ -11,7 +11,7 @@ use list::table::REF;
 use list_house::by_byte::kept_rows_of;
 use list_house::kinds::kind;
 ghost use mathlib.Core.Path.{_≡_};
-ghost use Rattle.list.specs.Laid.{zeros, laid};
+ghost use Rattle.list.specs.tables.Laid.{zeros, laid};
 ghost use Rattle.list_house.specs.mirror.Rows.{keptRows};
 ghost use Rattle.image_reading.specs.Reads.{HouseReads, HouseAnswers, HousePicked};
 ghost use Rattle.image_reading.specs.Forms.{Begun};

@@ -13,8 +13,8 @@ use Rattle.answer.specs.declared.Answer.{Answer}
 use Rattle.answer.specs.Table.{picked, brokenImage}
 use Rattle.list.specs.Listing.{Leaf, Kind, group, choice, leaf, Listing, size, rowAt, isGroup}
 use Rattle.list.specs.WellFormed.{WellFormed, KindOk}
-use Rattle.list.specs.Table.{cell, listOf}
-use Rattle.list.specs.Sound.{Sound}
+use Rattle.list.specs.tables.Table.{cell, listOf}
+use Rattle.list.specs.tables.Sound.{Sound}
 use Rattle.list.proofs.rows.Rows.{size-is}
 use Rattle.list_house.specs.mirror.HouseTable.{housePool}
 use Rattle.list_house.specs.mirror.Rows.{keptRows}

@@ -12,13 +12,13 @@ use Rattle.answer.specs.Table.{accepted, brokenImage, picked}
 use Rattle.text.specs.Bytes.{ascii, isCapital}
 use Rattle.text.specs.Numbers.{bigEndian, numberFrom}
 use Rattle.text_characters.specs.mirror.Decoding.{decoded}
-use Rattle.list.specs.Numbers.{isGroupIn}
-use Rattle.list.specs.Table.{cell, listOf}
+use Rattle.list.specs.tables.Numbers.{isGroupIn}
+use Rattle.list.specs.tables.Table.{cell, listOf}
 use Rattle.list_house.specs.mirror.HouseTable.{storedHouseRows, housePool}
 use Rattle.list_house.specs.mirror.Rows.{keptRows}
 use Rattle.list_house.proofs.HouseSound.{storedHouse-sound}
 use Rattle.list_house.proofs.Lists.{stored-is}
-use Rattle.value.specs.Text.{isRef, isTxt}
+use Rattle.value.specs.types.Text.{isRef, isTxt}
 use Rattle.value.specs.mirror.Tests.{isByte, every, some as any, apart as slashes}
 use Rattle.value.specs.mirror.Chars.{charsFrom}
 use Rattle.value.specs.mirror.Judges.{isReference, textFrom, isWriting, isCurrency, isPlace, isAmount, isReal, isDay, isMoment}

@@ -13,9 +13,9 @@ use Rattle.answer.specs.Table.{limit, accepted, tooLong, noHeader, wrongVersion
 use Rattle.text.specs.Bytes.{ascii}
 use Rattle.list.specs.Listing.{Listing, rowAt, isGroup}
 use Rattle.list.specs.Content.{Content, Meets}
-use Rattle.list.specs.Table.{listOf}
-use Rattle.list.specs.Sound.{Sound}
-use Rattle.list.specs.Laid.{laid}
+use Rattle.list.specs.tables.Table.{listOf}
+use Rattle.list.specs.tables.Sound.{Sound}
+use Rattle.list.specs.tables.Laid.{laid}
 use Rattle.list_house.specs.House.{storedHouse}
 use Rattle.list_house.specs.mirror.HouseTable.{housePool}
 use Rattle.list_house.specs.mirror.Rows.{keptRows}

@@ -11,9 +11,9 @@ use lib.Seq.{sets, sets-eq, length-take-le, take-all, take-suc, getD-take, getD-
 use borrow.Author.Tests.{leb-true}
 use Rattle.list.specs.Listing.{Row, Listing, size}
 use Rattle.list.specs.WellFormed.{WellFormed}
-use Rattle.list.specs.Table.{cell, rowOf, rowsFrom, rulesFrom, listOf}
-use Rattle.list.specs.Sound.{Derived, Sound}
-use Rattle.list.specs.Laid.{onto, zeros, laid}
+use Rattle.list.specs.tables.Table.{cell, rowOf, rowsFrom, rulesFrom, listOf}
+use Rattle.list.specs.tables.Sound.{Derived, Sound}
+use Rattle.list.specs.tables.Laid.{onto, zeros, laid}
 
 -- ---- the cells
 

@@ -8,7 +8,7 @@ use Rattle.text.specs.Bytes.{isNameStart, isNamePart}
 use Rattle.text.specs.Lists.{Begins}
 use Rattle.list.specs.Listing.{group, choice, alternative, Listing, rowAt, Child, isGroup, up}
 use Rattle.list.specs.WellFormed.{KindOk}
-use Rattle.list.specs.Sound.{level}
+use Rattle.list.specs.tables.Sound.{level}
 
 -- row r of the list, whose parent is p
 pub record EachRow (l : Listing) (p r : ℕ) : Type 0 where

@@ -11,19 +11,9 @@ pub mod Content
 pub mod Within
 -- a list that is another but for some rows; rows that are gone
 pub mod Changed
--- a list as two tables of numbers
-pub mod Table
--- kinds by their numbers
-pub mod Numbers
--- a table over 256 rows
-pub mod Laid
--- tables that say a well-formed list, and what follows from it
-pub mod Sound
 -- what well-formedness says of a single row
 pub mod EachRow
--- soundness as one computed test
-pub mod Test
--- what the lookups answer in such tables
-pub mod Means
 -- mirrors, which say how the code goes
 pub mod mirror
+-- a list as two tables
+pub mod tables

@@ -1,6 +1,6 @@
 // Groups and leaves, by the number of a row's kind.
 ghost use mathlib.Core.Path.{_≡_};
-ghost use Rattle.list.specs.Numbers.{isGroupIn};
+ghost use Rattle.list.specs.tables.Numbers.{isGroupIn};
 
 // Whether a kind is a group's or a choice's: what is no leaf's number is.
 pub fn is_group(kind: usize) -> bool

@@ -3,7 +3,7 @@
 // then goes on with zeros, which is what lookups beyond its end answer anyway.
 use text::part::least;
 ghost use mathlib.Core.Path.{_≡_};
-ghost use Rattle.list.specs.Laid.{onto};
+ghost use Rattle.list.specs.tables.Laid.{onto};
 
 // The first cells become those of `rows`; of more than 4,096 the first. What is lent is filled, since an array that is handed back is copied.
 pub fn lay(rows: &[u16], table: &mut [u16; 4096])

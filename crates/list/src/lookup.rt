@@ -11,9 +11,9 @@ use text::part::same_part;
 ghost use mathlib.Core.Path.{_≡_};
 ghost use lib.Seq.{slice};
 ghost use Rattle.text.specs.Lists.{same};
-ghost use Rattle.list.specs.Table.{cell, nameIn, listOf};
+ghost use Rattle.list.specs.tables.Table.{cell, nameIn, listOf};
 ghost use Rattle.list.specs.mirror.Lookup.{dueAfter, along, childAlong};
-ghost use Rattle.list.specs.Means.{DueNext, ChildCalled};
+ghost use Rattle.list.specs.tables.Means.{DueNext, ChildCalled};
 
 fn wide(x: u16) -> usize
     ensures { λ r. ⌜ r ≡ x ⌝ }

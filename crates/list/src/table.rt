@@ -3,7 +3,7 @@
 ghost use mathlib.Core.Path.{_≡_};
 ghost use mathlib.Core.List.{[], _∷_, _++_, map};
 ghost use Rattle.list.specs.Listing.{alternative};
-ghost use Rattle.list.specs.Table.{counts, kinds, countOf, kindOf};
+ghost use Rattle.list.specs.tables.Table.{counts, kinds, countOf, kindOf};
 
 // A row's own: its parent, its count, its kind, the k of TXTk, where its name and an ENUM's words start and end in the pool, and the
 // first row of the rule whose second row it is.

@@ -10,7 +10,7 @@ ghost use Prim.Native.Nat.{_+_, _≤_};
 ghost use lib.ListN.{length, getD};
 ghost use lib.Seq.{slice};
 ghost use Rattle.text.specs.Lists.{span};
-ghost use Rattle.list.specs.Table.{byteOf, placeIn, wordsIn};
+ghost use Rattle.list.specs.tables.Table.{byteOf, placeIn, wordsIn};
 ghost use Rattle.list.specs.mirror.Lookup.{notSpace};
 
 // Where the word that starts at `i` ends: at the next space, and at `end` where there is none.

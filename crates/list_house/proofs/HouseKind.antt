@@ -8,7 +8,7 @@ use lib.Dec.{eqb}
 use borrow.Author.Tests.{eqb-true}
 use Rattle.text.proofs.Classes.{every, passes}
 use Rattle.list.specs.Listing.{ref, iban, ccy, bool, num, amt, date, dtm, txt, enum, Kind, group, choice, leaf, Row, Listing, size, rowAt, isGroup}
-use Rattle.list.specs.Table.{cell}
+use Rattle.list.specs.tables.Table.{cell}
 use Rattle.list.specs.Within.{Among}
 use Rattle.list.proofs.rows.Next.{row-past}
 use Rattle.list.proofs.rows.Cells.{no-row}

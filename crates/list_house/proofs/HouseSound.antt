@@ -8,9 +8,9 @@ use Rattle.text.specs.Bytes.{isCapital, isNameStart, isNamePart, isUnmarked}
 use Rattle.list.specs.Words.{firstFrom}
 use Rattle.list.specs.Listing.{Child, rowAt, nextDue}
 use Rattle.list.specs.WellFormed.{WellFormed}
-use Rattle.list.specs.Table.{cell, words, rowOf, rowsFrom, rulesFrom, listOf}
-use Rattle.list.specs.Sound.{nextChild, firstOf, secondOf, levelIn, Sound}
-use Rattle.list.specs.Test.{every, begins, among, wordsOk, rowTests, ruleTests, derivedTests, well, derived, sound}
+use Rattle.list.specs.tables.Table.{cell, words, rowOf, rowsFrom, rulesFrom, listOf}
+use Rattle.list.specs.tables.Sound.{nextChild, firstOf, secondOf, levelIn, Sound}
+use Rattle.list.specs.tables.Test.{every, begins, among, wordsOk, rowTests, ruleTests, derivedTests, well, derived, sound}
 use Rattle.list.specs.EachRow.{EachRow}
 use Rattle.list.proofs.sound.EachRow.{each-row}
 use Rattle.list.proofs.sound.Sound.{is-sound}

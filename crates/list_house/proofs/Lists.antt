@@ -11,9 +11,9 @@ use Rattle.text.specs.Lists.{same}
 use Rattle.text.proofs.Parts.{same-of}
 use Rattle.list.specs.Listing.{Listing, rowAt}
 use Rattle.list.specs.WellFormed.{WellFormed}
-use Rattle.list.specs.Table.{listOf}
-use Rattle.list.specs.Sound.{Sound}
-use Rattle.list.specs.Laid.{laid}
+use Rattle.list.specs.tables.Table.{listOf}
+use Rattle.list.specs.tables.Sound.{Sound}
+use Rattle.list.specs.tables.Laid.{laid}
 use Rattle.list.specs.Within.{Among, Within, Kept}
 use Rattle.list.proofs.Laid.{laid-list, laid-sound}
 use Rattle.list.proofs.Changed.{altered-within}

@@ -22,7 +22,7 @@ use Rattle.file.specs.Checks.{Checks, Finds}
 use Rattle.file_letter.specs.Writes.{Writes}
 use Rattle.file_letter.proofs.Rooms.{written-alike}
 use Rattle.file.proofs.Rooms.{rooms-alike}
-use Rattle.file.proofs.House.{accepted-exactly, accepted-image, image-no-longer}
+use Rattle.file.proofs.answers.House.{accepted-exactly, accepted-image, image-no-longer}
 use Rattle.file_letter.specs.Tidies.{Tidies, turnedAway, handedOn}
 use Rattle.file_letter.proofs.Tidying.{tidied-fits, tidied-alike}
 use Rattle.program_feed.specs.declared.case.Case.{Case}

@@ -9,11 +9,11 @@ use Rattle.text.specs.Bytes.{ascii, isBlank, isCapital, isDigit}
 use Rattle.text.specs.Lists.{same}
 use Rattle.list.specs.Listing.{Leaf, ref, amt, dtm, txt}
 use Rattle.list.specs.WellFormed.{LeafOk}
-use Rattle.value.specs.Text.{isRef, isTxt}
+use Rattle.value.specs.types.Text.{isRef, isTxt}
 use Rattle.value.specs.mirror.Texts.{textFrom}
 use Rattle.value.specs.mirror.Reading.{readOf, signedOf, pointOf, wholeOf, fracOf, answer}
 use Rattle.value.specs.Value.{Value, text, amount, moment, Spelt}
-use Rattle.value.specs.Spell.{frontOff, backOff, passesFrom, fractionOf, zoneOf, momentOf, spell}
+use Rattle.value.specs.decided.Spell.{frontOff, backOff, passesFrom, fractionOf, zoneOf, momentOf, spell}
 use Rattle.value.proofs.types.Spell.{spell-sound, spell-complete}
 
 -- a type, characters, and the value that they spell

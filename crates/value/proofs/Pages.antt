@@ -11,7 +11,7 @@ use native.Mathlib.Decide.{decLt, ℕ-discrete}
 use lib.ListN.{length, List·getD-eq-default}
 use borrow.Author.Tests.{le-ltb, lt-ltb, ne-eqb}
 use Rattle.text.proofs.Classes.{every, passes, and-is, no as none}
-use Rattle.value.specs.Text.{isTxt, isRef}
+use Rattle.value.specs.types.Text.{isTxt, isRef}
 use Rattle.value.specs.mirror.Texts.{isAsciiTxt, quietTxt, quietRef}
 use Rattle.value.specs.mirror.Pages.{bitOf, wordIn, words, wordOf, looked, quietWords, refWords, lookedIn}
 use Rattle.value.proofs.classes.Named.{writing, reference}

@@ -6,11 +6,11 @@ use Prim.Native.Nat.{ℕ, _+_, _-_, _/_, _%_, _≤_, _<_}
 use native.Mathlib.Omega.{arith}
 use native.Mathlib.Decide.{decLt}
 use Rattle.list.specs.Listing.{Leaf, ref, iban, ccy, bool, num, amt, date, dtm, txt, enum}
-use Rattle.value.specs.Day.{Real, dayText, nextDay}
-use Rattle.value.specs.Former.{DateRule, former, present, noFraction, decimals, fractionText, Zone, ahead, behind, ZoneOk, zoneText, offset, ordinary, midnight}
-use Rattle.value.specs.Moment.{clockText, Parts}
+use Rattle.value.specs.types.Day.{Real, dayText, nextDay}
+use Rattle.value.specs.parts.Former.{DateRule, former, present, noFraction, decimals, fractionText, Zone, ahead, behind, ZoneOk, zoneText, offset, ordinary, midnight}
+use Rattle.value.specs.types.Moment.{clockText, Parts}
 use Rattle.value.specs.Value.{Value, moment, IsValue, Spelt}
-use Rattle.value.specs.Form.{Form}
+use Rattle.value.specs.parts.Form.{Form}
 use Rattle.value.specs.Rules.{Timeless, FormBy, SpeltBy, InThousandths}
 use Rattle.value.proofs.dates.Dates.{few, moment-parts}
 use Rattle.value.proofs.dates.Spell.{read-day}

@@ -8,10 +8,10 @@ use lib.ListN.{length}
 use Rattle.text_characters.specs.Utf8.{encodeAll}
 use Rattle.text_characters.specs.Pieces.{Spells}
 use Rattle.list.specs.Listing.{Leaf}
-use Rattle.value.specs.Code.{Ccy}
+use Rattle.value.specs.types.Code.{Ccy}
 use Rattle.value.specs.Kind.{code, Given}
 use Rattle.value.specs.Value.{Value, text, truth, natural, amount, day, moment, Spelt}
-use Rattle.value.specs.Form.{Form}
+use Rattle.value.specs.parts.Form.{Form}
 use Rattle.value.specs.declared.judged.Judged.{Judged}
 use Rattle.value.specs.declared.judged.Moment as M
 use Rattle.value.specs.declared.judged.Judged.the-variants.{Refused, Text, Truth, Natural, Amount, Day, Moment}

@@ -3,9 +3,9 @@ use mathlib.Core.Path.{_≡_}
 use mathlib.Core.List.{List}
 use Prim.Native.Nat.{ℕ, _%_}
 use Rattle.list.specs.Listing.{Leaf, ref, iban, ccy, bool, num, amt, date, dtm, txt, enum}
-use Rattle.value.specs.Former.{DateRule, MomentBy}
+use Rattle.value.specs.parts.Former.{DateRule, MomentBy}
 use Rattle.value.specs.Value.{Value, text, place, truth, natural, amount, day, moment}
-use Rattle.value.specs.Form.{Form, Left}
+use Rattle.value.specs.parts.Form.{Form, Left}
 
 -- the types with one rule
 abbrev pub Timeless : Leaf → Type 0

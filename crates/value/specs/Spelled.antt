@@ -3,7 +3,7 @@ use mathlib.Core.Logic.{_⊎_}
 use mathlib.Core.List.{List}
 use Prim.Native.Nat.{ℕ}
 use Rattle.list.specs.Listing.{Leaf}
-use Rattle.value.specs.Former.{DateRule, former, present}
+use Rattle.value.specs.parts.Former.{DateRule, former, present}
 use Rattle.value.specs.Value.{Value}
 use Rattle.value.specs.Rules.{SpeltBy}
 

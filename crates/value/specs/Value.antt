@@ -7,12 +7,12 @@ use lib.ListN.{length, getD}
 use Rattle.text.specs.Numbers.{bigEndian}
 use Rattle.text_characters.specs.Utf8.{encodeAll}
 use Rattle.list.specs.Listing.{Leaf, ref, iban, ccy, bool, num, amt, date, dtm, txt, enum}
-use Rattle.value.specs.Text.{isTxt, Chars, Ref}
-use Rattle.value.specs.Code.{Iban, Ccy, wordsOf}
-use Rattle.value.specs.Plain.{Trimmed, SaysTruth, Num}
-use Rattle.value.specs.Amount.{Bounded, Amount}
-use Rattle.value.specs.Day.{Real, dayText}
-use Rattle.value.specs.Moment.{Parts, MomentText}
+use Rattle.value.specs.types.Text.{isTxt, Chars, Ref}
+use Rattle.value.specs.types.Code.{Iban, Ccy, wordsOf}
+use Rattle.value.specs.types.Plain.{Trimmed, SaysTruth, Num}
+use Rattle.value.specs.types.Amount.{Bounded, Amount}
+use Rattle.value.specs.types.Day.{Real, dayText}
+use Rattle.value.specs.types.Moment.{Parts, MomentText}
 
 -- "texts by characters, the rest by value, an amount's currency being part of its value"; "DTM's value is its written parts"
 pub data Value : Type 0 where

@@ -2,7 +2,7 @@
 use mathlib.Core.Path.{_≡_, sym, _∙_}
 use mathlib.Core.List.{List}
 use Prim.Native.Nat.{ℕ}
-use Rattle.value.specs.Wrote.{Wrote, AmountPut, rich, poor}
+use Rattle.value.specs.given.Wrote.{Wrote, AmountPut, rich, poor}
 
 wrote-one : (d : List ℕ) (at : ℕ) (bs : List ℕ) (r r′ : ℕ) (x y : List ℕ) → Wrote d at bs r x → Wrote d at bs r′ y → (r ≡ r′) × (x ≡ y)
 wrote-one d at bs r r′ x y w v = (w .count ∙ sym (v .count), w .is ∙ sym (v .is))

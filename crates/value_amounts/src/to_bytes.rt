@@ -7,7 +7,7 @@ use value_shared::blanks::part_of;
 use value_shared::place::has_room;
 use value_shared::place::place;
 ghost use lib.Seq.{slice};
-ghost use Rattle.value.specs.Wrote.{AmountPut};
+ghost use Rattle.value.specs.given.Wrote.{AmountPut};
 
 // The currency is s from c up to d; nothing is written where it is none.
 pub fn write_amount(

@@ -3,7 +3,7 @@
 use text::class::is_capital;
 use text::class::is_digit;
 ghost use mathlib.Core.Path.{_≡_};
-ghost use Rattle.value.specs.Code.{isLetterOrDigit, Iban};
+ghost use Rattle.value.specs.types.Code.{isLetterOrDigit, Iban};
 ghost use Rattle.value.specs.mirror.Layout.{ibanAt};
 ghost use Rattle.value.specs.Judged.{Exactly};
 

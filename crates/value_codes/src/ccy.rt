@@ -1,7 +1,7 @@
 // Three capitals: CCY, and the currency of an amount.
 
 use text::class::is_capital;
-ghost use Rattle.value.specs.Code.{Ccy};
+ghost use Rattle.value.specs.types.Code.{Ccy};
 ghost use Rattle.value.specs.Judged.{Exactly};
 
 pub fn is_ccy(t: &[u8]) -> bool

@@ -3,7 +3,7 @@
 use text::class::is_digit;
 use value::judged::Judged;
 ghost use mathlib.Core.Path.{_≡_};
-ghost use Rattle.value.specs.Day.{monthDays, Real};
+ghost use Rattle.value.specs.types.Day.{monthDays, Real};
 ghost use lib.ListN.{drop};
 ghost use Rattle.value.specs.mirror.Digits.{Two, Mark, DayAt, NextAt};
 ghost use Rattle.list.specs.Listing.{date};

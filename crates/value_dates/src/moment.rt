@@ -13,7 +13,7 @@ ghost use lib.ListN.{drop};
 ghost use Rattle.list.specs.Listing.{dtm};
 ghost use Prim.Native.Nat.{_≤_};
 ghost use Rattle.value.specs.mirror.Digits.{One, FractionAt, ZoneAt, ClockAt, MidnightAt};
-ghost use Rattle.value.specs.Day.{Real};
+ghost use Rattle.value.specs.types.Day.{Real};
 ghost use Rattle.value.specs.Judged.{FormedAny};
 
 // A fraction of a second in microseconds, and the place after it.

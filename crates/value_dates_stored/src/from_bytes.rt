@@ -5,7 +5,7 @@ use text_bytes::number::get32;
 use value_dates::day::month_days;
 use value_shared::place::byte;
 ghost use mathlib.Core.Path.{_≡_};
-ghost use Rattle.value.specs.Day.{isReal};
+ghost use Rattle.value.specs.types.Day.{isReal};
 ghost use Rattle.value.specs.mirror.Judges.{isDay, isMoment};
 
 fn is_real(y: u16, m: u8, d: u8) -> bool

@@ -7,7 +7,7 @@ use value_shared::place::has_room;
 use value_shared::place::place;
 ghost use Prim.Native.Nat.{_+_, _≤_};
 ghost use Rattle.value.specs.Value.{bytes, day};
-ghost use Rattle.value.specs.Wrote.{Wrote};
+ghost use Rattle.value.specs.given.Wrote.{Wrote};
 ghost use mathlib.Core.Path.{_≡_};
 ghost use mathlib.Core.List.{[], _∷_};
 ghost use lib.ListN.{length};

@@ -10,7 +10,7 @@ use value_dates_stored::to_bytes::write_moment;
 use value_numbers::to_bytes::write_natural;
 use value_numbers::to_bytes::write_truth;
 ghost use lib.Seq.{slice};
-ghost use Rattle.value.specs.Giving.{Sized, Written};
+ghost use Rattle.value.specs.given.Giving.{Sized, Written};
 
 // How many bytes the value has that s spells from a up to b; 0 where it spells none. An amount has as many whatever its currency.
 pub fn size(kind: u8, k: usize, s: &[u8], a: usize, b: usize) -> usize

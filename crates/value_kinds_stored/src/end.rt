@@ -15,7 +15,7 @@ ghost use mathlib.Core.Path.{_≡_};
 ghost use Prim.Native.Nat.{_≤_, _+_};
 ghost use lib.ListN.{length, drop};
 ghost use Rattle.value.specs.mirror.Ends.{Spans, valueEnd};
-ghost use Rattle.value.specs.Stands.{EndsBy};
+ghost use Rattle.value.specs.given.Stands.{EndsBy};
 
 fn wide(x: u16) -> usize
     ensures { λ r. ⌜ (r ≡ x) × (r ≤ 65535) ⌝ }

@@ -5,7 +5,7 @@ use value_shared::place::place;
 ghost use mathlib.Core.Path.{_≡_};
 ghost use mathlib.Core.List.{[], _∷_};
 ghost use Rattle.value.specs.Value.{bytes, truth, natural};
-ghost use Rattle.value.specs.Wrote.{Wrote};
+ghost use Rattle.value.specs.given.Wrote.{Wrote};
 
 fn truth_byte(yes: bool) -> u8
     ensures { λ r. ⌜ (r ∷ []) ≡ bytes (truth yes) ⌝ }

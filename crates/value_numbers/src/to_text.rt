@@ -7,7 +7,7 @@ ghost use mathlib.Core.Path.{_≡_};
 ghost use Prim.Native.Nat.{_≤_};
 ghost use lib.ListN.{length, getD};
 ghost use Rattle.text.specs.Pasting.{pasted};
-ghost use Rattle.list.specs.Table.{wordsIn};
+ghost use Rattle.list.specs.tables.Table.{wordsIn};
 ghost use Rattle.value.specs.mirror.Stored.{wordRaw};
 ghost use mathlib.Core.Bool.{not};
 ghost use lib.Dec.{eqb};

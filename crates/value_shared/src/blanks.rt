@@ -6,7 +6,7 @@ ghost use mathlib.Core.Path.{_≡_};
 ghost use Prim.Native.Nat.{_-_, _<_, _≤_};
 ghost use lib.Seq.{slice};
 ghost use lib.ListN.{length};
-ghost use Rattle.value.specs.Trim.{InkEnd, Trim};
+ghost use Rattle.value.specs.decided.Trim.{InkEnd, Trim};
 
 // The part of s from a up to b, as far as s reaches.
 pub fn part_of(s: &[u8], a: usize, b: usize) -> &[u8]

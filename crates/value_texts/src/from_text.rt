@@ -6,7 +6,7 @@ use value::judged::Judged;
 ghost use Prim.Native.Nat.{_+_, _%_};
 ghost use mathlib.Core.Path.{_≡_};
 ghost use Rattle.value.specs.mirror.Pages.{bitOf, wordIn, words, wordOf, refWords, quietWords};
-ghost use Rattle.value.specs.Text.{isTxt, isRef};
+ghost use Rattle.value.specs.types.Text.{isTxt, isRef};
 ghost use Rattle.value.specs.mirror.Tests.{notSpace};
 ghost use mathlib.Core.Bool.{_&&_, not, _||_, cond};
 ghost use lib.Dec.{eqb};

@@ -5,7 +5,7 @@ use text_bytes::number::get16;
 use value_shared::blanks::part_of;
 ghost use mathlib.Core.Path.{_≡_};
 ghost use mathlib.Core.Bool.{true};
-ghost use Rattle.value.specs.Raw.{isPlain, escape, escaped, isMarked};
+ghost use Rattle.value.specs.script.Raw.{isPlain, escape, escaped, isMarked};
 ghost use Prim.Native.Nat.{_+_, _≤_};
 ghost use lib.ListN.{drop, length};
 ghost use Rattle.text.specs.Lists.{span};

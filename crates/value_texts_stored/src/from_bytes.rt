@@ -8,7 +8,7 @@ use value_texts::from_text::is_txt;
 ghost use mathlib.Core.Path.{_≡_};
 ghost use mathlib.Core.Bool.{true, _&&_, not};
 ghost use lib.Dec.{eqb};
-ghost use Rattle.value.specs.Text.{isRef};
+ghost use Rattle.value.specs.types.Text.{isRef};
 ghost use Rattle.value.specs.mirror.Tests.{notSpace};
 ghost use Prim.Native.Nat.{_+_};
 ghost use Rattle.value.specs.mirror.Tests.{some, every, apart};

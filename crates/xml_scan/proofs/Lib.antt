@@ -9,14 +9,6 @@ pub mod Passed
 pub mod Classes
 -- text between tags
 pub mod Text
--- attributes
-pub mod Attributes
--- names as places in the text
-pub mod Names
--- a name as the automaton reads it
-pub mod Grown
--- an attribute's name, which may hold a colon
-pub mod FullNames
 -- start tags after their name
 pub mod Tags
 -- elements within elements
@@ -25,3 +17,5 @@ pub mod Nesting
 pub mod Before
 -- the scanner's answer, and that no other fits
 pub mod Answers
+-- names, of elements and of attributes
+pub mod names

@@ -27,8 +27,8 @@ use Rattle.xml_scan.specs.declared.elements.Step.the-variants.{On, Stopp
 use Rattle.xml_scan.proofs.Classes.{above-name}
 use Rattle.xml_scan.proofs.Fate.{fate-end, fate-dead, fate-byte, fate-alike, run-within, run-behind, run-over}
 use Rattle.xml_scan.proofs.Passed.{Literal, Spelled, word-spelled}
-use Rattle.xml_scan.proofs.Names.{names-top, names-push, held-push, held-pop}
-use Rattle.xml_scan.proofs.Grown.{grown-first, grown-run}
+use Rattle.xml_scan.proofs.names.Names.{names-top, names-push, held-push, held-pop}
+use Rattle.xml_scan.proofs.names.Grown.{grown-first, grown-run}
 
 -- ---- the automaton at a byte of a tag
 

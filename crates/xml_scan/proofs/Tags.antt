@@ -22,7 +22,7 @@ use Rattle.xml_pieces.specs.declared.Went.the-variants.{On, Stopped}
 use Rattle.xml_scan.specs.declared.tag.Tag.{Tag}
 use Rattle.xml_scan.specs.declared.tag.Tag.the-variants.{Open, Empty, Stopped as Halted}
 use Rattle.xml_scan.proofs.Fate.{fate-end, fate-dead, fate-byte, fate-alike, run-within, run-behind, run-over, run-first}
-use Rattle.xml_scan.proofs.Names.{names-push, held-push, held-none}
+use Rattle.xml_scan.proofs.names.Names.{names-push, held-push, held-none}
 
 -- a byte that begins a name is no other
 start-other : (y x : ℕ) → isNameStart y ≡ false → isNameStart x ≡ true → x ≢ y

@@ -3,7 +3,7 @@ use borrow.Author.Needs.{needs}
 use Rattle.file_measure.proofs.measured.Statement.{statement}
 use Rattle.file_measure.proofs.measured.Tie as tie
 use native.Mathlib.Omega.{arith}
-use Rattle.file.proofs.Early.{all-utf8}
+use Rattle.file.proofs.answers.Early.{all-utf8}
 use Rattle.file_measure.proofs.Finds.{tells-long, tells-bytes, tells-markup, is-whole}
 
 too-long-requires : tie.Need-too-long-requires

@@ -13,8 +13,8 @@ use Rattle.answer.specs.Table as table
 use Rattle.text_characters.specs.Pieces.{Piece, spell, spells, resolvedAll}
 use Rattle.text_characters.proofs.Resolving.{piece-some}
 use Rattle.list.specs.Listing.{Kind, group, choice, leaf, Listing, Child, child, isGroup}
-use Rattle.list.specs.Table.{cell, listOf}
-use Rattle.list.specs.Sound.{Sound}
+use Rattle.list.specs.tables.Table.{cell, listOf}
+use Rattle.list.specs.tables.Sound.{Sound}
 use Rattle.list.specs.mirror.Lookup.{childAlong}
 use Rattle.list.proofs.rows.Along.{child-along}
 use Rattle.list.proofs.rows.Child.{child-found}
@@ -32,7 +32,7 @@ use Rattle.file_walk.specs.declared.found.Found.the-variants.{Fine, Viol
 use Rattle.file_walk.specs.Types.{Judge}
 use Rattle.file_walk.specs.First.{refuse, orElse, isEmpty, currencyGiven, kindOf}
 use Rattle.file_walk.specs.mirror.Machine.{Speller, verdictOf, judgeOf, at, pop, openTest, closeTest, run}
-use Rattle.list.specs.Numbers.{isGroupIn}
+use Rattle.list.specs.tables.Numbers.{isGroupIn}
 use Rattle.file_walk.specs.mirror.Tables.{openingIn, groupEndIn}
 use Rattle.file_walk.specs.mirror.Stride.{inkBefore, endIn, rowIn, ownIn}
 use Rattle.file_walk.proofs.violation.Answers.{or-right, or-assoc}

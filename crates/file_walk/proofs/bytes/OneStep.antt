@@ -15,8 +15,8 @@ use Rattle.answer.specs.declared.Answer.{Answer}
 use Rattle.answer.specs.Table as table
 use Rattle.text_characters.specs.Pieces.{Piece, resolvedAll}
 use Rattle.list.specs.Listing.{amt, Kind, group, choice, leaf, Listing, Child, child, isGroup}
-use Rattle.list.specs.Table.{cell, listOf}
-use Rattle.list.specs.Sound.{Sound, level}
+use Rattle.list.specs.tables.Table.{cell, listOf}
+use Rattle.list.specs.tables.Sound.{Sound, level}
 use Rattle.list.proofs.rows.Child.{child-found}
 use Rattle.list.proofs.rows.Levels.{level-root, level-child, level-bound}
 use Rattle.list.proofs.rows.Rows.{size-is}
@@ -35,7 +35,7 @@ use Rattle.file_walk.specs.declared.step.Turn.{Turn}
 use Rattle.file_walk.specs.declared.step.Met.the-variants.{Opened, Closed}
 use Rattle.file_walk.specs.First.{refuse, orElse, firstOf, currencyGiven, attrsOk, kindOf}
 use Rattle.file_walk.specs.mirror.Machine.{Speller, verdictOf, judgeOf, State, at, pop, fresh, advance, closeTest, run, opens, closes, emits}
-use Rattle.list.specs.Numbers.{isGroupIn}
+use Rattle.list.specs.tables.Numbers.{isGroupIn}
 use Rattle.value.specs.mirror.Judges.{isCurrency}
 use Rattle.file_walk.specs.mirror.Tables.{freshIn, advanceIn, passedIn, againIn, openingIn, levelAt, pushed, levels}
 use Rattle.file_walk.specs.mirror.Stride.{ownIn, inkBefore, endIn, rowIn, refusedAt, closedIn, enteredIn, belowIn, vacantIn, stepIn, stackIn}

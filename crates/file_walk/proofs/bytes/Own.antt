@@ -14,10 +14,10 @@ use Rattle.text_characters.specs.Pieces.{Spells}
 use Rattle.text.proofs.Classes.{and-is, capital, is-in, yes}
 use Rattle.text_characters.proofs.Unmarked.{unmarked, unmarked-is, unmarked-same}
 use Rattle.list.specs.Listing.{ccy, rowAt}
-use Rattle.list.specs.Table.{cell, kindOf, wordsIn, listOf}
+use Rattle.list.specs.tables.Table.{cell, kindOf, wordsIn, listOf}
 use Rattle.list.proofs.rows.Rows.{kind-is}
 use Rattle.value.specs.mirror.Judges.{isCurrency}
-use Rattle.value.proofs.stored.Codes.{currency-exactly}
+use Rattle.value.proofs.stored.texts.Codes.{currency-exactly}
 use Rattle.xml.specs.Message.{Attrs}
 use Rattle.xml_tags.specs.declared.attribute.Attribute.{Attribute}
 use Rattle.xml_tags.specs.declared.token.Token.{Token}

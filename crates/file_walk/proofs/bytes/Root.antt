@@ -14,8 +14,8 @@ use Rattle.text.specs.Lists.{same}
 use Rattle.text_characters.specs.Pieces.{Piece, spell}
 use Rattle.list.specs.Listing.{Listing, isGroup}
 use Rattle.list.specs.WellFormed.{WellFormed}
-use Rattle.list.specs.Table.{cell, listOf}
-use Rattle.list.specs.Sound.{Sound}
+use Rattle.list.specs.tables.Table.{cell, listOf}
+use Rattle.list.specs.tables.Sound.{Sound}
 use Rattle.list.proofs.rows.Rows.{size-is, name-is}
 use Rattle.list.proofs.sound.Tests.{byCases}
 use Rattle.xml.specs.House.{Markup, noMore, piece, emptyTag, full, render, OneElement, declaration, Tree, whole as text, GoodTree}

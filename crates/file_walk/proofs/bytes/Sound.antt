@@ -9,9 +9,9 @@ use lib.Dec.{eqb, ltb}
 use borrow.Author.Tests.{eq-eqb}
 use Rattle.answer.specs.Table as table
 use Rattle.list.specs.Listing.{Kind, group, choice, leaf, Listing, size, rowAt, Child, isGroup, isChoice, atMostOnce}
-use Rattle.list.specs.Table.{cell, wordsIn, listOf}
-use Rattle.list.specs.Sound.{Sound}
-use Rattle.list.specs.Sound.{firstOf as mate, secondOf as pair}
+use Rattle.list.specs.tables.Table.{cell, wordsIn, listOf}
+use Rattle.list.specs.tables.Sound.{Sound}
+use Rattle.list.specs.tables.Sound.{firstOf as mate, secondOf as pair}
 use Rattle.list.proofs.rows.Along.{due-after}
 use Rattle.list.proofs.rows.Codes.{single-is, choice-is, group-is}
 use Rattle.list.proofs.rows.Rows.{size-is, kind-is, count-is}
@@ -20,7 +20,7 @@ use Rattle.file_walk.specs.declared.level.Level.{Level}
 use Rattle.file_walk.specs.First.{refuse, firstOf, attrsOk}
 use Rattle.file_walk.specs.First.{kindOf as kindIn}
 use Rattle.file_walk.specs.mirror.Machine.{Speller, judgeOf, misses, fresh, advance, again, openTest, groupTest}
-use Rattle.list.specs.Numbers.{isGroupIn}
+use Rattle.list.specs.tables.Numbers.{isGroupIn}
 use Rattle.file_walk.specs.mirror.Tables.{freshIn, advanceIn, passedIn, againIn, openingIn, brokenIn, groupEndIn}
 
 module _ (t pool : List ℕ) (s : Sound t pool) where

@@ -9,8 +9,8 @@ use lib.Seq.{slice}
 use Rattle.answer.specs.declared.Answer.{Answer}
 use Rattle.text_characters.specs.Pieces.{Spells}
 use Rattle.list.specs.Listing.{amt, leaf, Listing, Child}
-use Rattle.list.specs.Table.{listOf}
-use Rattle.list.specs.Sound.{Sound}
+use Rattle.list.specs.tables.Table.{listOf}
+use Rattle.list.specs.tables.Sound.{Sound}
 use Rattle.xml.specs.House.{Tree}
 use Rattle.xml.specs.Message.{Attrs, messageOf}
 use Rattle.xml_tags.specs.Story.{Event, char, enter, leave, events, Tells}

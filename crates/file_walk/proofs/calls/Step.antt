@@ -13,13 +13,13 @@ use Rattle.answer.specs.declared.Answer.{Answer}
 use Rattle.answer.specs.Table as table
 use Rattle.text.specs.Bytes.{ascii, isBlank}
 use Rattle.text.specs.Lists.{span}
-use Rattle.list.specs.Table.{cell}
+use Rattle.list.specs.tables.Table.{cell}
 use Rattle.list.specs.mirror.Lookup.{childAlong}
-use Rattle.value.specs.Code.{Ccy}
+use Rattle.value.specs.types.Code.{Ccy}
 use Rattle.value.specs.Judged.{Exactly}
 use Rattle.value.specs.mirror.Judges.{isCurrency}
 use Rattle.value.proofs.types.Ones.{exactly-one}
-use Rattle.value.proofs.stored.Codes.{currency-exactly}
+use Rattle.value.proofs.stored.texts.Codes.{currency-exactly}
 use Rattle.xml_tags.specs.declared.attribute.Attribute.{Attribute}
 use Rattle.xml_tags.specs.declared.token.Kind.{Kind}
 use Rattle.xml_tags.specs.declared.token.Kind.the-variants.{Open, Empty, Close, End}
@@ -34,7 +34,7 @@ use Rattle.file_walk.specs.declared.found.Found.the-variants.{Fine, Viol
 use Rattle.file_walk.specs.declared.step.Here.{Here}
 use Rattle.file_walk.specs.declared.step.Turn.{Turn}
 use Rattle.file_walk.specs.declared.step.Met.the-variants.{Opened, Closed}
-use Rattle.list.specs.Numbers.{isGroupIn}
+use Rattle.list.specs.tables.Numbers.{isGroupIn}
 use Rattle.file_walk.specs.mirror.Tables.{freshIn, advanceIn, openingIn, groupEndIn, pushed}
 use Rattle.file_walk.specs.mirror.Stride.{named, ownIn, inkBefore, textFrom, inkFrom, endIn, refusedAt, lostAt, outer, closedBy, closedIn, rowIn, enteredBy, enteredIn, belowBy, belowIn, vacantBy, vacantIn, inner, numberOf, metIn, leftIn, inkAhead, stepBy, stackBy, stepIn, stackIn}
 

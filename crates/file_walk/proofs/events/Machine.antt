@@ -14,7 +14,7 @@ use Rattle.text.specs.Lists.{Each}
 use Rattle.list.specs.Words.{times, has}
 use Rattle.list.specs.Listing.{Leaf, Kind, group, choice, leaf, Rule, both, Listing, rowAt, size, Child, child, isGroup, isChoice, atMostOnce, required}
 use Rattle.list.specs.WellFormed.{WellFormed}
-use Rattle.list.specs.Sound.{firstOf as mate, secondOf as pair}
+use Rattle.list.specs.tables.Sound.{firstOf as mate, secondOf as pair}
 use Rattle.list.proofs.rows.Words.{firstFrom-ext, times-hit, times-miss, has-of, each-at, each-of}
 use Rattle.xml.specs.Message.{Attrs, Inside, nothingInside, character, element}
 use Rattle.xml_tags.specs.Story.{Event, char as text, leave, events}

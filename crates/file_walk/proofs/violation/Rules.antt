@@ -12,7 +12,7 @@ use Rattle.text.specs.Lists.{Each}
 use Rattle.list.specs.Words.{times, has}
 use Rattle.list.specs.Listing.{Rule, both, Listing, Child}
 use Rattle.list.specs.WellFormed.{BothOk, RuleOk, WellFormed}
-use Rattle.list.specs.Sound.{firstOf as mate, secondOf as pair}
+use Rattle.list.specs.tables.Sound.{firstOf as mate, secondOf as pair}
 use Rattle.text.proofs.Classes.{and-is, or-is}
 use Rattle.list.proofs.rows.Rules.{Among, each-among}
 use Rattle.list.proofs.rows.Words.{times-hit, times-miss, each-at}

@@ -8,7 +8,7 @@ use lib.Seq.{slice}
 use Rattle.answer.specs.Table as table
 use Rattle.text.specs.Bytes.{ascii}
 use Rattle.text.specs.Lists.{same}
-use Rattle.list.specs.Table.{nameIn, listOf}
+use Rattle.list.specs.tables.Table.{nameIn, listOf}
 use Rattle.xml_tags.specs.declared.attribute.Attribute.{Attribute}
 use Rattle.xml_tags.specs.declared.token.Kind.{Kind}
 use Rattle.xml_tags.specs.declared.token.Kind.the-variants.{Open, Empty, Close, End}

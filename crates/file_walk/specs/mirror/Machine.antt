@@ -10,7 +10,7 @@ use Rattle.text.specs.Bytes.{ascii, isBlank}
 use Rattle.text.specs.Lists.{same}
 use Rattle.list.specs.Listing.{Leaf, ref, iban, ccy, bool, num, amt, date, dtm, txt, enum, Kind, group, choice, leaf, Listing, rowAt, child, isGroup, isChoice, atMostOnce, nextDue}
 use Rattle.list.specs.WellFormed.{LeafOk}
-use Rattle.list.specs.Sound.{firstOf as mate, secondOf as pair}
+use Rattle.list.specs.tables.Sound.{firstOf as mate, secondOf as pair}
 use Rattle.xml.specs.Message.{Attrs, Inside}
 use Rattle.xml_tags.specs.Story.{Event, char as text, enter, leave, events}
 use Rattle.file_walk.specs.declared.level.Level.{Level}

@@ -9,7 +9,7 @@ use Rattle.answer.specs.declared.Answer.{Answer}
 use Rattle.answer.specs.Table as table
 use Rattle.text.specs.Bytes.{ascii, isBlank}
 use Rattle.text.specs.Lists.{same, span}
-use Rattle.list.specs.Table.{cell}
+use Rattle.list.specs.tables.Table.{cell}
 use Rattle.value.specs.mirror.Judges.{isCurrency}
 use Rattle.list.specs.mirror.Lookup.{childAlong}
 use Rattle.xml_tags.specs.declared.attribute.Attribute.{Attribute}
@@ -25,7 +25,7 @@ use Rattle.file_walk.specs.declared.step.Here.{Here}
 use Rattle.file_walk.specs.declared.step.Turn.{Turn}
 use Rattle.file_walk.specs.declared.step.Met.the-variants.{Opened, Closed, Refused, Lost}
 use Rattle.file_walk.specs.First.{refuse}
-use Rattle.list.specs.Numbers.{isGroupIn}
+use Rattle.list.specs.tables.Numbers.{isGroupIn}
 use Rattle.file_walk.specs.mirror.Tables.{freshIn, advanceIn, openingIn, groupEndIn, levelAt, pushed}
 
 -- ---- attributes

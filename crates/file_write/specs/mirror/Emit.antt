@@ -11,10 +11,10 @@ use Rattle.text.specs.Bytes.{ascii}
 use Rattle.text.specs.Puts.{Puts}
 use Rattle.list.specs.Listing.{Leaf, leaf}
 use Rattle.list.specs.WellFormed.{LeafOk}
-use Rattle.list.specs.Table.{cell, kindOf, wordsIn, listOf}
-use Rattle.list.specs.Sound.{Sound}
+use Rattle.list.specs.tables.Table.{cell, kindOf, wordsIn, listOf}
+use Rattle.list.specs.tables.Sound.{Sound}
 use Rattle.value.specs.Value.{Value, text, place, truth, natural, amount, day, moment, IsValue, bytes}
-use Rattle.value.specs.Script.{scriptOf}
+use Rattle.value.specs.script.Script.{scriptOf}
 use Rattle.xml.specs.House.{render}
 use Rattle.image.specs.Kinds.{values}
 use Rattle.image.specs.Place.{Holds}

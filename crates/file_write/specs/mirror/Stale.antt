@@ -10,8 +10,8 @@ use Rattle.answer.specs.Table.{limit}
 use Rattle.text.specs.Lists.{Each}
 use Rattle.text.specs.Numbers.{number}
 use Rattle.list.specs.Listing.{Listing, size}
-use Rattle.list.specs.Table.{listOf}
-use Rattle.list.specs.Sound.{Sound}
+use Rattle.list.specs.tables.Table.{listOf}
+use Rattle.list.specs.tables.Sound.{Sound}
 use Rattle.image.specs.Image.{Item, itemsBytes}
 use Rattle.image.specs.Kinds.{values}
 use Rattle.image.specs.mirror.Follow.{ItemOk}

@@ -5,8 +5,8 @@ use lib.ListN.{length}
 use lib.Seq.{slice}
 use Rattle.text.specs.Bytes.{ascii}
 use Rattle.list.specs.Listing.{size}
-use Rattle.list.specs.Table.{cell, nameIn, listOf}
-use Rattle.list.specs.Sound.{Sound}
+use Rattle.list.specs.tables.Table.{cell, nameIn, listOf}
+use Rattle.list.specs.tables.Sound.{Sound}
 
 module _ (t pool : List ℕ) where
   -- `<` and its name, the opening tag without attributes, the closing tag

@@ -4,7 +4,7 @@ use mathlib.Core.Bool.{Bool, true, false, cond}
 use mathlib.Core.List.{List}
 use Prim.Native.Nat.{ℕ, _≤_, _<_}
 use native.Mathlib.Omega.{arith}
-use Rattle.list.specs.Table.{cell}
+use Rattle.list.specs.tables.Table.{cell}
 use Rattle.value.specs.mirror.Ends.{valueEnd}
 use Rattle.value.proofs.stored.Meaning.{end-is}
 use Rattle.image.specs.mirror.Step.{isLeaf}

@@ -13,8 +13,8 @@ use Rattle.answer.specs.Table.{picked, noSuchLeaf}
 use Rattle.text.specs.Bytes.{inRange}
 use Rattle.text.proofs.Classes.{and-is, in-range-is}
 use Rattle.image.specs.mirror.Run.{stop, next, Comes, halts, moves, headOf, hunt, Finds, groups, leaves, Answered, missing, found}
-use Rattle.list.specs.Table.{cell}
-use Rattle.list.specs.Numbers.{isGroupIn}
+use Rattle.list.specs.tables.Table.{cell}
+use Rattle.list.specs.tables.Numbers.{isGroupIn}
 use Rattle.list.proofs.rows.Codes.{numbered-is}
 use Rattle.value.specs.mirror.Ends.{width, begins, valueEnd}
 use Rattle.value.proofs.stored.Numbered.{by-kind}

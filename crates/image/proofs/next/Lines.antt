@@ -7,9 +7,9 @@ use native.Mathlib.Omega.{arith}
 use lib.Dec.{leb, ltb}
 use borrow.Author.Tests.{le-ltb, lt-leb}
 use Rattle.list.specs.Listing.{Kind, isGroup, isChoice}
-use Rattle.list.specs.Table.{cell, countOf, kindOf, wordsIn, listOf}
-use Rattle.list.specs.Sound.{Sound}
-use Rattle.list.specs.Numbers.{isGroupIn}
+use Rattle.list.specs.tables.Table.{cell, countOf, kindOf, wordsIn, listOf}
+use Rattle.list.specs.tables.Sound.{Sound}
+use Rattle.list.specs.tables.Numbers.{isGroupIn}
 use Rattle.list.proofs.rows.Codes.{choice-is, group-is, numbered-is}
 use Rattle.list.proofs.rows.Rows.{size-is, parent-is, count-is, kind-is}
 use Rattle.image.specs.mirror.Follow.{repeats}

@@ -9,8 +9,8 @@ use lib.Dec.{leb, ltb, eqb}
 use borrow.Author.Tests.{eq-eqb, ne-eqb, eqb-true, eqb-false, lt-ltb, ltb-true, le-ltb, le-leb, leb-true, lt-leb}
 use Rattle.text.proofs.Classes.{and-is, or-is}
 use Rattle.list.specs.Listing.{Kind, group, choice, leaf, several, Rule, both, Listing, size, rowAt, Child, isGroup, isChoice, required, nextDue, up}
-use Rattle.list.specs.Table.{cell}
-use Rattle.list.specs.Sound.{firstOf, secondOf}
+use Rattle.list.specs.tables.Table.{cell}
+use Rattle.list.specs.tables.Sound.{firstOf, secondOf}
 use Rattle.list.proofs.rows.Next.{next-due, none-due}
 use Rattle.image.specs.mirror.Follow.{repeats, parentOf, countOf, kindOf, Simple, Compound, paired, ruled, due, Clear, Fits, Shut, Climb, beside as side, out, Next, down, on, Over, top}
 use Rattle.image.specs.mirror.Step.{isLeaf, again, owed, before, mated, inOrder, beside, inside, climbs, follows, rests, ended}

@@ -2,7 +2,7 @@
 use mathlib.Core.Bool.{cond}
 use mathlib.Core.List.{List}
 use Prim.Native.Nat.{ℕ}
-use Rattle.list.specs.Table.{cell}
+use Rattle.list.specs.tables.Table.{cell}
 use Rattle.value.specs.mirror.Ends.{valueEnd}
 use Rattle.image.specs.mirror.Step.{isLeaf}
 

@@ -9,7 +9,7 @@ use lib.ListN.{length, getD}
 use lib.Seq.{slice}
 use Rattle.answer.specs.declared.Answer.{Answer}
 use Rattle.answer.specs.Table.{accepted, picked, brokenImage, noSuchLeaf}
-use Rattle.list.specs.Table.{cell}
+use Rattle.list.specs.tables.Table.{cell}
 use Rattle.image.specs.mirror.Step.{isLeaf, follows, ended}
 
 -- a result, or on to other numbers

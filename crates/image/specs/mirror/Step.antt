@@ -3,8 +3,8 @@ use mathlib.Core.Bool.{Bool, true, false, cond, not}
 use mathlib.Core.List.{List}
 use Prim.Native.Nat.{ℕ, zero, suc}
 use lib.Dec.{leb, ltb, eqb}
-use Rattle.list.specs.Table.{cell}
-use Rattle.list.specs.Numbers.{isGroupIn}
+use Rattle.list.specs.tables.Table.{cell}
+use Rattle.list.specs.tables.Numbers.{isGroupIn}
 
 -- a leaf's row, by the number of its kind
 unfoldable pub isLeaf : List ℕ → ℕ → Bool

@@ -4,7 +4,7 @@ use Rattle.image_order.proofs.is_leaf.Statement.{statement}
 use Rattle.image_order.proofs.is_leaf.Tie as tie
 use mathlib.Core.Path.{_∙_, ap}
 use mathlib.Core.Bool.{not}
-use Rattle.list.specs.Numbers.{isGroupIn}
+use Rattle.list.specs.tables.Numbers.{isGroupIn}
 use Rattle.image.specs.mirror.Step.{isLeaf}
 
 cell-requires : tie.Need-cell-requires

@@ -10,10 +10,10 @@ use lib.Dec.{ltb}
 use borrow.Author.Tests.{eq-eqb, ne-eqb, ltb-true, lt-ltb, le-ltb}
 use Rattle.text.specs.Lists.{same}
 use Rattle.list.specs.Listing.{Listing, rowAt, size, Child, child, nextDue}
-use Rattle.list.specs.Table.{cell, nameIn, listOf}
-use Rattle.list.specs.Sound.{nextChild, Sound}
+use Rattle.list.specs.tables.Table.{cell, nameIn, listOf}
+use Rattle.list.specs.tables.Sound.{nextChild, Sound}
 use Rattle.list.specs.mirror.Lookup.{dueAfter, along, childAlong}
-use Rattle.list.specs.Means.{DueNext, ChildCalled}
+use Rattle.list.specs.tables.Means.{DueNext, ChildCalled}
 use Rattle.list.proofs.sound.Tests.{byCases, clash}
 use Rattle.list.proofs.rows.Words.{same-eq, same-of}
 use Rattle.list.proofs.rows.Rows.{size-is, name-is}

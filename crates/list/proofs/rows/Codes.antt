@@ -11,8 +11,8 @@ use borrow.Author.Tests.{le-ltb, ne-eqb, le-leb, lt-leb}
 use Rattle.text.specs.Bytes.{inRange}
 use Rattle.text.proofs.Classes.{every, passes, in-range-is, not-so}
 use Rattle.list.specs.Listing.{group, alternative, isGroup, isChoice, atMostOnce}
-use Rattle.list.specs.Table.{counts, kinds, countOf, kindOf}
-use Rattle.list.specs.Numbers.{isGroupIn}
+use Rattle.list.specs.tables.Table.{counts, kinds, countOf, kindOf}
+use Rattle.list.specs.tables.Numbers.{isGroupIn}
 
 beq-is : (a b : Bool) → Bool·beq a b ≡ true → a ≡ b
 beq-is true true e = refl

@@ -7,7 +7,7 @@ use lib.Dec.{eqb}
 use borrow.Author.Tests.{eq-eqb, ne-eqb}
 use Rattle.list.specs.Listing.{Listing, rowAt, Child, up}
 use Rattle.list.specs.WellFormed.{WellFormed}
-use Rattle.list.specs.Sound.{levelIn, level}
+use Rattle.list.specs.tables.Sound.{levelIn, level}
 
 module _ (l : Listing) where
   level-most : (k r : ℕ) → levelIn l k r ≤ k

@@ -9,7 +9,7 @@ use lib.ListN.{List·getD-eq-default}
 use borrow.Author.Tests.{eqb-true, eq-eqb}
 use Rattle.text.proofs.Classes.{and-is}
 use Rattle.list.specs.Listing.{Listing, size, noRow, rowAt, Child, required, nextDue}
-use Rattle.list.specs.Sound.{nextChild}
+use Rattle.list.specs.tables.Sound.{nextChild}
 use Rattle.list.proofs.sound.Tests.{byCases, clash}
 use Rattle.list.proofs.rows.Words.{firstFrom-none, firstFrom-some, firstFrom-is}
 

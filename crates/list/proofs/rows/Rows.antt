@@ -5,7 +5,7 @@ use Prim.Native.Nat.{ℕ, zero, suc, _+_, _≤_, _<_}
 use native.Mathlib.Omega.{arith}
 use lib.ListN.{length, getD}
 use Rattle.list.specs.Listing.{Row, size, noRow, rowAt}
-use Rattle.list.specs.Table.{cell, countOf, kindOf, nameIn, wordsIn, rowOf, rowsFrom, listOf}
+use Rattle.list.specs.tables.Table.{cell, countOf, kindOf, nameIn, wordsIn, rowOf, rowsFrom, listOf}
 
 module _ (t pool : List ℕ) where
   rows-length : (i k : ℕ) → length (rowsFrom t pool i k) ≡ k

@@ -10,8 +10,8 @@ use borrow.Author.Tests.{eqb-true, eq-eqb, ne-eqb}
 use Rattle.text.specs.Lists.{Each}
 use Rattle.list.specs.Listing.{Rule, both, Listing, rowAt, size}
 use Rattle.list.specs.WellFormed.{BothOk, RuleOk}
-use Rattle.list.specs.Table.{cell, rulesFrom, listOf}
-use Rattle.list.specs.Sound.{secondOf, Sound}
+use Rattle.list.specs.tables.Table.{cell, rulesFrom, listOf}
+use Rattle.list.specs.tables.Sound.{secondOf, Sound}
 use Rattle.list.proofs.sound.Tests.{byCases}
 
 -- the rules have `both g a b`

@@ -15,9 +15,9 @@ use Rattle.text.proofs.Classes.{and-is, or-is, or-not, in-range-is}
 use Rattle.list.specs.Words.{firstFrom}
 use Rattle.list.specs.Listing.{Leaf, ref, iban, ccy, bool, num, amt, date, dtm, txt, enum, Kind, group, choice, leaf, Count, one, optional, several, any, alternative, Rule, both, Listing, size, rowAt, Child, isGroup, up}
 use Rattle.list.specs.WellFormed.{Fresh, Different, LeafOk, KindOk, BothOk, RuleOk, WellFormed}
-use Rattle.list.specs.Table.{listOf}
-use Rattle.list.specs.Sound.{nextChild, Derived, Sound}
-use Rattle.list.specs.Test.{allOf, each, every, begins, among, wordsOk, leafOk, kindOk, isSequence, isAlternative, isOne, isOptional, countFits, isChild, rowTests, ruleTests, rulesOk, listTests, derivedTests, well, derived, sound}
+use Rattle.list.specs.tables.Table.{listOf}
+use Rattle.list.specs.tables.Sound.{nextChild, Derived, Sound}
+use Rattle.list.specs.tables.Test.{allOf, each, every, begins, among, wordsOk, leafOk, kindOk, isSequence, isAlternative, isOne, isOptional, countFits, isChild, rowTests, ruleTests, rulesOk, listTests, derivedTests, well, derived, sound}
 use Rattle.list.proofs.sound.Tests.{clash, passed}
 use Rattle.list.proofs.rows.Words.{same-eq, same-of, firstFrom-none}
 use Rattle.list.proofs.rows.Next.{next-child}

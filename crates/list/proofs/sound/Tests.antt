@@ -5,7 +5,7 @@ use mathlib.Core.List.{List, [], _∷_}
 use Prim.Native.Nat.{ℕ, zero, suc}
 use lib.ListN.{getD}
 use Rattle.text.proofs.Classes.{and-is}
-use Rattle.list.specs.Test.{allOf}
+use Rattle.list.specs.tables.Test.{allOf}
 
 -- a test is true or false
 pub byCases : {P : Type 0} (b : Bool) → (b ≡ true → P) → (b ≡ false → P) → P

@@ -8,7 +8,7 @@ use lib.ListN.{length, getD}
 use borrow.Author.Tests.{le-leb, lt-leb}
 use Rattle.text.specs.Lists.{Each, same}
 use Rattle.list.specs.WellFormed.{Different}
-use Rattle.list.specs.Table.{byteOf, placeFrom, placeIn}
+use Rattle.list.specs.tables.Table.{byteOf, placeFrom, placeIn}
 use Rattle.list.proofs.sound.Tests.{byCases}
 use Rattle.list.proofs.rows.Words.{same-eq, same-of}
 

@@ -14,7 +14,7 @@ use borrow.Author.Tests.{eq-eqb, ne-eqb}
 use Rattle.text.specs.Lists.{span, same}
 use Rattle.text.proofs.Spans.{span-le}
 use Rattle.text.proofs.Parts.{part-take}
-use Rattle.list.specs.Table.{words, wordsOf, longer, placeFrom, placeIn}
+use Rattle.list.specs.tables.Table.{words, wordsOf, longer, placeFrom, placeIn}
 use Rattle.list.specs.mirror.Lookup.{notSpace}
 use Rattle.list.proofs.sound.Tests.{byCases}
 use Rattle.list.proofs.words.Places.{place-here, place-on}

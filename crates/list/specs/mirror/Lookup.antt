@@ -4,7 +4,7 @@ use mathlib.Core.List.{List}
 use Prim.Native.Nat.{ℕ, zero, suc}
 use lib.Dec.{eqb, ltb}
 use Rattle.text.specs.Lists.{same}
-use Rattle.list.specs.Table.{cell, nameIn}
+use Rattle.list.specs.tables.Table.{cell, nameIn}
 
 -- the lowest required child of p above q, which is 0 or a child of p
 unfoldable pub dueAfter : List ℕ → ℕ → ℕ → ℕ

@@ -8,7 +8,7 @@ use native.Mathlib.Omega.{arith}
 use Rattle.text.specs.Bytes.{inRange, isBlank, isCapital, isDigit}
 use Rattle.text.specs.Lists.{Each, All}
 use Rattle.text.proofs.Classes.{from, outside, yes-in, no, is-in, digit, capital, blank}
-use Rattle.value.specs.Code.{isLetterOrDigit}
+use Rattle.value.specs.types.Code.{isLetterOrDigit}
 use Rattle.value.proofs.classes.Named.{letter-or-digit}
 
 pub in-no : (a b x : ℕ) → (a ≤ x → x ≤ b → ⊥) → inRange a b x ≡ false

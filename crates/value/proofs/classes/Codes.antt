@@ -9,7 +9,7 @@ use lib.Seq.{take-at, drop-at, drop-drop, length-take-le}
 use borrow.Author.Tests.{lt-ltb, le-ltb}
 use Rattle.text.specs.Bytes.{isCapital, isDigit}
 use Rattle.text.specs.Lists.{Each, All}
-use Rattle.value.specs.Code.{Iban, Ccy, isLetterOrDigit}
+use Rattle.value.specs.types.Code.{Iban, Ccy, isLetterOrDigit}
 use Rattle.value.specs.mirror.Layout.{ibanAt}
 use Rattle.value.specs.Judged.{Exactly}
 use Rattle.value.proofs.classes.Loops.{From}

@@ -10,7 +10,7 @@ use lib.Dec.{leb, ltb, eqb}
 use types.Run.{OneOf}
 use borrow.Author.Tests.{leb-true, ltb-true, lt-ltb, eqb-false, ne-eqb, not-true}
 use Rattle.text.proofs.Classes.{Class, only, from, _or_, Within, Named, and-is, every, passes, allOf, key-passes, is-in, not-so, no}
-use Rattle.value.specs.Text.{isTxt, isRef}
+use Rattle.value.specs.types.Text.{isTxt, isRef}
 use Rattle.value.specs.mirror.Texts.{isAsciiTxt, quietTxt, quietRef}
 use Rattle.value.proofs.classes.Named.{reference, writing}
 

@@ -2,8 +2,8 @@
 use mathlib.Core.Path.{refl}
 use Rattle.text.proofs.Classes.{Named, only, from, _or_}
 use Rattle.text.specs.Bytes.{isLetter, isDigit}
-use Rattle.value.specs.Code.{isLetterOrDigit}
-use Rattle.value.specs.Text.{isTxt, isRef}
+use Rattle.value.specs.types.Code.{isLetterOrDigit}
+use Rattle.value.specs.types.Text.{isTxt, isRef}
 
 pub letter-or-digit : Named isLetterOrDigit (from 65 90 or from 97 122 or from 48 57)
 unfolding isLetterOrDigit isLetter isDigit

@@ -20,7 +20,7 @@ use Rattle.text_characters.proofs.Chars as chars
 use Rattle.text_characters.proofs.Resolving.{next-is}
 use Rattle.text_characters.proofs.Spelling as spelling
 use Rattle.value.specs.mirror.Tests.{notSpace}
-use Rattle.value.specs.Text.{isTxt, Chars, Ref}
+use Rattle.value.specs.types.Text.{isTxt, Chars, Ref}
 use Rattle.value.specs.mirror.Texts.{classOf, textFrom, textOf}
 use Rattle.value.proofs.classes.Ink.{some-ink, ink-not, not-ink}
 

@@ -7,9 +7,9 @@ use Prim.Native.Nat.{ℕ, zero, suc, _+_, _*_, _-_, _/_, _%_, _^_, _≤_, _<_}
 use native.Mathlib.Omega.{arith}
 use lib.Dec.{leb, eqb}
 use Rattle.text.specs.Lists.{Each}
-use Rattle.value.specs.Day.{Real, pair, dayText, monthDays, leap}
-use Rattle.value.specs.Former.{DateRule, former, present, Fraction, noFraction, decimals, figures, fractionText, FractionOk, micros, Zone, zulu, ahead, behind, zoneText, Offset, ZoneOk, offset, MomentBy, ordinary, midnight}
-use Rattle.value.specs.Moment.{clockText, Parts}
+use Rattle.value.specs.types.Day.{Real, pair, dayText, monthDays, leap}
+use Rattle.value.specs.parts.Former.{DateRule, former, present, Fraction, noFraction, decimals, figures, fractionText, FractionOk, micros, Zone, zulu, ahead, behind, zoneText, Offset, ZoneOk, offset, MomentBy, ordinary, midnight}
+use Rattle.value.specs.types.Moment.{clockText, Parts}
 use Rattle.value.proofs.classes.Classes.{Solid}
 use Rattle.value.proofs.raw.Trim.{Dense}
 

@@ -17,11 +17,11 @@ use Rattle.text.proofs.Parts.{starts-is, starts-not}
 use Rattle.list.specs.Listing.{date, dtm}
 use Rattle.value.specs.declared.judged.Judged.{Judged}
 use Rattle.value.specs.declared.judged.Judged.the-variants as J
-use Rattle.value.specs.Day.{Real, pair, dayText, monthDays, nextDay}
-use Rattle.value.specs.Former.{Clock, present, Fraction, noFraction, decimals, figures, FractionOk, fractionText, Zone, zulu, ahead, behind, Offset, ZoneOk, zoneText, offset, ordinary, midnight}
-use Rattle.value.specs.Moment.{clockText}
+use Rattle.value.specs.types.Day.{Real, pair, dayText, monthDays, nextDay}
+use Rattle.value.specs.parts.Former.{Clock, present, Fraction, noFraction, decimals, figures, FractionOk, fractionText, Zone, zulu, ahead, behind, Offset, ZoneOk, zoneText, offset, ordinary, midnight}
+use Rattle.value.specs.types.Moment.{clockText}
 use Rattle.value.specs.Value.{Value}
-use Rattle.value.specs.Form.{Form}
+use Rattle.value.specs.parts.Form.{Form}
 use Rattle.value.specs.Judged.{Formed, formed, formless, FormedAny}
 use Rattle.value.specs.mirror.Digits.{One, Two, Mark, DayAt, FractionAt, NextAt, ZoneAt, ClockText, ClockAt, MidnightAt}
 use Rattle.value.proofs.classes.Classes.{digit-range, digit-yes}

@@ -11,7 +11,7 @@ use types.Run.{OneOf}
 use borrow.Author.Tests.{ne-eqb, le-leb}
 use Rattle.text.specs.Bytes.{inRange}
 use Rattle.text.proofs.Classes.{and-is, in-range, in-range-is}
-use Rattle.value.specs.Day.{Real, isReal, leap, monthDays}
+use Rattle.value.specs.types.Day.{Real, isReal, leap, monthDays}
 use Rattle.value.proofs.classes.Classes.{in-no}
 
 pub month-none : (y m : ℕ) → (1 ≤ m → m ≤ 12 → ⊥) → 0 ≡ monthDays y m

@@ -16,12 +16,12 @@ use Rattle.text.specs.Lists.{same}
 use Rattle.text.proofs.Classes.{and-is, in-range, in-range-is}
 use Rattle.text.proofs.Parts.{same-eq, same-of}
 use Rattle.list.specs.Listing.{date, dtm}
-use Rattle.value.specs.Day.{Real, isReal, dayText, nextDay}
-use Rattle.value.specs.Former.{Clock, present, Fraction, noFraction, decimals, figures, FractionOk, fractionText, micros, Zone, zulu, ahead, behind, Offset, ZoneOk, zoneText, offset, PlainText, MidnightText, MomentBy, ordinary, midnight}
-use Rattle.value.specs.Moment.{clockText}
+use Rattle.value.specs.types.Day.{Real, isReal, dayText, nextDay}
+use Rattle.value.specs.parts.Former.{Clock, present, Fraction, noFraction, decimals, figures, FractionOk, fractionText, micros, Zone, zulu, ahead, behind, Offset, ZoneOk, zoneText, offset, PlainText, MidnightText, MomentBy, ordinary, midnight}
+use Rattle.value.specs.types.Moment.{clockText}
 use Rattle.value.specs.Value.{Value, day, moment}
-use Rattle.value.specs.Form.{Form}
-use Rattle.value.specs.Spell.{when, twoAt, dayWhen, dayOf, isClock, fractionOf, fractionLength, isFraction, zoneOf, isOffset, isZone, momentWhen, momentBehind, midnightWhen, midnightOn, midnightBehind, momentOf}
+use Rattle.value.specs.parts.Form.{Form}
+use Rattle.value.specs.decided.Spell.{when, twoAt, dayWhen, dayOf, isClock, fractionOf, fractionLength, isFraction, zoneOf, isOffset, isZone, momentWhen, momentBehind, midnightWhen, midnightOn, midnightBehind, momentOf}
 use Rattle.value.proofs.dates.Months.{real-is, real-of}
 
 -- ---- a value after a test

@@ -4,9 +4,9 @@ use mathlib.Core.List.{List, [], _∷_, _++_, append-assoc, append-nil}
 use Prim.Native.Nat.{ℕ, zero, suc, _+_, _*_, _/_, _%_, _≤_}
 use native.Mathlib.Omega.{arith}
 use Rattle.text.specs.Digits.{padded}
-use Rattle.value.specs.Day.{pair, dayText}
-use Rattle.value.specs.Moment.{clockText, Parts, FractionText, fractionless, thousandths, hoursText, ZoneText, utc, east, west, MomentText, inDay, dayEnd}
-use Rattle.value.specs.Former.{present, Fraction, noFraction, decimals, figures, fractionText, FractionOk, micros, Zone, zulu, ahead, behind, zoneText, ZoneOk, offset, MomentBy, ordinary, midnight}
+use Rattle.value.specs.types.Day.{pair, dayText}
+use Rattle.value.specs.types.Moment.{clockText, Parts, FractionText, fractionless, thousandths, hoursText, ZoneText, utc, east, west, MomentText, inDay, dayEnd}
+use Rattle.value.specs.parts.Former.{present, Fraction, noFraction, decimals, figures, fractionText, FractionOk, micros, Zone, zulu, ahead, behind, zoneText, ZoneOk, offset, MomentBy, ordinary, midnight}
 
 pub all-of : (k n : ℕ) (t : List ℕ) → padded k n ++ t ≡ figures k n t
 unfolding padded figures

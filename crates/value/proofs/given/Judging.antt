@@ -16,15 +16,15 @@ use Rattle.text_characters.specs.Pieces.{Spells}
 use Rattle.text.proofs.Pasting.{pasted-none}
 use Rattle.text_characters.proofs.Spelling.{one-text}
 use Rattle.list.specs.Listing.{Leaf, ref, iban, ccy, bool, num, amt, date, dtm, txt, enum}
-use Rattle.value.specs.Code.{Ccy}
+use Rattle.value.specs.types.Code.{Ccy}
 use Rattle.value.specs.Kind.{code, Given}
 use Rattle.value.specs.Judged.{Means, Right, Checked, momentValue}
 use Rattle.value.specs.Value.{Value, text, truth, natural, amount, day, bytes}
 use Rattle.value.specs.declared.judged.Judged.{Judged}
 use Rattle.value.specs.declared.judged.Moment as M
 use Rattle.value.specs.declared.judged.Judged.the-variants as J
-use Rattle.value.specs.Giving.{Counted, Told, Gives, some, none, Long, Sized, Written}
-use Rattle.value.specs.Wrote.{Wrote, AmountPut, rich, poor}
+use Rattle.value.specs.given.Giving.{Counted, Told, Gives, some, none, Long, Sized, Written}
+use Rattle.value.specs.given.Wrote.{Wrote, AmountPut, rich, poor}
 use Rattle.value.specs.mirror.Puts.{Counts, textSize, textBytes, TextPut}
 use Rattle.value.proofs.given.Putting.{amount-long, text-long, size-long, size-short, bytes-long, bytes-short}
 use Rattle.value.proofs.given.Unique.{isAmount, amount-code, other-code, spelt-any, spelt-money, euro, euro-is, told-one}

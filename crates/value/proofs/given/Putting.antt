@@ -16,12 +16,12 @@ use Rattle.text_characters.specs.Utf8.{encodeAll}
 use Rattle.text.proofs.Numbers.{big-length}
 use Rattle.text.proofs.Pasting.{pasted-no, pasted-one, pasted-none, pasted-then, length-pasted}
 use Rattle.text_characters.proofs.Spelling.{one-text}
-use Rattle.value.specs.Code.{Ccy}
+use Rattle.value.specs.types.Code.{Ccy}
 use Rattle.value.specs.Judged.{Exactly, momentValue}
 use Rattle.value.specs.Value.{text, truth, natural, amount, day, moment, bytes}
 use Rattle.value.specs.declared.judged.Moment as M
 use Rattle.value.specs.mirror.Runs.{Roomy, CharsPut}
-use Rattle.value.specs.Wrote.{Wrote, AmountPut, rich, poor}
+use Rattle.value.specs.given.Wrote.{Wrote, AmountPut, rich, poor}
 use Rattle.value.specs.mirror.Puts.{Counts, textSize, textBytes, TextPut}
 
 -- ---- one byte, and room

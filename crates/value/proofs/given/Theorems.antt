@@ -15,12 +15,12 @@ use Rattle.text_characters.specs.Pieces.{Spells}
 use Rattle.text.proofs.Pasting.{pasted-none}
 use Rattle.list.specs.Listing.{Leaf}
 use Rattle.list.specs.WellFormed.{LeafOk}
-use Rattle.value.specs.Code.{Ccy}
+use Rattle.value.specs.types.Code.{Ccy}
 use Rattle.value.specs.Kind.{code, Given}
 use Rattle.value.specs.Value.{Value, text, place, truth, natural, amount, day, moment, IsValue, Spelt, bytes}
 use Rattle.value.proofs.raw.Encoding.{encoded-most}
 use Rattle.value.proofs.types.Values.{value-laws}
-use Rattle.value.specs.Giving.{Counted, Told, Gives, some, none, Long, Sized, Written}
+use Rattle.value.specs.given.Giving.{Counted, Told, Gives, some, none, Long, Sized, Written}
 use Rattle.value.proofs.given.Putting.{day-long, natural-long, moment-long, text-long}
 use Rattle.value.proofs.given.Unique.{leaf-one, spelt-any, spelt-turned, euro, euro-is, told-one, gives-one}
 

@@ -12,12 +12,12 @@ use Rattle.text.specs.Bytes.{isCapital}
 use Rattle.text.specs.Pasting.{pasted}
 use Rattle.text_characters.proofs.Spelling.{one-text}
 use Rattle.list.specs.Listing.{Leaf, ref, iban, ccy, bool, num, amt, date, dtm, txt, enum}
-use Rattle.value.specs.Code.{Ccy}
+use Rattle.value.specs.types.Code.{Ccy}
 use Rattle.value.specs.Kind.{code, Given}
 use Rattle.value.specs.Value.{Value, text, place, truth, natural, amount, day, moment, IsValue, Wording, Spelt, bytes}
 use Rattle.value.proofs.types.Numbered.{leafOf}
 use Rattle.value.proofs.types.Values.{value-laws}
-use Rattle.value.specs.Giving.{Told, Gives, some, none, Sized, Written}
+use Rattle.value.specs.given.Giving.{Told, Gives, some, none, Sized, Written}
 
 -- ---- a kind but ENUM has one leaf
 

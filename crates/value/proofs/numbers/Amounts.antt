@@ -15,9 +15,9 @@ use Rattle.text.specs.Bytes.{isDigit}
 use Rattle.list.specs.Listing.{amt}
 use Rattle.value.specs.declared.judged.Judged.{Judged}
 use Rattle.value.specs.declared.judged.Judged.the-variants as J
-use Rattle.value.specs.Numeral.{Sign, unsigned, plus, minus, Price}
+use Rattle.value.specs.parts.Numeral.{Sign, unsigned, plus, minus, Price}
 use Rattle.value.specs.Value.{Value}
-use Rattle.value.specs.Form.{Form}
+use Rattle.value.specs.parts.Form.{Form}
 use Rattle.value.specs.Judged.{Formed, formed, formless, FormedAny}
 use Rattle.value.specs.mirror.Reading.{Found, bad, found, fracOf, wholeOf, pointOf, signedOf, readOf, answer}
 use Rattle.value.proofs.numbers.Decimals.{isMinus, complete, sound}

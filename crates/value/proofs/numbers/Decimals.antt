@@ -11,8 +11,8 @@ use lib.ListN.{length, length-append}
 use borrow.Author.Tests.{ne-eqb, eqb-true, eqb-false}
 use Rattle.text.specs.Bytes.{isDigit}
 use Rattle.text.specs.Lists.{Each, All}
-use Rattle.value.specs.Plain.{decimalFrom}
-use Rattle.value.specs.Numeral.{Sign, unsigned, plus, minus, signText, Places, noPoint, point, placesOf, placesText, Numeral, Decimal, Smallest, decimal}
+use Rattle.value.specs.types.Plain.{decimalFrom}
+use Rattle.value.specs.parts.Numeral.{Sign, unsigned, plus, minus, signText, Places, noPoint, point, placesOf, placesText, Numeral, Decimal, Smallest, decimal}
 use Rattle.value.specs.mirror.Reading.{Found, bad, found, fracOf, wholeOf, pointOf, signedOf, readOf}
 use Rattle.value.proofs.classes.Classes.{digit-range, Solid, solid-digit, each-all, each-append}
 use Rattle.value.proofs.raw.Trim.{Dense}

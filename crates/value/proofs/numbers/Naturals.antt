@@ -11,9 +11,9 @@ use lib.Seq.{drop-cons}
 use Rattle.text.specs.Bytes.{isDigit}
 use Rattle.list.specs.Listing.{num}
 use Rattle.value.specs.declared.judged.Judged.the-variants as J
-use Rattle.value.specs.Plain.{Num, decimalFrom}
+use Rattle.value.specs.types.Plain.{Num, decimalFrom}
 use Rattle.value.specs.Value.{Value}
-use Rattle.value.specs.Form.{Form}
+use Rattle.value.specs.parts.Form.{Form}
 use Rattle.value.specs.Judged.{formed, formless, FormedAny}
 use Rattle.value.proofs.classes.Classes.{digit-range}
 use Rattle.value.proofs.classes.Loops.{Run, run-none, run-more, run-stop, run-end, to-all, from-all}

@@ -8,8 +8,8 @@ use native.Mathlib.Omega.{arith}
 use lib.ListN.{length}
 use Rattle.text.specs.Bytes.{ascii, isDigit}
 use Rattle.text.specs.Lists.{All}
-use Rattle.value.specs.Amount.{Bounded, Amount}
-use Rattle.value.specs.Numeral.{Sign, unsigned, plus, minus, signText, Places, noPoint, point, placesOf, placesText, Price, decimal}
+use Rattle.value.specs.types.Amount.{Bounded, Amount}
+use Rattle.value.specs.parts.Numeral.{Sign, unsigned, plus, minus, signText, Places, noPoint, point, placesOf, placesText, Price, decimal}
 
 pub all-append : (p : ℕ → Bool) (a b : List ℕ) → All p a → All p b → All p (a ++ b)
 all-append p [] b h k = k

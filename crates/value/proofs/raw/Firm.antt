@@ -9,10 +9,10 @@ use lib.ListN.{length, getD}
 use Rattle.text.specs.Bytes.{isCapital}
 use Rattle.text.specs.Lists.{Each, Begins}
 use Rattle.list.specs.Listing.{Leaf, ref, iban, ccy, bool, num, amt, date, dtm, txt, enum}
-use Rattle.value.specs.Code.{Iban, Ccy}
-use Rattle.value.specs.Plain.{SaysTruth}
+use Rattle.value.specs.types.Code.{Iban, Ccy}
+use Rattle.value.specs.types.Plain.{SaysTruth}
 use Rattle.value.specs.Value.{Value}
-use Rattle.value.specs.Form.{Form}
+use Rattle.value.specs.parts.Form.{Form}
 use Rattle.value.proofs.classes.Codes.{iban-each}
 use Rattle.value.proofs.classes.Classes.{Solid, solid-digit, solid-capital, solid-either, each-all}
 use Rattle.value.proofs.raw.Trim.{Dense}

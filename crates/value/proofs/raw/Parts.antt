@@ -9,8 +9,8 @@ use lib.Seq.{slice, take-all, drop-at, length-take-le, take-add, drop-drop, getD
 use Rattle.text.specs.Bytes.{isBlank}
 use Rattle.text.specs.Lists.{Each, All, span}
 use Rattle.text.proofs.Spans.{span-all, span-next}
-use Rattle.value.specs.Plain.{Trimmed}
-use Rattle.value.specs.Trim.{Trim, InkEnd}
+use Rattle.value.specs.types.Plain.{Trimmed}
+use Rattle.value.specs.decided.Trim.{Trim, InkEnd}
 use Rattle.value.proofs.classes.Classes.{Solid, solid-ink}
 use Rattle.value.proofs.raw.Trim.{Dense, clash, front, back, solid-last}
 

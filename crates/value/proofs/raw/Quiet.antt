@@ -17,7 +17,7 @@ use Rattle.text_characters.specs.declared.utf8.Char.{Char}
 use Rattle.text_characters.proofs.Chars as chars
 use Rattle.text_characters.proofs.Resolving.{next-ascii, piece-some}
 use Rattle.text.proofs.Spans.{span-le}
-use Rattle.value.specs.Text.{isTxt, isRef}
+use Rattle.value.specs.types.Text.{isTxt, isRef}
 use Rattle.value.specs.mirror.Tests.{notSpace}
 use Rattle.value.specs.mirror.Texts.{classOf, textOf, widthOf, quietOf}
 use Rattle.value.proofs.classes.Computed.{Own, ref-low, ref-own, quiet-is, ascii-is, quiet-txt}

@@ -13,8 +13,8 @@ use Rattle.text_characters.specs.Pieces.{Spells}
 use Rattle.text_characters.specs.mirror.Resolving.{charAt}
 use Rattle.text_characters.proofs.Resolving.{next-is}
 use Rattle.text_characters.proofs.Spelling.{next-begins, spells-none, none-spells, leads, spells-more, one-text}
-use Rattle.value.specs.Code.{Ccy}
-use Rattle.value.specs.Resolved.{ahead, charsWithin, charsOf}
+use Rattle.value.specs.types.Code.{Ccy}
+use Rattle.value.specs.decided.Resolved.{ahead, charsWithin, charsOf}
 use Rattle.value.proofs.classes.Classes.{Solid, each-map}
 use Rattle.value.proofs.raw.Raw.{Tame, solid-tame, raw-to, raw-from}
 use Rattle.value.proofs.raw.Firm.{ccy-dense}

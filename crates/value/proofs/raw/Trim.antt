@@ -7,7 +7,7 @@ use native.Mathlib.Omega.{arith}
 use lib.ListN.{length, length-append}
 use Rattle.text.specs.Bytes.{isBlank}
 use Rattle.text.specs.Lists.{Each, All}
-use Rattle.value.specs.Plain.{Trimmed}
+use Rattle.value.specs.types.Plain.{Trimmed}
 use Rattle.value.proofs.classes.Classes.{Solid, solid-ink, each-all, each-append, each-map}
 use Rattle.value.proofs.raw.Raw.{Tame, solid-tame, blank-tame}
 

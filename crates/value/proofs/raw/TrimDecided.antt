@@ -7,8 +7,8 @@ use native.Mathlib.Omega.{arith}
 use lib.ListN.{length, length-append}
 use Rattle.text.specs.Bytes.{isBlank}
 use Rattle.text.specs.Lists.{All}
-use Rattle.value.specs.Trim.{Trim}
-use Rattle.value.specs.Spell.{frontOff, before, backOff, trim}
+use Rattle.value.specs.decided.Trim.{Trim}
+use Rattle.value.specs.decided.Spell.{frontOff, before, backOff, trim}
 
 -- t is s without the blanks at its front
 record Front (s t : List ℕ) : Type 0 where

@@ -17,7 +17,7 @@ use Rattle.text.proofs.Parts.{part-take}
 use Rattle.text.proofs.Pasting.{length-pasted, pasted-then}
 use Rattle.text.proofs.Spans.{span-le, span-next}
 use Rattle.text_characters.specs.Pieces.{amp, lt, gt, word}
-use Rattle.value.specs.Raw.{isMarked, isPlain, escape, escaped}
+use Rattle.value.specs.script.Raw.{isMarked, isPlain, escape, escaped}
 
 -- ---- a byte
 

@@ -23,21 +23,21 @@ use Rattle.text_characters.specs.Utf8.{encode, encodeAll}
 use Rattle.text_characters.specs.Pieces.{amp, lt, gt, word, spell}
 use Rattle.text_characters.proofs.Decoding.{encode1, by-length}
 use Rattle.list.specs.Listing.{Leaf, bool, num, amt, date, dtm, enum, Kind, group, choice, leaf}
-use Rattle.list.specs.Table.{cell, wordsIn, kinds, kindOf}
+use Rattle.list.specs.tables.Table.{cell, wordsIn, kinds, kindOf}
 use Rattle.list.specs.WellFormed.{LeafOk}
 use Rattle.value.specs.Kind.{code}
-use Rattle.value.specs.Code.{Ccy}
-use Rattle.value.specs.Day.{Real, pair, dayText}
-use Rattle.value.specs.Moment.{Parts, clockText}
-use Rattle.value.specs.Former.{Fraction, noFraction, decimals, fractionText, zoneText}
+use Rattle.value.specs.types.Code.{Ccy}
+use Rattle.value.specs.types.Day.{Real, pair, dayText}
+use Rattle.value.specs.types.Moment.{Parts, clockText}
+use Rattle.value.specs.parts.Former.{Fraction, noFraction, decimals, fractionText, zoneText}
 use Rattle.value.specs.Value.{Value, text, place, truth, natural, amount, day, moment, IsValue, bytes}
 use Rattle.value.proofs.classes.Classes.{Solid}
 use Rattle.value.proofs.dates.Dates.{month-most}
 use Rattle.value.proofs.raw.Encoding.{encoded-most}
 use Rattle.value.proofs.raw.Firm.{Firm, ccy-dense}
 use Rattle.value.specs.mirror.Stored.{truthText, fractionOf, zoneOf}
-use Rattle.value.specs.Script.{scriptOf}
-use Rattle.value.specs.Raw.{pieceOf, rawOf, isMarked, escape, escaped}
+use Rattle.value.specs.script.Script.{scriptOf}
+use Rattle.value.specs.script.Raw.{pieceOf, rawOf, isMarked, escape, escaped}
 use Rattle.value.specs.mirror.Stored.{textRaw, wordRaw, threeRaw, placesRaw, fractionRaw, offsetRaw, zoneRaw, dayIn, clockIn, momentIn, rawText, rawAt}
 use Rattle.value.proofs.dates.Texts.{all-of}
 use Rattle.value.proofs.script.Moments.{script-moment}

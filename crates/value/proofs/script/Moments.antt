@@ -19,11 +19,11 @@ use Rattle.text.proofs.Digits.{length-padded}
 use Rattle.text.proofs.Pasting.{length-pasted, slice-pasted, pasted-none}
 use Rattle.text.proofs.Puts.{puts-then}
 use Rattle.list.specs.Listing.{dtm}
-use Rattle.value.specs.Day.{dayText}
-use Rattle.value.specs.Moment.{clockText, hoursText}
-use Rattle.value.specs.Former.{noFraction, decimals, figures, fractionText, zulu, ahead, behind, zoneText}
+use Rattle.value.specs.types.Day.{dayText}
+use Rattle.value.specs.types.Moment.{clockText, hoursText}
+use Rattle.value.specs.parts.Former.{noFraction, decimals, figures, fractionText, zulu, ahead, behind, zoneText}
 use Rattle.value.specs.Value.{moment}
-use Rattle.value.specs.Script.{fractionFor, zoneFor, scriptOf}
+use Rattle.value.specs.script.Script.{fractionFor, zoneFor, scriptOf}
 use Rattle.value.proofs.dates.Texts.{all-of}
 use Rattle.value.specs.mirror.Stored.{fractionOf, zoneOf, threeRaw, placesRaw, fractionRaw, offsetRaw, zoneRaw, dayIn, clockIn, momentIn}
 

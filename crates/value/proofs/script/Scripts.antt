@@ -15,14 +15,14 @@ use Rattle.text.specs.Lists.{All}
 use Rattle.text.specs.Digits.{digits as figuresIn, inDigits, padded, pointed}
 use Rattle.text.proofs.Digits.{digits-one, digits-more, length-some, length-most, length-padded, tenths}
 use Rattle.list.specs.Listing.{Leaf, ref, iban, ccy, bool, num, amt, date, dtm, txt, enum}
-use Rattle.value.specs.Plain.{decimalFrom, Num, SaysTruth, Trimmed}
-use Rattle.value.specs.Numeral.{Decimal, Price, noPoint as whole, point, decimal}
-use Rattle.value.specs.Amount.{Bounded}
-use Rattle.value.specs.Numeral as A
-use Rattle.value.specs.Former.{former, present, Fraction, noFraction, decimals, FractionOk, micros, Zone, zulu, ahead, behind, ZoneOk, offset, MomentBy, ordinary}
-use Rattle.value.specs.Moment.{Parts}
+use Rattle.value.specs.types.Plain.{decimalFrom, Num, SaysTruth, Trimmed}
+use Rattle.value.specs.parts.Numeral.{Decimal, Price, noPoint as whole, point, decimal}
+use Rattle.value.specs.types.Amount.{Bounded}
+use Rattle.value.specs.parts.Numeral as A
+use Rattle.value.specs.parts.Former.{former, present, Fraction, noFraction, decimals, FractionOk, micros, Zone, zulu, ahead, behind, ZoneOk, offset, MomentBy, ordinary}
+use Rattle.value.specs.types.Moment.{Parts}
 use Rattle.value.specs.Value.{Value, text, day, moment, IsValue, Spelt}
-use Rattle.value.specs.Form.{Form, Left}
+use Rattle.value.specs.parts.Form.{Form, Left}
 use Rattle.value.specs.Rules.{InThousandths}
 use Rattle.value.proofs.classes.Classes.{digit-yes}
 use Rattle.value.proofs.numbers.Decimals.{canon}
@@ -33,7 +33,7 @@ use Rattle.value.proofs.dates.Dates.{whole-dense}
 use Rattle.value.proofs.raw.Firm.{Firm, form-dense}
 use Rattle.value.proofs.Rules.{by-present, by-is, spelt-fine, parts-former}
 use Rattle.value.specs.mirror.Stored.{truthText, fractionOf, zoneOf}
-use Rattle.value.specs.Script.{scriptOf, currencyOf}
+use Rattle.value.specs.script.Script.{scriptOf, currencyOf}
 use Rattle.value.specs.Spelled.{Spelled, SpelledByEither}
 use Rattle.value.proofs.script.Moments.{none-of, one-of, two-of, three-of, six-of, script-moment}
 

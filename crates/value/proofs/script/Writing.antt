@@ -15,10 +15,10 @@ use Rattle.text.specs.Numbers.{number}
 use Rattle.text.specs.Pasting.{pasted}
 use Rattle.text.proofs.Parts.{part-take, part-length}
 use Rattle.text.proofs.Pasting.{pasted-none}
-use Rattle.list.specs.Table.{cell, words, longer, wordsIn}
+use Rattle.list.specs.tables.Table.{cell, words, longer, wordsIn}
 use Rattle.list.proofs.words.Split.{nth-words}
 use Rattle.value.specs.mirror.Stored.{truthText}
-use Rattle.value.specs.Raw.{escaped}
+use Rattle.value.specs.script.Raw.{escaped}
 use Rattle.value.specs.mirror.Stored.{textRaw, wordRaw, raws, rawText}
 
 -- what was written, under another name: r bytes, at most so many

@@ -16,16 +16,16 @@ use Rattle.text.specs.Numbers.{bigEndian, number}
 use Rattle.text.proofs.Classes.{and-is, or-is}
 use Rattle.text.proofs.Numbers.{Byte, number-big, big-length, big-bytes, big-number-of}
 use Rattle.list.specs.Listing.{amt}
-use Rattle.value.specs.Code.{Ccy}
-use Rattle.value.specs.Amount.{Bounded}
-use Rattle.value.specs.Numeral.{Smallest}
+use Rattle.value.specs.types.Code.{Ccy}
+use Rattle.value.specs.types.Amount.{Bounded}
+use Rattle.value.specs.parts.Numeral.{Smallest}
 use Rattle.value.specs.Value.{Value, amount, IsValue}
 use Rattle.value.proofs.classes.Classes.{capital-range}
 use Rattle.value.proofs.numbers.Decimals.{least}
 use Rattle.value.specs.mirror.Judges.{isCurrency, isAmount}
 use Rattle.value.proofs.stored.Exactly.{Stored, Passes, Exact}
 use Rattle.value.proofs.stored.Listed.{or-so}
-use Rattle.value.proofs.stored.Codes.{currency-exactly}
+use Rattle.value.proofs.stored.texts.Codes.{currency-exactly}
 
 -- ---- the smallest scale: 0, or the last digit is none
 

@@ -13,8 +13,8 @@ use Rattle.text.specs.Numbers.{bigEndian, number}
 use Rattle.text.proofs.Classes.{and-is}
 use Rattle.text.proofs.Numbers.{Byte, number-big, big-bytes}
 use Rattle.list.specs.Listing.{date, dtm}
-use Rattle.value.specs.Day.{Real}
-use Rattle.value.specs.Moment.{Parts}
+use Rattle.value.specs.types.Day.{Real}
+use Rattle.value.specs.types.Moment.{Parts}
 use Rattle.value.specs.Value.{Value, day, moment, IsValue, bytes}
 use Rattle.value.proofs.classes.Classes.{each-append}
 use Rattle.value.proofs.dates.Dates.{month-most}

@@ -11,12 +11,12 @@ use lib.Seq.{length-take-le, take-append-seam, drop-drop}
 use borrow.Author.Tests.{leb-true, le-leb}
 use Rattle.text.proofs.Classes.{and-is}
 use Rattle.list.specs.Listing.{Leaf, ref, iban, ccy, bool, num, amt, date, dtm, txt, enum, group, choice, leaf}
-use Rattle.list.specs.Table.{kindOf}
-use Rattle.list.specs.Sound.{wordCount}
+use Rattle.list.specs.tables.Table.{kindOf}
+use Rattle.list.specs.tables.Sound.{wordCount}
 use Rattle.list.specs.WellFormed.{LeafOk}
 use Rattle.value.specs.Value.{Value, IsValue, bytes}
 use Rattle.value.specs.mirror.Tests.{isByte, every}
-use Rattle.value.specs.Stands.{Taken, None, Ends, taken, nothing, EndsBy}
+use Rattle.value.specs.given.Stands.{Taken, None, Ends, taken, nothing, EndsBy}
 use Rattle.value.specs.mirror.Ends.{head, width, isValue, begins, valueEnd}
 use Rattle.value.proofs.stored.Listed.{byte-each, each-byte}
 use Rattle.value.proofs.stored.Exactly.{Exact}
@@ -24,7 +24,7 @@ use Rattle.value.proofs.stored.Numbered.{by-kind, width-take, none-valu
 use Rattle.value.proofs.stored.Plains.{place-exact, truth-exact, natural-exact}
 use Rattle.value.proofs.stored.Amounts.{amount-exact}
 use Rattle.value.proofs.stored.Days.{day-exact, moment-exact}
-use Rattle.value.proofs.stored.Texts.{reference-exact, writing-exact, account-exact, currency-exact}
+use Rattle.value.proofs.stored.texts.Texts.{reference-exact, writing-exact, account-exact, currency-exact}
 
 -- ---- any numbers: an end that is not 0 is the place and the width of what begins there
 

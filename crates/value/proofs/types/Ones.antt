@@ -12,7 +12,7 @@ use Rattle.text_characters.proofs.Spelling.{one-text}
 use Rattle.list.specs.Listing.{Leaf, ref, iban, ccy, bool, num, amt, date, dtm, txt}
 use Rattle.value.specs.declared.judged.Judged.{Judged}
 use Rattle.value.specs.declared.judged.Judged.the-variants as J
-use Rattle.value.specs.Code.{Ccy}
+use Rattle.value.specs.types.Code.{Ccy}
 use Rattle.value.specs.Kind.{code, Given}
 use Rattle.value.specs.Value.{Value, text, place, truth, natural, amount, day, moment, Spelt}
 use Rattle.value.specs.Judged.{Exactly, Means, Right, accepted, refused, Formed, formed, formless, FormedAny, Checked}

@@ -14,15 +14,15 @@ use Rattle.text_characters.specs.Pieces.{Spells}
 use Rattle.list.specs.Listing.{Leaf, ref, iban, ccy, bool, num, amt, date, dtm, txt, enum}
 use Rattle.value.specs.declared.judged.Judged.{Judged}
 use Rattle.value.specs.declared.judged.Judged.the-variants as J
-use Rattle.value.specs.Text.{isTxt, Chars, Ref}
-use Rattle.value.specs.Code.{Iban, Ccy}
-use Rattle.value.specs.Form.{WordAt}
-use Rattle.value.specs.Plain.{Trimmed, SaysTruth}
+use Rattle.value.specs.types.Text.{isTxt, Chars, Ref}
+use Rattle.value.specs.types.Code.{Iban, Ccy}
+use Rattle.value.specs.parts.Form.{WordAt}
+use Rattle.value.specs.types.Plain.{Trimmed, SaysTruth}
 use Rattle.value.specs.Kind.{code, Given}
-use Rattle.value.specs.Trim.{Trim}
+use Rattle.value.specs.decided.Trim.{Trim}
 use Rattle.value.specs.mirror.Texts.{textOf, Spelled, spelled, unspelled}
 use Rattle.value.specs.Value.{Value, text, place, truth, Spelt}
-use Rattle.value.specs.Form.{Form, Left}
+use Rattle.value.specs.parts.Form.{Form, Left}
 use Rattle.value.specs.Judged.{Exactly, Means, Right, accepted, refused, Formed, formed, formless, FormedAny, codedOf, Checked}
 use Rattle.value.proofs.classes.Classes.{Solid, each-map}
 use Rattle.value.proofs.raw.Raw.{Tame, solid-tame, raw-to, raw-from, plain-encode}

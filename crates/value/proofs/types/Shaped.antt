@@ -7,9 +7,9 @@ use native.Mathlib.Nat.{pow-le-pow-right}
 use native.Mathlib.Omega.{arith}
 use lib.ListN.{getD}
 use Rattle.list.specs.Listing.{Leaf, amt, enum}
-use Rattle.value.specs.Plain.{Num}
+use Rattle.value.specs.types.Plain.{Num}
 use Rattle.value.specs.Value.{Value, place, amount, IsValue, Wording, Spelt}
-use Rattle.value.specs.Form.{WordAt, Form, Left, Shaped}
+use Rattle.value.specs.parts.Form.{WordAt, Form, Left, Shaped}
 use Rattle.value.proofs.numbers.Decimals.{decimal-below}
 use Rattle.value.proofs.numbers.Numerals.{price-of, amount-of}
 use Rattle.value.proofs.dates.Dates.{moment-parts}

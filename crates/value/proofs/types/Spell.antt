@@ -15,20 +15,20 @@ use Rattle.text.proofs.Classes.{and-is, or-is, in-range, in-range-is}
 use Rattle.text.proofs.Parts.{same-eq}
 use Rattle.list.specs.Listing.{Leaf, ref, iban, ccy, bool, num, amt, date, dtm, txt, enum}
 use Rattle.list.specs.WellFormed.{LeafOk, Different}
-use Rattle.list.specs.Table.{placeIn}
+use Rattle.list.specs.tables.Table.{placeIn}
 use Rattle.list.proofs.words.Places.{place-found, place-none, place-is}
 use Rattle.value.specs.declared.judged.Judged.{Judged}
 use Rattle.value.specs.declared.judged.Judged.the-variants as J
-use Rattle.value.specs.Plain.{Trimmed, SaysTruth, Num}
-use Rattle.value.specs.Numeral.{decimal}
-use Rattle.value.specs.Code.{Iban, Ccy}
+use Rattle.value.specs.types.Plain.{Trimmed, SaysTruth, Num}
+use Rattle.value.specs.parts.Numeral.{decimal}
+use Rattle.value.specs.types.Code.{Iban, Ccy}
 use Rattle.value.specs.mirror.Layout.{ibanAt}
 use Rattle.value.specs.mirror.Texts.{textOf}
 use Rattle.value.specs.mirror.Reading.{readOf, answer}
 use Rattle.value.specs.Value.{Value, text, place, truth, natural, amount, Spelt}
-use Rattle.value.specs.Form.{Form, Left}
+use Rattle.value.specs.parts.Form.{Form, Left}
 use Rattle.value.specs.Judged.{Formed, formed, formless}
-use Rattle.value.specs.Spell.{trim, when, passesFrom, isCcy, isIban, isNum, placeOf, truthOf, moneyOf, leftOf, formOf, spell}
+use Rattle.value.specs.decided.Spell.{trim, when, passesFrom, isCcy, isIban, isNum, placeOf, truthOf, moneyOf, leftOf, formOf, spell}
 use Rattle.value.proofs.classes.Loops.{From, to-all, from-all}
 use Rattle.value.proofs.classes.Codes.{iban-from, iban-to, iban-least, iban-most}
 use Rattle.value.proofs.classes.References.{ref-to, ref-from, txt-to, txt-from}

@@ -16,14 +16,14 @@ use Rattle.text.proofs.Classes as classes
 use Rattle.text.proofs.Numbers.{big-length, big-prefix}
 use Rattle.list.specs.Listing.{Leaf, ref, iban, ccy, bool, num, amt, date, dtm, txt, enum}
 use Rattle.list.specs.WellFormed.{LeafOk}
-use Rattle.value.specs.Text.{Ref, Chars, isRef, isTxt}
+use Rattle.value.specs.types.Text.{Ref, Chars, isRef, isTxt}
 use Rattle.value.specs.mirror.Texts.{classOf}
-use Rattle.value.specs.Code.{Iban, Ccy, isLetterOrDigit}
-use Rattle.value.specs.Day.{Real}
-use Rattle.value.specs.Former.{DateRule, MomentBy, ordinary, midnight}
-use Rattle.value.specs.Moment.{Parts}
+use Rattle.value.specs.types.Code.{Iban, Ccy, isLetterOrDigit}
+use Rattle.value.specs.types.Day.{Real}
+use Rattle.value.specs.parts.Former.{DateRule, MomentBy, ordinary, midnight}
+use Rattle.value.specs.types.Moment.{Parts}
 use Rattle.value.specs.Value.{Value, text, place, truth, natural, amount, day, moment, IsValue, bytes}
-use Rattle.value.specs.Form.{Form, Left}
+use Rattle.value.specs.parts.Form.{Form, Left}
 use Rattle.value.specs.Laws.{extra, ValueLaws}
 use Rattle.value.proofs.classes.Classes.{Solid, each-all, each-map}
 use Rattle.value.proofs.raw.Encoding.{same-front, same-text, encoded-most}

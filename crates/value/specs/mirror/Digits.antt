@@ -4,9 +4,9 @@ use mathlib.Core.Bool.{Bool, true}
 use mathlib.Core.List.{List, [], _∷_}
 use Prim.Native.Nat.{ℕ, _+_, _≤_}
 use lib.ListN.{drop}
-use Rattle.value.specs.Day.{Real, pair, dayText, nextDay}
-use Rattle.value.specs.Former.{Clock, present, Fraction, FractionOk, fractionText, micros, Zone, ZoneOk, zoneText, offset}
-use Rattle.value.specs.Moment.{clockText}
+use Rattle.value.specs.types.Day.{Real, pair, dayText, nextDay}
+use Rattle.value.specs.parts.Former.{Clock, present, Fraction, FractionOk, fractionText, micros, Zone, ZoneOk, zoneText, offset}
+use Rattle.value.specs.types.Moment.{clockText}
 use Rattle.value.specs.declared.judged.Judged.{Judged}
 use Rattle.value.specs.declared.judged.Judged.the-variants.{Refused, Day, Moment}
 

@@ -7,10 +7,10 @@ use lib.ListN.{length, getD, take, drop}
 use Rattle.text.specs.Bytes.{inRange, isCapital, isDigit}
 use Rattle.text.specs.Numbers.{number}
 use Rattle.text_characters.specs.mirror.Decoding.{decoded}
-use Rattle.value.specs.Text.{isTxt, isRef}
+use Rattle.value.specs.types.Text.{isTxt, isRef}
 use Rattle.value.specs.mirror.Tests.{notSpace}
-use Rattle.value.specs.Code.{isLetterOrDigit}
-unfoldable pub use Rattle.value.specs.Day.{isReal}
+use Rattle.value.specs.types.Code.{isLetterOrDigit}
+unfoldable pub use Rattle.value.specs.types.Day.{isReal}
 use Rattle.value.specs.mirror.Tests.{every, some, apart}
 use Rattle.value.specs.mirror.Chars.{chars}
 

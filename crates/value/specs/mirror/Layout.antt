@@ -3,7 +3,7 @@ use mathlib.Core.Bool.{Bool, cond}
 use Prim.Native.Nat.{ℕ}
 use lib.Dec.{ltb}
 use Rattle.text.specs.Bytes.{isCapital, isDigit}
-use Rattle.value.specs.Code.{isLetterOrDigit}
+use Rattle.value.specs.types.Code.{isLetterOrDigit}
 
 unfoldable pub ibanAt : ℕ → ℕ → Bool
 ibanAt i b = cond (ltb i 2) (isCapital b) (cond (ltb i 4) (isDigit b) (isLetterOrDigit b))

@@ -8,7 +8,7 @@ use lib.ListN.{length}
 use Rattle.text_characters.specs.Utf8.{encodeAll}
 use Rattle.text_characters.specs.Pieces.{Spells}
 use Rattle.value.specs.Value.{text, bytes}
-use Rattle.value.specs.Wrote.{Wrote}
+use Rattle.value.specs.given.Wrote.{Wrote}
 
 -- the characters that t spells have n bytes
 pub record Counts (t : List ℕ) (n : ℕ) : Type 0 where

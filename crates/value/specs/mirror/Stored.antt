@@ -8,9 +8,9 @@ use lib.ListN.{getD, take, drop}
 use Rattle.text.specs.Bytes.{ascii}
 use Rattle.text.specs.Numbers.{number}
 use Rattle.text.specs.Digits.{inDigits, padded, pointed}
-use Rattle.list.specs.Table.{cell, wordsIn}
-use Rattle.value.specs.Former.{Fraction, noFraction, decimals, Zone, zulu, ahead, behind}
-use Rattle.value.specs.Raw.{escaped}
+use Rattle.list.specs.tables.Table.{cell, wordsIn}
+use Rattle.value.specs.parts.Former.{Fraction, noFraction, decimals, Zone, zulu, ahead, behind}
+use Rattle.value.specs.script.Raw.{escaped}
 
 -- a text, as long as its two first bytes say
 unfoldable pub textRaw : List ℕ → List ℕ

@@ -7,7 +7,7 @@ use lib.Dec.{ltb, eqb}
 use lib.ListN.{length}
 use Rattle.text_characters.specs.Utf8.{encodeAll}
 use Rattle.text_characters.specs.Passing.{Passes}
-use Rattle.value.specs.Text.{isTxt, isRef}
+use Rattle.value.specs.types.Text.{isTxt, isRef}
 use Rattle.value.specs.mirror.Tests.{notSpace}
 use Rattle.value.specs.declared.judged.Judged.{Judged}
 use Rattle.value.specs.declared.judged.Judged.the-variants.{Refused, Text}

@@ -4,7 +4,7 @@ use Rattle.file_check.proofs.fill.put_leaf.Statement.{statement}
 use Rattle.file_check.proofs.fill.put_leaf.Tie as tie
 use mathlib.Core.Path.{refl, sym, ap, _∙_}
 use mathlib.Core.Bool.{false}
-use Rattle.list.specs.Numbers.{isGroupIn}
+use Rattle.list.specs.tables.Numbers.{isGroupIn}
 use Rattle.value.proofs.given.Theorems.{bytes-some}
 use Rattle.file_measure.proofs.Leaf.{shuts-none, shuts-some}
 use Rattle.file_measure.proofs.Value.{leaf-kind}

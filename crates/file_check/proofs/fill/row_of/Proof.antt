@@ -4,7 +4,7 @@ use Rattle.file_check.proofs.fill.row_of.Tie as tie
 use borrow.Author.Needs.{needs}
 use lib.Seq.{slice}
 use Rattle.list.specs.Listing.{Child, child}
-use Rattle.list.specs.Table.{listOf}
+use Rattle.list.specs.tables.Table.{listOf}
 use Rattle.file_check.proofs.Around.{way, row-first, row-found, row-again, row-nearer}
 
 abbrev Inv-loop : tie.InvT-loop

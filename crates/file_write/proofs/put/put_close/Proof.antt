@@ -5,7 +5,7 @@ use Rattle.file_write.proofs.put.put_close.Tie as tie
 use mathlib.Core.Path.{refl}
 use native.Mathlib.Omega.{arith}
 use Rattle.text.specs.Bytes.{ascii}
-use Rattle.list.specs.Table.{cell}
+use Rattle.list.specs.tables.Table.{cell}
 use Rattle.file_write.proofs.Putting.{behind-word, before-word, part-end}
 
 slice-aggregate-copy : tie.Need-slice-aggregate-copy

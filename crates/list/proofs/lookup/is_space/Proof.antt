@@ -1,6 +1,6 @@
 -- `lookup::is_space` meets its contract. Assumes nothing.
 use borrow.Author.Needs.{needs}
-use Rattle.list.specs.Table.{listOf}
+use Rattle.list.specs.tables.Table.{listOf}
 use Rattle.list.proofs.lookup.is_space.Statement.{statement}
 use Rattle.list.proofs.lookup.is_space.Tie as tie
 

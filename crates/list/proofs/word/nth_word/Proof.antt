@@ -4,7 +4,7 @@ use Prim.Native.Nat.{_-_}
 use native.Mathlib.Omega.{arith}
 use lib.ListN.{getD}
 use borrow.Author.Needs.{needs}
-use Rattle.list.specs.Table.{wordsIn}
+use Rattle.list.specs.tables.Table.{wordsIn}
 use Rattle.list.proofs.words.Split.{Counts, count-start, count-over, count-end, count-found, count-again}
 use Rattle.list.proofs.word.nth_word.Statement.{statement}
 use Rattle.list.proofs.word.nth_word.Tie as tie

@@ -3,7 +3,7 @@ use Prim.Native.Nat.{_+_, _-_}
 use native.Mathlib.Omega.{arith}
 use lib.Seq.{slice}
 use borrow.Author.Needs.{needs}
-use Rattle.list.specs.Table.{placeIn, wordsIn}
+use Rattle.list.specs.tables.Table.{placeIn, wordsIn}
 use Rattle.list.proofs.words.Split.{Seeks, seek-nothing, seek-start, seek-found, seek-none, seek-again}
 use Rattle.list.proofs.word.word_place.Statement.{statement}
 use Rattle.list.proofs.word.word_place.Tie as tie

@@ -12,7 +12,7 @@ use borrow.Author.Tests.{le-leb, lt-leb, le-ltb, lt-ltb, ne-eqb, eq-eqb, not-tru
 use Rattle.text.specs.Numbers.{number}
 use Rattle.value.specs.mirror.Judges.{isCurrency, isAmount}
 use Rattle.value.proofs.types.Ones.{exactly-one}
-use Rattle.value.proofs.stored.Codes.{currency-exactly}
+use Rattle.value.proofs.stored.texts.Codes.{currency-exactly}
 
 returns : tie.Need-returns
 unfolding isAmount isCurrency

@@ -7,7 +7,7 @@ use native.Mathlib.Omega.{arith}
 use lib.Dec.{leb}
 use borrow.Author.Tests.{le-leb, lt-leb}
 use Rattle.text.proofs.Classes.{in-range}
-use Rattle.value.specs.Day.{isReal}
+use Rattle.value.specs.types.Day.{isReal}
 use Rattle.value.proofs.classes.Classes.{in-no}
 
 returns : tie.Need-returns

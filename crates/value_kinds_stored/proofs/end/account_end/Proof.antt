@@ -3,7 +3,7 @@ use borrow.Author.Needs.{needs}
 use Rattle.value_kinds_stored.proofs.end.account_end.Statement.{statement}
 use Rattle.value_kinds_stored.proofs.end.account_end.Tie as tie
 use Rattle.value.proofs.types.Ones.{exactly-one}
-use Rattle.value.proofs.stored.Codes.{account-exactly}
+use Rattle.value.proofs.stored.texts.Codes.{account-exactly}
 use native.Mathlib.Omega.{arith}
 use Rattle.value.specs.mirror.Ends.{isValue}
 use Rattle.value.proofs.stored.Placing.{text-cut, text-no, text-yes}

@@ -3,7 +3,7 @@ use mathlib.Core.Path.{sym, _∙_, ap}
 use native.Mathlib.Omega.{arith}
 use borrow.Author.Needs.{needs}
 use Rattle.text.proofs.Classes.{no}
-use Rattle.value.specs.Text.{isRef}
+use Rattle.value.specs.types.Text.{isRef}
 use Rattle.value.proofs.classes.Named.{reference}
 use Rattle.value.proofs.classes.Computed.{slash-ref, quiet-ref}
 use Rattle.value_texts.proofs.from_text.is_ref.Statement.{statement}

@@ -6,7 +6,7 @@ use lib.Dec.{leb}
 use lib.ListN.{length}
 use borrow.Author.Needs.{needs}
 use borrow.Author.Tests.{le-leb}
-use Rattle.value.specs.Raw.{escaped}
+use Rattle.value.specs.script.Raw.{escaped}
 use Rattle.value.proofs.script.Escaping.{escaped-most}
 use Rattle.value_texts_put.proofs.to_text.has_room.Statement.{statement}
 use Rattle.value_texts_put.proofs.to_text.has_room.Tie as tie

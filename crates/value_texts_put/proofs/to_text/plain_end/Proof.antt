@@ -5,7 +5,7 @@ use lib.ListN.{length, drop}
 use borrow.Author.Needs.{needs}
 use Rattle.text.specs.Lists.{span}
 use Rattle.text.proofs.Spans.{span-over, span-found, span-again}
-use Rattle.value.specs.Raw.{isPlain}
+use Rattle.value.specs.script.Raw.{isPlain}
 use Rattle.value_texts_put.proofs.to_text.plain_end.Statement.{statement}
 use Rattle.value_texts_put.proofs.to_text.plain_end.Tie as tie
 

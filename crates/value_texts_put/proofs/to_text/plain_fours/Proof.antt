@@ -8,7 +8,7 @@ use lib.ListN.{length, drop, getD}
 use borrow.Author.Needs.{needs}
 use Rattle.text.specs.Lists.{span}
 use Rattle.text.proofs.Spans.{span-again}
-use Rattle.value.specs.Raw.{isPlain}
+use Rattle.value.specs.script.Raw.{isPlain}
 use Rattle.value_texts_put.proofs.to_text.plain_fours.Statement.{statement}
 use Rattle.value_texts_put.proofs.to_text.plain_fours.Tie as tie
 

@@ -6,7 +6,7 @@ use lib.ListN.{length}
 use borrow.Author.Needs.{needs}
 use borrow.Author.Tests.{not-true, not-false, leb-true, leb-false}
 use Rattle.text.proofs.Pasting.{copy-not}
-use Rattle.value.specs.Raw.{escaped}
+use Rattle.value.specs.script.Raw.{escaped}
 use Rattle.value.proofs.script.Escaping.{escaped-most}
 use Rattle.value_texts_put.proofs.to_text.write_chars.Statement.{statement}
 use Rattle.value_texts_put.proofs.to_text.write_chars.Tie as tie

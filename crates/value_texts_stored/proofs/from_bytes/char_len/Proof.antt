@@ -2,7 +2,7 @@
 use borrow.Author.Needs.{needs}
 use Rattle.value_texts_stored.proofs.from_bytes.char_len.Statement.{statement}
 use Rattle.value_texts_stored.proofs.from_bytes.char_len.Tie as tie
-use Rattle.value.proofs.stored.Writings.{len-some, len-none}
+use Rattle.value.proofs.stored.texts.Writings.{len-some, len-none}
 
 decode-requires : tie.Need-decode-requires
 decode-requires c κs = search needs

@@ -5,7 +5,7 @@ use mathlib.Core.Path.{refl, _∙_}
 use mathlib.Core.List.{[], _∷_}
 use native.Mathlib.Omega.{arith}
 use Rattle.text.proofs.Classes.{no, yes-but}
-use Rattle.value.specs.Text.{isTxt}
+use Rattle.value.specs.types.Text.{isTxt}
 use Rattle.value.specs.mirror.Texts.{isAsciiTxt}
 use Rattle.value.proofs.classes.Named.{writing}
 use Rattle.value.proofs.classes.Computed.{keys-not, ascii-so, ascii-far}

@@ -7,7 +7,7 @@ use mathlib.Core.Bool.{and-false}
 use lib.Dec.{leb}
 use lib.ListN.{length}
 use borrow.Author.Tests.{le-leb, lt-leb, not-true, not-false}
-use Rattle.value.specs.Text.{isRef}
+use Rattle.value.specs.types.Text.{isRef}
 use Rattle.value.specs.mirror.Tests.{every}
 use Rattle.value.specs.mirror.Judges.{isReference}
 

@@ -6,9 +6,9 @@ use mathlib.Core.Bool.{true, _&&_}
 use Prim.Native.Nat.{_-_}
 use lib.ListN.{length, drop}
 use borrow.Author.Needs.{needs}
-use Rattle.value.specs.Text.{isRef}
+use Rattle.value.specs.types.Text.{isRef}
 use Rattle.value.specs.mirror.Tests.{every, apart}
-use Rattle.value.proofs.stored.Slashes.{spaced-end, spaced-word, spaced-bad, spaced-slash, spaced-twice}
+use Rattle.value.proofs.stored.texts.Slashes.{spaced-end, spaced-word, spaced-bad, spaced-slash, spaced-twice}
 
 abbrev Inv-loop : tie.InvT-loop
 Inv-loop b i₀ slash₀ i slash = (every isRef (drop i b) && apart slash (drop i b)) ≡ (every isRef b && apart true b)

@@ -3,7 +3,7 @@ use borrow.Author.Needs.{needs}
 use Rattle.value_texts_stored.proofs.from_bytes.is_word.Statement.{statement}
 use Rattle.value_texts_stored.proofs.from_bytes.is_word.Tie as tie
 use mathlib.Core.Path.{sym, _∙_}
-use Rattle.value.proofs.stored.Classes.{digit-word, letter-word}
+use Rattle.value.proofs.stored.texts.Classes.{digit-word, letter-word}
 
 is-digit-requires : tie.Need-is-digit-requires
 is-digit-requires c κs = search needs

@@ -7,7 +7,7 @@ use native.Mathlib.Omega.{arith}
 use lib.ListN.{length}
 use borrow.Author.Needs.{needs}
 use borrow.Author.Tests.{not-true, not-false}
-use Rattle.value.proofs.stored.Writings.{uninked, Passing, pass-none, pass-run, pass-end, pass-bad, pass-room, pass-char}
+use Rattle.value.proofs.stored.texts.Writings.{uninked, Passing, pass-none, pass-run, pass-end, pass-bad, pass-room, pass-char}
 
 abbrev Inv-loop : tie.InvT-loop
 Inv-loop b k i₀ more₀ i more = Passing b i more

@@ -5,7 +5,7 @@ use Rattle.xml_scan.proofs.attribute.attribute.Tie as tie
 use mathlib.Core.Path.{sym, _∙_}
 use native.Mathlib.Omega.{arith}
 use Rattle.xml_scan.proofs.Tags.{attribute-full, attribute-unnamed, attribute-seen, attribute-new}
-use Rattle.xml_scan.proofs.FullNames.{name-within}
+use Rattle.xml_scan.proofs.names.FullNames.{name-within}
 
 returns : tie.Need-returns
 returns c =

@@ -5,7 +5,7 @@ use Rattle.xml_scan.proofs.attribute.equals.Tie as tie
 use mathlib.Core.Path.{sym}
 use mathlib.Core.Logic.{inl, inr}
 use native.Mathlib.Omega.{arith}
-use Rattle.xml_scan.proofs.Attributes.{a-mark, equals-cut, equals-other, quote-cut, quote-other, quoted}
+use Rattle.xml_scan.proofs.names.Attributes.{a-mark, equals-cut, equals-other, quote-cut, quote-other, quoted}
 
 blanks-end-requires : tie.Need-blanks-end-requires
 blanks-end-requires c κs = search needs

@@ -5,7 +5,7 @@ use Rattle.xml_scan.proofs.attribute.full_name.Tie as tie
 use mathlib.Core.Path.{sym, _∙_}
 use Prim.Native.Nat.{_+_}
 use Rattle.xml_scan.proofs.Classes.{run-is}
-use Rattle.xml_scan.proofs.FullNames.{name-cut, name-plain, colon-cut, colon-bare, name-full}
+use Rattle.xml_scan.proofs.names.FullNames.{name-cut, name-plain, colon-cut, colon-bare, name-full}
 
 add-run-end : tie.Need-add-run-end
 add-run-end c = search needs

@@ -5,7 +5,7 @@ use native.Mathlib.Omega.{arith}
 use lib.Seq.{slice}
 use mathlib.Core.Path.{sym, _∙_}
 use borrow.Author.Needs.{needs}
-use Rattle.xml_scan.proofs.Names.{Seeing, seeing-all, seen-none, seen-yes, seeing-less}
+use Rattle.xml_scan.proofs.names.Names.{Seeing, seeing-all, seen-none, seen-yes, seeing-less}
 
 abbrev Inv-loop : tie.InvT-loop
 Inv-loop s from to n a e k₀ k = Seeing (slice a e s) s from to n k

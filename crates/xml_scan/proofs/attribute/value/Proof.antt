@@ -5,7 +5,7 @@ use Prim.Native.Nat.{_-_}
 use native.Mathlib.Omega.{arith}
 use lib.ListN.{length}
 use borrow.Author.Needs.{needs}
-use Rattle.xml_scan.proofs.Attributes.{Valuing, valuing-none, value-cut, value-quote, value-stop, piece-on, valuing-on}
+use Rattle.xml_scan.proofs.names.Attributes.{Valuing, valuing-none, value-cut, value-quote, value-stop, piece-on, valuing-on}
 
 abbrev Inv-loop : tie.InvT-loop
 Inv-loop s at quote i₀ i = Valuing s at quote i

@@ -6,7 +6,7 @@ use native.Mathlib.Omega.{arith}
 use borrow.Author.Needs.{needs}
 use Rattle.xml.specs.mirror.Auto.{root}
 use Rattle.xml_scan.specs.mirror.Tags.{Steps}
-use Rattle.xml_scan.proofs.Names.{held-none}
+use Rattle.xml_scan.proofs.names.Names.{held-none}
 use Rattle.xml_scan.proofs.Nesting.{root-opens, ahead, steps-halt, steps-nested, steps-done, steps-then, steps-less}
 
 abbrev Inv-loop : tie.InvT-loop
