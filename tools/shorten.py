@@ -15,10 +15,6 @@ import sys
 
 LONGEST = 400
 
-# Files that still have such lines. To be emptied; one that is not needed is a fault.
-EXCEPTED = '''
-    xml/proofs/Lang.antt
-'''.split()
 BROKEN = 150
 PLACE = re.compile(r'(?<![\w\-′₀])c((?: \.before(?![\w\-]))+)')
 HEAD = re.compile(r'([\w\-]+ c(?: κs)? =) ')
@@ -30,7 +26,7 @@ def too_long(crates):
     for crate in crates:
         for file in sorted(pathlib.Path('crates', crate, 'proofs').glob('**/*.antt')):
             for number, line in enumerate(file.read_text().split('\n'), 1):
-                if len(line) > LONGEST and not line.startswith('unfolding '):
+                if len(line) > LONGEST:
                     yield file, number, len(line)
 
 
@@ -134,14 +130,8 @@ def main(words):
         found = list(too_long(crates))
         for file, number, length in found:
             print(f'shorten: {file}:{number} has {length} characters')
-        files = {file.relative_to('crates').as_posix() for file, _, _ in found}
-        spared = {file for file in EXCEPTED if file.split('/')[0] in crates}
-        faults = [f'{file}: a line is too long' for file in sorted(files - spared)]
-        faults += [f'{file}: no exception is needed for it' for file in sorted(spared - files)]
-        for fault in faults:
-            print(f'shorten: {fault}')
-        print(f'shorten: {len(found)} lines of proofs are longer than {LONGEST} characters, {len(spared)} files are excepted, {len(faults)} faults')
-        sys.exit(1 if faults else 0)
+        print(f'shorten: {len(found)} lines of proofs are longer than {LONGEST} characters')
+        sys.exit(1 if found else 0)
     for file in map(pathlib.Path, words):
         lines = []
         for term in terms(file.read_text().split('\n')):

@@ -295,9 +295,18 @@ ways =
     amount "0.000001" ∷ amount "1000000000000000000" ∷ amount "." ∷
     tree (statementTree "A/B" "5.00") ∷ tree (statementTree "A//B" "5.00") ∷ amount "5.00" ∷ amount "5.00" ∷ []
 
+-- what the test computes with: of texts and lists, and of values and the walk
+unfoldable texts : List Star → List Way → Bool
+unfolding liveLen run step next lead all begins encode isBlank isCapital isDigit isLetter isNameStart isNamePart firstViolation inside childRows absentRow child firstFrom same rowAt house report listFor xor decimalFrom
+texts es ws = tableTest es ws
+
+unfoldable computes : List Star → List Way → Bool
+unfolding texts isRef isTxt textFrom readOf signedOf pointOf wholeOf fracOf judged spell frontOff backOff passesFrom placeFrom dayOf fractionOf zoneOf momentOf header bigEndian fresh advance emits nextDue firstOf secondOf
+computes es ws = texts es ws
+
 -- every row of the table shows
 pub all-stars : Each Shows stars
-unfolding stars liveLen run step next lead all begins encode isBlank isCapital isDigit isLetter isNameStart isNamePart firstViolation inside childRows absentRow child firstFrom same rowAt house report listFor xor decimalFrom isRef isTxt textFrom readOf signedOf pointOf wholeOf fracOf judged spell frontOff backOff passesFrom placeFrom dayOf fractionOf zoneOf momentOf header bigEndian fresh advance emits nextDue firstOf secondOf ways
+unfolding stars computes ways
 all-stars = shown stars ways refl
 
 -- date-times
@@ -311,7 +320,7 @@ moments =
     time "2024-03-01T06:00:00.12Z" ∷ time "2024-03-01T06:00:00.120Z" ∷ time "2024-03-01T06:00:00.120000Z" ∷ []
 
 pub all-times : Each Shows times
-unfolding times liveLen run step next lead all begins encode isBlank isCapital isDigit isLetter isNameStart isNamePart firstViolation inside childRows absentRow child firstFrom same rowAt house report listFor xor decimalFrom isRef isTxt textFrom readOf signedOf pointOf wholeOf fracOf judged spell frontOff backOff passesFrom placeFrom dayOf fractionOf zoneOf momentOf header bigEndian fresh advance emits nextDue firstOf secondOf moments
+unfolding times computes moments
 all-times = shown times moments refl
 
 -- intraday reports
@@ -340,5 +349,5 @@ kinds =
     kindTree "052.001.08" "BkToCstmrStmt" "Stmt" (closing noMore) ∷ kindTree "054.001.08" "BkToCstmrStmt" "Stmt" (closing noMore) ∷ []
 
 pub all-reports : Each Shows reports
-unfolding reports liveLen run step next lead all begins encode isBlank isCapital isDigit isLetter isNameStart isNamePart firstViolation inside childRows absentRow child firstFrom same rowAt house report listFor xor decimalFrom isRef isTxt textFrom readOf signedOf pointOf wholeOf fracOf judged spell frontOff backOff passesFrom placeFrom dayOf fractionOf zoneOf momentOf header bigEndian fresh advance emits nextDue firstOf secondOf kinds
+unfolding reports computes kinds
 all-reports = shown reports kinds refl

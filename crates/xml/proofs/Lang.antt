@@ -13,7 +13,8 @@ use Rattle.text.specs.Lists.{All, Begins}
 use Rattle.text_characters.specs.Pieces.{Piece, char, spell}
 use Rattle.xml.specs.House.{Quote, singleQuote, double, mark, GoodValue, IsAttrName, Attr, GoodAttrs, Tag, GoodTag, Markup, noMore, piece, emptyTag, full, declaration}
 use Rattle.xml.proofs.Runs.{cuts, brackets, GoodAfter}
-use Rattle.xml.specs.mirror.Auto.{Part, one, two, three, e0, ed, ef, efbf, f0, f4, ampersand, ampersandA, rest, Read, bad, all, more, toWord, lead, go-on, takes, At, done, start, first, before, root, declare, name, tail, gap, attr, Mode, early, colon, late, grows, goesTo, mayStop, equals, quote, value, within, slash, content, part, less, close, St, dead, at, member, after, tailStep, endStep, gapStep, equalsStep, valueNext, contentNext, push, closeStep, declareNext, next}
+use Rattle.xml.specs.mirror.Auto.{Part, one, two, three, e0, ed, ef, efbf, f0, f4, ampersand, ampersandA, rest, Read, bad, all, more, toWord, lead, go-on, takes, At, done, start, first, before, root, declare, name, tail, gap, attr}
+use Rattle.xml.specs.mirror.Auto.{Mode, early, colon, late, grows, goesTo, mayStop, equals, quote, value, within, slash, content, part, less, close, St, dead, at, member, after, tailStep, endStep, gapStep, equalsStep, valueNext, contentNext, push, closeStep, declareNext, next}
 use Rattle.xml.proofs.Basics.{member-fresh, size, many, grown, Fresh}
 use Rattle.xml.proofs.Pieces.{short, found, plain-not, plain-cuts, plain-brackets}
 
