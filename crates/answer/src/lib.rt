@@ -57,6 +57,9 @@ impl Answer {
     // The most bytes that a file or a run may have.
     pub const LIMIT: usize = 1048576;
 
+    // Where the version stands in an image, after `KTO`.
+    pub const VERSION: usize = 3;
+
     // The file is good, or an image begins the run: the image's length.
     pub fn accepted(length: usize) -> Self
         ensures { λ r. ⌜ r ≡ accepted length ⌝ }
@@ -237,7 +240,7 @@ impl Answer {
         Self {
             code: Self::WRONG_VERSION,
             row: 0,
-            place: 3,
+            place: Self::VERSION,
         }
     }
 

@@ -1,6 +1,7 @@
 // What writing answers for an item that no file may say any more, and for the file's length.
 use answer::Answer;
 use list::lookup::cell;
+use list::table::CELLS;
 use list::table::NAME;
 use list::table::NAME_END;
 use text::part::part_len;
@@ -15,7 +16,7 @@ pub fn is_gone(rows: &[u16], pool: &[u8], row: usize) -> bool
 }
 
 // What is answered for the item of that row at that place, the first that no file may say.
-pub fn refusal(rows: &[u16; 4096], pool: &[u8], row: usize, place: usize) -> Answer
+pub fn refusal(rows: &[u16; CELLS], pool: &[u8], row: usize, place: usize) -> Answer
     ensures { λ a. ⌜ a ≡ refusedBy (now (rows .entry)) (now (pool .entry)) row place ⌝ }
 {
     if is_gone(rows, pool, row) {

@@ -10,6 +10,7 @@ use Rattle.text.specs.Pasting.{pasted}
 use Rattle.text.specs.Puts.{Puts}
 use Rattle.list.specs.Listing.{Listing, size, Child, child}
 use Rattle.list.specs.Content.{Content}
+use Rattle.list.specs.tables.Columns.{CHILD}
 use Rattle.list.specs.tables.Table.{cell, listOf}
 use Rattle.list.specs.tables.Sound.{Sound}
 use Rattle.image.specs.Image.{header}
@@ -29,7 +30,7 @@ spotAt r q o = record { row = r; last = q; at = o }
 
 -- a child of a row, and after the last one (0) the first again
 abbrev pub roundIn : List ℕ → ℕ → ℕ → ℕ
-roundIn t row r = cond (eqb r 0) (cell t row 9) r
+roundIn t row r = cond (eqb r 0) (cell t row CHILD) r
 
 -- the group of this row has a child called n; its last child, 0 at first, is one of its own
 pub record Comes (t pool : List ℕ) (row last : ℕ) (n : List ℕ) : Type 0 where

@@ -30,14 +30,16 @@ ghost use Rattle.list.specs.tables.Numbers.{isGroupIn};
 ghost use Rattle.file.specs.Instance.{houseKinds};
 ghost use Rattle.file_measure.specs.Pass.{Worded, Valued, Shuts};
 ghost use Rattle.file_check.specs.Fill.{HeadPut, spotAt, roundIn, Comes, Fillable, FilledIn};
+ghost use Rattle.list.specs.tables.Columns.{KIND, DTM};
+ghost use Rattle.text.specs.Puts.{near};
 
 // `KTO`, version 2 in 16 bits, the kind byte, and the root's row byte.
 fn put_head(out: &mut [u8], kind: u8) -> usize
     ensures { λ r. ⌜ HeadPut kind (now (out .entry)) r (now (out .exit)) ⌝ }
 {
-    let head = [75, 84, 79, 0, 2, kind, 1];
-    copy(&head, 0, 7, out, 0);
-    7
+    let head = [b'K', b'T', b'O', 0, 2, kind, 1];
+    copy(&head, 0, head.len(), out, 0);
+    head.len()
 }
 
 // The place of an ENUM's word in its row's list, as one byte: how many bytes there are, 0 where it is no word of the list.
@@ -76,7 +78,7 @@ fn put_value(
     out: &mut [u8],
     at: usize,
 ) -> usize
-    requires { ⌜ (kind ≡ cell (now rows) row 2) × (kind ≤ 11) ⌝ }
+    requires { ⌜ (kind ≡ cell (now rows) row KIND) × (kind ≤ DTM) ⌝ }
     ensures { λ n. ⌜ Valued houseKinds (now (rows .entry)) (now (pool .entry)) row (slice c d (now (s .entry))) (slice a b (now (s .entry))) (now (out .entry)) at n (now (out .exit)) ⌝ }
 {
     if kind == ENUM {
@@ -132,7 +134,7 @@ fn put_leaf(
     out: &mut [u8],
     at: usize,
 ) -> usize
-    requires { ⌜ (row ≤ 255) × (at ≤ 1000000000000) × (isGroupIn (cell (now rows) row 2) ≡ false) ⌝ }
+    requires { ⌜ (row ≤ 255) × (at ≤ near) × (isGroupIn (cell (now rows) row KIND) ≡ false) ⌝ }
     ensures { λ r. ⌜ Shuts houseKinds (now (rows .entry)) (now (pool .entry)) row (slice (tag .value) (tag .quote) (now (s .entry))) (slice (tag .end) less (now (s .entry))) (now (out .entry)) at r (now (out .exit)) ⌝ }
 {
     place(out, at, row as u8);

@@ -3,7 +3,7 @@ use mathlib.Core.Path.{_≡_}
 use mathlib.Core.Logic.{_≢_}
 use mathlib.Core.List.{List, _∷_, _++_}
 use mathlib.Core.Option.{some}
-use Prim.Native.Nat.{ℕ, _+_, _%_}
+use Prim.Native.Nat.{ℕ, _+_, _%_, _^_}
 use lib.ListN.{length}
 use Rattle.text.specs.Lists.{Each}
 use Rattle.list.specs.Listing.{Listing}
@@ -33,4 +33,4 @@ Withdrawn l i = Gone l (i .0)
 
 -- "Stored images with finer fractions": a date-time with a part of a second below a thousandth
 pub data Finer (i : Item values) : Type 0 where
-  finerMoment : (y mo d h mi s u z : ℕ) → i .1 ≡ some (moment y mo d h mi s u z) → u % 1000 ≢ 0 → Finer i
+  finerMoment : (y mo d h mi s u z : ℕ) → i .1 ≡ some (moment y mo d h mi s u z) → u % 10 ^ 3 ≢ 0 → Finer i

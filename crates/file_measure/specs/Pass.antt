@@ -13,6 +13,7 @@ use Rattle.text_characters.specs.Pieces.{Spells}
 use Rattle.list.specs.Listing.{Leaf, amt, Kind, leaf, Listing, isGroup}
 use Rattle.list.specs.WellFormed.{LeafOk}
 use Rattle.list.specs.Content.{Content}
+use Rattle.list.specs.tables.Columns.{KIND, MOST}
 use Rattle.list.specs.tables.Table.{cell, placeIn, kindOf, wordsIn}
 use Rattle.list.specs.tables.Sound.{Sound}
 use Rattle.xml.specs.House.{HouseXml}
@@ -23,6 +24,7 @@ use Rattle.file_walk.specs.First.{First}
 use Rattle.file_walk.specs.Denotes.{Has}
 use Rattle.file.specs.Instance.{Kinds}
 use Rattle.file.specs.File.{imageOf}
+use Rattle.value.specs.Places.{longestValue}
 
 -- the place of the word raw in its list, as one byte: n is 1, or 0 where it has none
 pub record Worded (ws : List (List ℕ)) (raw d : List ℕ) (at n : ℕ) (d′ : List ℕ) : Type 0 where
@@ -37,7 +39,7 @@ WordSize ws raw n = (at : ℕ) → Worded ws raw [] at n []
 
 module _ (t pool : List ℕ) where
   abbrev pub kindIn : ℕ → Kind
-  kindIn r = kindOf (cell t r 2) (cell t r 3) (wordsIn t pool r)
+  kindIn r = kindOf (cell t r KIND) (cell t r MOST) (wordsIn t pool r)
 
   -- an element of row r is a leaf f with the raw text raw, which spells the characters cs; cur is the raw text of an amount's currency, w its
   -- characters
@@ -61,7 +63,7 @@ module _ (k : Kinds) where
   module _ (t pool : List ℕ) where
     -- a leaf's value: n bytes, 0 where its text spells none
     pub record Valued (row : ℕ) (cur raw d : List ℕ) (at n : ℕ) (d′ : List ℕ) : Type 0 where
-      pub most : n ≤ 65537
+      pub most : n ≤ longestValue
       pub long : length d′ ≡ length d
       pub value : (f : Leaf) (w cs : List ℕ) → Shut t pool row cur raw f w cs → (u : Option (k .types .A)) → Yields f w cs u → Puts d at (given f u) (at + n) d′
 
@@ -76,7 +78,7 @@ module _ (k : Kinds) where
 
     -- at the end of an element: of a leaf its item, of a group nothing
     pub record Shuts (row : ℕ) (cur raw d : List ℕ) (at r : ℕ) (d′ : List ℕ) : Type 0 where
-      pub most : r ≤ at + 65538
+      pub most : r ≤ at + (1 + longestValue)
       pub long : length d′ ≡ length d
       pub group : isGroup (kindIn t pool row) ≡ true → Puts d at [] r d′
       pub leaf : (f : Leaf) (w cs : List ℕ) → Shut t pool row cur raw f w cs → (u : Option (k .types .A)) → Yields f w cs u → ItemPut row f u d at r d′

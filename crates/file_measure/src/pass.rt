@@ -2,6 +2,7 @@
 
 use answer::Answer;
 use file_step::step::step;
+use file_walk::level::STACK;
 use file_walk::step::Here;
 use file_walk::step::Met;
 use file_walk::step::Turn;
@@ -21,10 +22,12 @@ ghost use Rattle.file_walk.specs.mirror.Begin.{beginIn};
 ghost use Rattle.file.specs.Instance.{houseKinds};
 ghost use Rattle.file_measure.specs.Measured.{Measured};
 ghost use Rattle.file_measure.specs.Pass.{WordSize, Sizes, Shuts, Opens, Ready};
+ghost use Rattle.list.specs.tables.Columns.{KIND, DTM};
+ghost use Rattle.text.specs.Puts.{near};
 
 // The place after the item of a group of this row, which is its row byte; of a leaf the same place.
 fn group_end(rows: &[u16], row: usize, at: usize) -> usize
-    requires { ⌜ at ≤ 1000000000000 ⌝ }
+    requires { ⌜ at ≤ near ⌝ }
     ensures { λ r. ⌜ Opens houseKinds (now (rows .entry)) row [] at r [] ⌝ }
 {
     if is_group(cell(rows, row, KIND)) {
@@ -53,7 +56,7 @@ fn value_size(
     a: usize,
     b: usize,
 ) -> usize
-    requires { ⌜ (kind ≡ cell (now rows) row 2) × (kind ≤ 11) ⌝ }
+    requires { ⌜ (kind ≡ cell (now rows) row KIND) × (kind ≤ DTM) ⌝ }
     ensures { λ n. ⌜ Sizes houseKinds (now (rows .entry)) (now (pool .entry)) row (slice a b (now (s .entry))) n ⌝ }
 {
     if kind == ENUM {
@@ -64,7 +67,7 @@ fn value_size(
 
 // The place after the item of a leaf that ends at less, 0 where its text spells no value; of a group the same place.
 fn leaf_end(rows: &[u16], pool: &[u8], s: &[u8], here: Here, less: usize, at: usize) -> usize
-    requires { ⌜ at ≤ 1000000000000 ⌝ }
+    requires { ⌜ at ≤ near ⌝ }
     ensures { λ r. ⌜ Shuts houseKinds (now (rows .entry)) (now (pool .entry)) (here .level .row) (slice (here .value) (here .quote) (now (s .entry))) (slice (here .at) less (now (s .entry))) [] at r [] ⌝ }
 {
     let row = here.level.row;
@@ -96,7 +99,7 @@ pub(crate) fn found(rows: &[u16], pool: &[u8], s: &[u8], first: Turn) -> Answer
         Met::Lost => return Answer::not_house_xml(first.less),
         Met::Opened => {}
     }
-    let mut stack = [0usize; 80];
+    let mut stack = [0usize; STACK];
     let mut here = first.here;
     let mut at = HEAD;
     loop {

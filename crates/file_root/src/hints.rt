@@ -21,21 +21,21 @@ fn is_xmlns(s: &[u8], a: usize, b: usize) -> bool
     ensures { λ r. ⌜ r ≡ named (ascii "xmlns") (now (s .entry)) a b ⌝ }
 {
     let word = XMLNS;
-    same_part(&word, 0, 5, s, a, b)
+    same_part(&word, 0, word.len(), s, a, b)
 }
 
 fn is_prefix(s: &[u8], a: usize, b: usize) -> bool
     ensures { λ r. ⌜ r ≡ named (ascii "xmlns:xsi") (now (s .entry)) a b ⌝ }
 {
     let word = PREFIX;
-    same_part(&word, 0, 9, s, a, b)
+    same_part(&word, 0, word.len(), s, a, b)
 }
 
 fn is_location(s: &[u8], a: usize, b: usize) -> bool
     ensures { λ r. ⌜ r ≡ named (ascii "xsi:schemaLocation") (now (s .entry)) a b ⌝ }
 {
     let word = LOCATION;
-    same_part(&word, 0, 18, s, a, b)
+    same_part(&word, 0, word.len(), s, a, b)
 }
 
 // Whether an attribute is xmlns with the list's namespace, where none was before it.

@@ -1,21 +1,28 @@
 // The stack of the open elements around the innermost, five numbers for each.
 
+use file_walk::level::FIELDS;
 use file_walk::level::Level;
+use file_walk::level::STACK;
 ghost use mathlib.Core.Path.{_≡_};
 ghost use Prim.Native.Nat.{_<_};
 ghost use Rattle.file_walk.specs.mirror.Tables.{bit, levelAt, pushed};
 
+// Where the fourth and the fifth of an element's numbers stand, after its first.
+const DUE: usize = 3;
+
+const ODD: usize = DUE + 1;
+
 // The n-th of the levels on the stack, from the root's.
-pub(crate) fn level_at(stack: &[usize; 80], n: usize) -> Level
+pub(crate) fn level_at(stack: &[usize; STACK], n: usize) -> Level
     requires { ⌜ n < 16 ⌝ }
     ensures { λ r. ⌜ r ≡ levelAt (now (stack .entry)) n ⌝ }
 {
-    let at = 5 * n;
+    let at = FIELDS * n;
     let row = stack[at];
     let place = stack[at + 1];
     let last = stack[at + 2];
-    let due = stack[at + 3];
-    let odd = stack[at + 4];
+    let due = stack[at + DUE];
+    let odd = stack[at + ODD];
     Level {
         row,
         place,
@@ -32,14 +39,14 @@ fn bit(b: bool) -> usize
 }
 
 // A level becomes the n-th.
-pub(crate) fn push(stack: &mut [usize; 80], n: usize, lv: Level)
+pub(crate) fn push(stack: &mut [usize; STACK], n: usize, lv: Level)
     requires { ⌜ n < 16 ⌝ }
     ensures { λ r. ⌜ now (stack .exit) ≡ pushed (now (stack .entry)) n lv ⌝ }
 {
-    let at = 5 * n;
+    let at = FIELDS * n;
     stack[at] = lv.row;
     stack[at + 1] = lv.place;
     stack[at + 2] = lv.last;
-    stack[at + 3] = lv.due;
-    stack[at + 4] = bit(lv.odd);
+    stack[at + DUE] = lv.due;
+    stack[at + ODD] = bit(lv.odd);
 }

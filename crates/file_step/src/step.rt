@@ -9,6 +9,7 @@ use file_tag::tag::group_end;
 use file_tag::tag::opening;
 use file_walk::found::Found;
 use file_walk::level::Level;
+use file_walk::level::STACK;
 use file_walk::level::fresh;
 use file_walk::step::Here;
 use file_walk::step::Met;
@@ -19,6 +20,7 @@ use list::kind::is_group;
 use list::lookup::cell;
 use list::lookup::child;
 use list::table::KIND;
+use list::table::MOST_LEVELS;
 use text::span::blanks_end;
 use xml_cursor::token::next;
 use xml_tags::attribute::Attribute;
@@ -26,6 +28,9 @@ use xml_tags::token::Kind;
 ghost use mathlib.Core.Path.{_≡_};
 ghost use Prim.Native.Nat.{_<_};
 ghost use Rattle.file_walk.specs.mirror.Stride.{textFrom, inkFrom, endIn, outer, closedIn, rowIn, enteredIn, belowIn, vacantIn, numberOf, stepIn, stackIn};
+
+// The number of the innermost level that there may be, from 0.
+const LAST_LEVEL: usize = MOST_LEVELS - 1;
 
 // From where a text is looked at. In a group it is nearly always blanks, so that these are passed once and the tag stands there.
 fn text_from(s: &[u8], group: bool, at: usize) -> usize
@@ -61,7 +66,7 @@ fn end_of(rows: &[u16], group: bool, lv: Level, at: usize, less: usize) -> Found
 }
 
 // The n-th element on the stack is the innermost again, after a tag that ends at a place.
-fn around(stack: &[usize; 80], n: usize, end: usize) -> Here
+fn around(stack: &[usize; STACK], n: usize, end: usize) -> Here
     requires { ⌜ n < 16 ⌝ }
     ensures { λ r. ⌜ r ≡ outer (now (stack .entry)) n end ⌝ }
 {
@@ -79,7 +84,7 @@ fn around(stack: &[usize; 80], n: usize, end: usize) -> Here
 fn closed(
     rows: &[u16],
     group: bool,
-    stack: &[usize; 80],
+    stack: &[usize; STACK],
     here: Here,
     less: usize,
     end: usize,
@@ -99,7 +104,7 @@ fn closed(
             less,
         };
     }
-    if 16 < depth {
+    if MOST_LEVELS < depth {
         return lost(here, less);
     }
     let outer = around(stack, depth - 1, end);
@@ -123,7 +128,7 @@ fn row_of(rows: &[u16], pool: &[u8], s: &[u8], lv: Level, less: usize, stop: usi
 // The opening tag of an element that goes on.
 fn entered(
     rows: &[u16],
-    stack: &mut [usize; 80],
+    stack: &mut [usize; STACK],
     here: Here,
     r: usize,
     ok: bool,
@@ -139,7 +144,7 @@ fn entered(
         Found::Fine => {}
     }
     let n = here.depth;
-    if 15 < n {
+    if LAST_LEVEL < n {
         return lost(here, less);
     }
     let around = advance(rows, here.level, r);
@@ -188,7 +193,7 @@ fn number(kind: Kind) -> u8
 }
 
 // One step: the text after `here`, and the tag after it. Bytes that end, and levels beyond 16, are no house XML.
-pub fn step(rows: &[u16], pool: &[u8], s: &[u8], stack: &mut [usize; 80], here: Here) -> Turn
+pub fn step(rows: &[u16], pool: &[u8], s: &[u8], stack: &mut [usize; STACK], here: Here) -> Turn
     ensures { λ x. ⌜ (x ≡ stepIn (now (rows .entry)) (now (pool .entry)) (now (s .entry)) (now (stack .entry)) here) × (now (stack .exit) ≡ stackIn (now (rows .entry)) (now (pool .entry)) (now (s .entry)) (now (stack .entry)) here) ⌝ }
 {
     let lv = here.level;

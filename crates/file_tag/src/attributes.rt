@@ -18,7 +18,7 @@ fn names_ccy(s: &[u8], a: usize, b: usize) -> bool
     ensures { λ r. ⌜ r ≡ named (ascii "Ccy") (now (s .entry)) a b ⌝ }
 {
     let word = CCY;
-    same_part(&word, 0, 3, s, a, b)
+    same_part(&word, 0, word.len(), s, a, b)
 }
 
 // Whether a tag's attributes are exactly those of row r's type.

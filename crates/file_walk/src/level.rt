@@ -1,6 +1,7 @@
 // An open element.
 
 use list::lookup::due_after;
+use list::table::MOST_LEVELS;
 ghost use mathlib.Core.Path.{_≡_};
 ghost use Rattle.file_walk.specs.mirror.Tables.{freshIn};
 
@@ -13,6 +14,11 @@ pub struct Level {
     pub due: usize,
     pub odd: bool,
 }
+
+// How many numbers stand for one on a stack, and those of as many as may be open.
+pub const FIELDS: usize = 5;
+
+pub const STACK: usize = FIELDS * MOST_LEVELS;
 
 // An element that no child has come in yet.
 pub fn fresh(rows: &[u16], row: usize, place: usize) -> Level

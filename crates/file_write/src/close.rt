@@ -3,7 +3,7 @@ use crate::put::put_close;
 use list::lookup::cell;
 use list::table::PARENT;
 ghost use Rattle.list.specs.tables.Table.{listOf};
-ghost use Rattle.file_letter.specs.mirror.Tell.{closes};
+ghost use Rattle.file_letter.specs.mirror.Tell.{closes, rungs};
 ghost use Rattle.text.specs.Puts.{Puts};
 ghost use Rattle.file_write.specs.mirror.Tags.{Opened};
 
@@ -17,7 +17,7 @@ pub(crate) fn close_to(
     at: usize,
 ) -> usize
     requires { ⌜ Opened (now rows) (now pool) from at ⌝ }
-    ensures { λ r. ⌜ Puts (now (out .entry)) at (closes (listOf (now (rows .entry)) (now (pool .entry))) 17 from p) r (now (out .exit)) ⌝ }
+    ensures { λ r. ⌜ Puts (now (out .entry)) at (closes (listOf (now (rows .entry)) (now (pool .entry))) rungs from p) r (now (out .exit)) ⌝ }
 {
     let mut g = from;
     let mut end = at;

@@ -6,14 +6,28 @@ use crate::put::put_open;
 use crate::put::put_root;
 use list::kind::is_group;
 use list::lookup::cell;
+use list::table::AMT;
+use list::table::BOOL;
+use list::table::CCY;
+use list::table::CELLS;
+use list::table::DATE;
+use list::table::DTM;
+use list::table::ENUM;
 use list::table::KIND;
+use list::table::NUM;
 use list::table::PARENT;
+use list::table::REF;
 use text_bytes::number::get16;
+use value::packed::AMOUNT_SIZE;
+use value::packed::DATE_SIZE;
+use value::packed::MOMENT_SIZE;
+use value::packed::NUMBER_SIZE;
 ghost use mathlib.Core.Path.{_≡_};
 ghost use Prim.Native.Nat.{_+_, _≤_};
 ghost use lib.ListN.{drop};
 ghost use Rattle.value.specs.mirror.Ends.{width};
 ghost use Rattle.file_write.specs.mirror.Emit.{Held, Emits};
+ghost use Rattle.answer.specs.Table.{limit};
 
 pub(crate) fn wide(x: u8) -> usize
     ensures { λ r. ⌜ r ≡ x ⌝ }
@@ -24,16 +38,16 @@ pub(crate) fn wide(x: u8) -> usize
 // The place after a value of a kind that stands in the run from i on. It was judged when the run was read, so that its length is all that is
 // asked.
 pub(crate) fn after(kind: usize, run: &[u8], i: usize) -> usize
-    requires { ⌜ i ≤ 1048576 ⌝ }
+    requires { ⌜ i ≤ limit ⌝ }
     ensures { λ r. ⌜ r ≡ i + width kind (drop i (now (run .entry))) ⌝ }
 {
     match kind {
-        2..=5 => i + 2 + (get16(run, i) as usize),
-        6..=7 => i + 1,
-        8 => i + 8,
-        9 => i + 12,
-        10 => i + 4,
-        11 => i + 13,
+        REF..=CCY => i + 2 + (get16(run, i) as usize),
+        ENUM..=BOOL => i + 1,
+        NUM => i + NUMBER_SIZE,
+        AMT => i + AMOUNT_SIZE,
+        DATE => i + DATE_SIZE,
+        DTM => i + MOMENT_SIZE,
         _ => i,
     }
 }
@@ -41,7 +55,7 @@ pub(crate) fn after(kind: usize, run: &[u8], i: usize) -> usize
 // From the root's row byte on, into a buffer that may be too short: the file's length. No sum overflows: an item tells at most 3,000,000
 // bytes, and a run has at most 1,048,576.
 pub(crate) fn emit(
-    rows: &[u16; 4096],
+    rows: &[u16; CELLS],
     pool: &[u8],
     run: &[u8],
     from: usize,

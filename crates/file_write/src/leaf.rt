@@ -12,9 +12,10 @@ ghost use mathlib.Core.List.{_++_};
 ghost use Prim.Native.Nat.{_≤_};
 ghost use lib.ListN.{length};
 ghost use Rattle.text.specs.Bytes.{ascii};
-ghost use Rattle.text.specs.Puts.{Puts};
-ghost use Rattle.file_write.specs.mirror.Tags.{startIn};
+ghost use Rattle.text.specs.Puts.{Puts, far};
+ghost use Rattle.file_write.specs.mirror.Tags.{startIn, longestPool};
 ghost use Rattle.file_write.specs.mirror.Emit.{coinAt, LeafPut};
+ghost use Rattle.answer.specs.Table.{limit};
 
 // The opening tag; an amount begins with the three bytes of its currency.
 fn open_leaf(
@@ -26,7 +27,7 @@ fn open_leaf(
     out: &mut [u8],
     at: usize,
 ) -> usize
-    requires { ⌜ (length (now pool) ≤ 65535) × (length (now run) ≤ 1048576) × (i ≤ 1048576) × (at ≤ 10000000000000) ⌝ }
+    requires { ⌜ (length (now pool) ≤ longestPool) × (length (now run) ≤ limit) × (i ≤ limit) × (at ≤ far) ⌝ }
     ensures { λ r. ⌜ Puts (now (out .entry)) at (startIn (now (rows .entry)) (now (pool .entry)) x ++ (coinAt (now (rows .entry)) (now (run .entry)) x i ++ ascii ">")) r (now (out .exit)) ⌝ }
 {
     if cell(rows, x, KIND) != AMT {
@@ -48,7 +49,7 @@ pub(crate) fn put_leaf(
     out: &mut [u8],
     at: usize,
 ) -> usize
-    requires { ⌜ (length (now pool) ≤ 65535) × (length (now run) ≤ 1048576) × (i ≤ 1048576) × (at ≤ 10000000000000) ⌝ }
+    requires { ⌜ (length (now pool) ≤ longestPool) × (length (now run) ≤ limit) × (i ≤ limit) × (at ≤ far) ⌝ }
     ensures { λ r. ⌜ LeafPut (now (rows .entry)) (now (pool .entry)) (now (run .entry)) x i (now (out .entry)) at r (now (out .exit)) ⌝ }
 {
     let open = open_leaf(rows, pool, run, x, i, out, at);

@@ -6,6 +6,7 @@ use file_answers::refusal;
 use file_answers::sized;
 use image_first::reading;
 use list::lay::lay;
+use list::table::CELLS;
 use list_house::by_byte::rows_of;
 use list_house::tables::pool;
 use stale::first_stale;
@@ -26,7 +27,7 @@ pub fn write(run: &[u8], out: &mut [u8]) -> Answer
         return read.answer;
     }
     let rows = rows_of(read.kind);
-    let mut table = [0u16; 4096];
+    let mut table = [0u16; CELLS];
     lay(&rows, &mut table);
     let pool = pool();
     let stale = first_stale(&table, &pool, run, read.from);

@@ -7,16 +7,23 @@ use list::table::SPACE;
 use list::table::SPACE_END;
 use text::part::part_len;
 use text_bytes::number::copy;
+use value::packed::CURRENCY_SIZE;
 ghost use Prim.Native.Nat.{_+_, _≤_};
 ghost use lib.ListN.{length};
 ghost use lib.Seq.{slice};
 ghost use Rattle.list.specs.tables.Table.{nameIn};
-ghost use Rattle.text.specs.Puts.{Puts};
-ghost use Rattle.file_write.specs.mirror.Tags.{startIn, openIn, shutIn, rootIn, coinIn};
+ghost use Rattle.text.specs.Puts.{Puts, farther, farthest};
+ghost use Rattle.file_write.specs.mirror.Tags.{startIn, openIn, shutIn, rootIn, coinIn, longestPool};
+ghost use Rattle.answer.specs.Table.{limit};
+
+// What stands before the namespace of the root, and before an amount's currency.
+const XMLNS: [u8; 8] = *b" xmlns=\"";
+
+const COIN: [u8; 6] = *b" Ccy=\"";
 
 // A part of a slice.
 fn put_part(src: &[u8], a: usize, b: usize, out: &mut [u8], at: usize) -> usize
-    requires { ⌜ (length (now src) ≤ 1048576) × (at ≤ 100000000000000) ⌝ }
+    requires { ⌜ (length (now src) ≤ limit) × (at ≤ farthest) ⌝ }
     ensures { λ r. ⌜ Puts (now (out .entry)) at (slice a b (now (src .entry))) r (now (out .exit)) ⌝ }
 {
     copy(src, a, b, out, at);
@@ -25,7 +32,7 @@ fn put_part(src: &[u8], a: usize, b: usize, out: &mut [u8], at: usize) -> usize
 
 // A row's name.
 fn put_name(rows: &[u16], pool: &[u8], r: usize, out: &mut [u8], at: usize) -> usize
-    requires { ⌜ (length (now pool) ≤ 65535) × (at ≤ 100000000000000) ⌝ }
+    requires { ⌜ (length (now pool) ≤ longestPool) × (at ≤ farthest) ⌝ }
     ensures { λ q. ⌜ Puts (now (out .entry)) at (nameIn (now (rows .entry)) (now (pool .entry)) r) q (now (out .exit)) ⌝ }
 {
     put_part(pool, cell(rows, r, NAME), cell(rows, r, NAME_END), out, at)
@@ -33,7 +40,7 @@ fn put_name(rows: &[u16], pool: &[u8], r: usize, out: &mut [u8], at: usize) -> u
 
 // `<` and a row's name.
 pub(crate) fn put_start(rows: &[u16], pool: &[u8], r: usize, out: &mut [u8], at: usize) -> usize
-    requires { ⌜ (length (now pool) ≤ 65535) × (at ≤ 90000000000000) ⌝ }
+    requires { ⌜ (length (now pool) ≤ longestPool) × (at ≤ farther) ⌝ }
     ensures { λ q. ⌜ Puts (now (out .entry)) at (startIn (now (rows .entry)) (now (pool .entry)) r) q (now (out .exit)) ⌝ }
 {
     copy(b"<", 0, 1, out, at);
@@ -42,7 +49,7 @@ pub(crate) fn put_start(rows: &[u16], pool: &[u8], r: usize, out: &mut [u8], at:
 
 // The opening tag of a row without attributes.
 pub(crate) fn put_open(rows: &[u16], pool: &[u8], r: usize, out: &mut [u8], at: usize) -> usize
-    requires { ⌜ (length (now pool) ≤ 65535) × (at ≤ 90000000000000) ⌝ }
+    requires { ⌜ (length (now pool) ≤ longestPool) × (at ≤ farther) ⌝ }
     ensures { λ q. ⌜ Puts (now (out .entry)) at (openIn (now (rows .entry)) (now (pool .entry)) r) q (now (out .exit)) ⌝ }
 {
     let name = put_start(rows, pool, r, out, at);
@@ -52,7 +59,7 @@ pub(crate) fn put_open(rows: &[u16], pool: &[u8], r: usize, out: &mut [u8], at: 
 
 // The closing tag of a row.
 pub(crate) fn put_close(rows: &[u16], pool: &[u8], r: usize, out: &mut [u8], at: usize) -> usize
-    requires { ⌜ (length (now pool) ≤ 65535) × (at ≤ 90000000000000) ⌝ }
+    requires { ⌜ (length (now pool) ≤ longestPool) × (at ≤ farther) ⌝ }
     ensures { λ q. ⌜ Puts (now (out .entry)) at (shutIn (now (rows .entry)) (now (pool .entry)) r) q (now (out .exit)) ⌝ }
 {
     copy(b"</", 0, 2, out, at);
@@ -63,17 +70,17 @@ pub(crate) fn put_close(rows: &[u16], pool: &[u8], r: usize, out: &mut [u8], at:
 
 // The root's opening tag, with the list's namespace, at the buffer's start.
 pub(crate) fn put_root(rows: &[u16], pool: &[u8], out: &mut [u8]) -> usize
-    requires { ⌜ length (now pool) ≤ 65535 ⌝ }
+    requires { ⌜ length (now pool) ≤ longestPool ⌝ }
     ensures { λ q. ⌜ Puts (now (out .entry)) 0 (rootIn (now (rows .entry)) (now (pool .entry))) q (now (out .exit)) ⌝ }
 {
     let name = put_start(rows, pool, 1, out, 0);
-    copy(b" xmlns=\"", 0, 8, out, name);
+    copy(&XMLNS, 0, XMLNS.len(), out, name);
     let end = put_part(
         pool,
         cell(rows, 0, SPACE),
         cell(rows, 0, SPACE_END),
         out,
-        name + 8,
+        name + XMLNS.len(),
     );
     copy(b"\">", 0, 2, out, end);
     end + 2
@@ -81,11 +88,11 @@ pub(crate) fn put_root(rows: &[u16], pool: &[u8], out: &mut [u8]) -> usize
 
 // The attribute of an amount: its currency is the three bytes of the run from i on.
 pub(crate) fn put_coin(run: &[u8], i: usize, out: &mut [u8], at: usize) -> usize
-    requires { ⌜ (length (now run) ≤ 1048576) × (i ≤ 1048576) × (at ≤ 90000000000000) ⌝ }
+    requires { ⌜ (length (now run) ≤ limit) × (i ≤ limit) × (at ≤ farther) ⌝ }
     ensures { λ q. ⌜ Puts (now (out .entry)) at (coinIn (slice i (i + 3) (now (run .entry)))) q (now (out .exit)) ⌝ }
 {
-    copy(b" Ccy=\"", 0, 6, out, at);
-    let end = put_part(run, i, i + 3, out, at + 6);
+    copy(&COIN, 0, COIN.len(), out, at);
+    let end = put_part(run, i, i + CURRENCY_SIZE, out, at + COIN.len());
     copy(b"\"", 0, 1, out, end);
     end + 1
 }

@@ -4,28 +4,32 @@ use crate::emit::wide;
 use file_answers::is_gone;
 use list::kind::is_group;
 use list::lookup::cell;
+use list::table::CELLS;
 use list::table::DTM;
 use list::table::KIND;
 use text_bytes::number::get32;
+use value::bounds::THOUSANDTH;
+use value::packed::MICROS;
 ghost use mathlib.Core.Path.{_≡_};
-ghost use Prim.Native.Nat.{_≤_};
+ghost use Prim.Native.Nat.{_≤_, _<_};
 ghost use Rattle.file_write.specs.mirror.Stale.{finerBy, notedBy, Searched, Stale};
 ghost use lib.ListN.{drop};
+ghost use Rattle.answer.specs.Table.{limit};
 
-// A date-time, whose bytes stand from i on, with a part of a second below a thousandth: its microseconds have the bytes 7 to 10.
+// A date-time, whose bytes stand from i on, with a part of a second below a thousandth.
 fn is_finer(kind: usize, run: &[u8], i: usize) -> bool
-    requires { ⌜ i ≤ 1048576 ⌝ }
+    requires { ⌜ i ≤ limit ⌝ }
     ensures { λ r. ⌜ r ≡ finerBy kind (drop i (now (run .entry))) ⌝ }
 {
     if kind != DTM {
         return false;
     }
-    get32(run, i + 7) % 1000 != 0
+    get32(run, i + MICROS) % THOUSANDTH != 0
 }
 
 // The place of the first finer date-time: the one that was noted before, or else that of the leaf at i, if it is one.
 fn noted(before: usize, kind: usize, run: &[u8], i: usize) -> usize
-    requires { ⌜ i ≤ 1048575 ⌝ }
+    requires { ⌜ i < limit ⌝ }
     ensures { λ r. ⌜ r ≡ notedBy before kind (now (run .entry)) i ⌝ }
 {
     if before != 0 {
@@ -39,7 +43,7 @@ fn noted(before: usize, kind: usize, run: &[u8], i: usize) -> usize
 
 // Its place, 0 where there is none: items stand after a header. The root is a group with a name, so that the second item is the first to be
 // asked. A row that is gone ends the search: it comes before a finer date-time, wherever that stands.
-pub(crate) fn first_stale(rows: &[u16; 4096], pool: &[u8], run: &[u8], from: usize) -> usize
+pub(crate) fn first_stale(rows: &[u16; CELLS], pool: &[u8], run: &[u8], from: usize) -> usize
     requires { ⌜ Searched (now rows) (now pool) (now run) from ⌝ }
     ensures { λ r. ⌜ Stale (now (rows .entry)) (now (pool .entry)) (now (run .entry)) from r ⌝ }
 {

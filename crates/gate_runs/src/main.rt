@@ -9,6 +9,14 @@ use libc::STDIN_FILENO;
 use libc::STDOUT_FILENO;
 ghost use Prim.Native.Nat.{_<_};
 
+// How many bytes stand before a run.
+const HEAD: usize = 13;
+
+// What the third and the fourth byte of a number count.
+const THIRD: usize = 256 * 256;
+
+const FOURTH: usize = 256 * THIRD;
+
 fn wide(x: u8) -> usize
     ensures { λ r. ⌜ r < 256 ⌝ }
 {
@@ -19,7 +27,7 @@ fn wide(x: u8) -> usize
 fn number(a: u8, b: u8, c: u8, d: u8) -> usize
     ensures { λ r. ⌜ r < 4294967296 ⌝ }
 {
-    wide(a) + 256 * wide(b) + 65536 * wide(c) + 16777216 * wide(d)
+    wide(a) + 256 * wide(b) + THIRD * wide(c) + FOURTH * wide(d)
 }
 
 fn write_answer(a: Answer) {
@@ -65,8 +73,8 @@ fn fill_run(what: u8, row: usize, n: usize, run: &mut [u8]) -> bool {
 
 // The next run; false where there is none, or a longer one than the buffer.
 fn next_run() -> bool {
-    let mut head = [0u8; 13];
-    if io::read_full(STDIN_FILENO, &mut head) < 13 {
+    let mut head = [0u8; HEAD];
+    if io::read_full(STDIN_FILENO, &mut head) < HEAD {
         return false;
     }
     let row = number(head[1], head[2], head[3], head[4]);

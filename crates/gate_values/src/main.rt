@@ -3,12 +3,34 @@
 // parameter is TXTk's k, and picks the words of an ENUM, those of a report after those of a statement. The answers that it is held to were computed by another program.
 use libc::STDIN_FILENO;
 use libc::STDOUT_FILENO;
+use list::table::ENUM;
+use list::table::MOST_WORDS;
 use list::word::word_place;
 use list_house::by_byte::REPORT;
 use list_house::by_byte::rows_of;
+use text::width::WIDTH_16;
 use text_bytes::number::get16;
 use value_kinds::write::write;
 ghost use Prim.Native.Nat.{_<_};
+
+// Rows that have words: the code of a balance, debit or credit, the status of an entry.
+const BALANCE: usize = 18;
+
+const SIDE: usize = 20;
+
+const STATUS: usize = 28;
+
+// The parameter of a report's balances.
+const REPORT_BALANCE: u8 = 3;
+
+const ENUM_KIND: u8 = ENUM as u8;
+
+// Where the length of the text stands in a case, and the bytes after it.
+const TEXT: usize = 2 + WIDTH_16;
+
+const HEAD: usize = TEXT + WIDTH_16;
+
+const BASE: u8 = 16;
 
 fn digit(n: u8) -> u8 {
     match n {
@@ -42,7 +64,7 @@ fn write_answer(bytes: &[u8], n: usize) {
             break;
         }
         let b = bytes[i];
-        let pair = [digit(b / 16), digit(b % 16)];
+        let pair = [digit(b / BASE), digit(b % BASE)];
         io::write_all(STDOUT_FILENO, &pair);
         i += 1;
     }
@@ -60,15 +82,15 @@ fn words_list(parameter: u8) -> usize {
 // A row of that list that has the words.
 fn words_row(parameter: u8) -> usize {
     match parameter {
-        0 | 3 => 18,
-        1 => 20,
-        _ => 28,
+        0 | REPORT_BALANCE => BALANCE,
+        1 => SIDE,
+        _ => STATUS,
     }
 }
 
 // A word's place fits in a byte; anything else would show as a wrong answer.
 fn low(n: usize) -> u8 {
-    if 255 < n {
+    if MOST_WORDS < n {
         return 0;
     }
     n as u8
@@ -89,7 +111,7 @@ fn judge_word(parameter: u8, cases: &[u8], start: usize, end: usize) {
 
 // The text stands from start up to end, its currency from `from` up to start.
 fn judge(kind: u8, parameter: u8, cases: &[u8], from: usize, start: usize, end: usize) {
-    if kind == 6 {
+    if kind == ENUM_KIND {
         judge_word(parameter, cases, start, end);
         return;
     }
@@ -117,12 +139,12 @@ fn wide(x: u16) -> usize
 fn judge_all(cases: &[u8]) {
     let mut i = 0;
     while i < cases.len() {
-        if cases.len() - i < 6 {
+        if cases.len() - i < HEAD {
             return;
         }
-        let from = i + 6;
+        let from = i + HEAD;
         let start = from + wide(get16(cases, i + 2));
-        let n = wide(get16(cases, i + 4));
+        let n = wide(get16(cases, i + TEXT));
         if cases.len() < start {
             return;
         }

@@ -7,6 +7,7 @@ use image_reading::front::Reading;
 use image_reading::front::front;
 use image_reading::front::refused;
 use list::lay::lay;
+use list::table::CELLS;
 use list::table::REF;
 use list_house::by_byte::kept_rows_of;
 use list_house::kinds::kind;
@@ -15,11 +16,12 @@ ghost use Rattle.list.specs.tables.Laid.{zeros, laid};
 ghost use Rattle.list_house.specs.mirror.Rows.{keptRows};
 ghost use Rattle.image_reading.specs.Reads.{HouseReads, HouseAnswers, HousePicked};
 ghost use Rattle.image_reading.specs.Forms.{Begun};
+ghost use Rattle.list.specs.tables.Columns.{CELLS};
 
 // Reads it, over a table that is lent as zeros and is, where an image is accepted, its list's from then on: who goes on in that image
 // need not lay it again.
-fn begun(run: &[u8], table: &mut [u16; 4096]) -> Reading
-    requires { ⌜ now table ≡ zeros 4096 ⌝ }
+fn begun(run: &[u8], table: &mut [u16; CELLS]) -> Reading
+    requires { ⌜ now table ≡ zeros CELLS ⌝ }
     ensures { λ r. ⌜ Begun (now (run .entry)) r × (r .answer .code ≡ 0 → now (table .exit) ≡ laid (keptRows (r .kind))) ⌝ }
 {
     let front = front(run);
@@ -46,7 +48,7 @@ fn begun(run: &[u8], table: &mut [u16; 4096]) -> Reading
 pub fn reading(run: &[u8]) -> Reading
     ensures { λ r. ⌜ Begun (now (run .entry)) r ⌝ }
 {
-    let mut table = [0u16; 4096];
+    let mut table = [0u16; CELLS];
     begun(run, &mut table)
 }
 
@@ -62,7 +64,7 @@ pub fn read(run: &[u8]) -> Answer
 pub fn pick(run: &[u8], row: usize, n: usize) -> Answer
     ensures { λ a. ⌜ HouseAnswers (now (run .entry)) row n a ⌝ }
 {
-    let mut table = [0u16; 4096];
+    let mut table = [0u16; CELLS];
     let r = begun(run, &mut table);
     if r.answer.code != Answer::ACCEPTED {
         return r.answer;
@@ -77,7 +79,7 @@ pub fn pick(run: &[u8], row: usize, n: usize) -> Answer
 pub fn picked<'a>(run: &'a [u8], row: usize, n: usize) -> &'a [u8]
     ensures { λ s. ⌜ HousePicked (run .entry) row n s ⌝ }
 {
-    let mut table = [0u16; 4096];
+    let mut table = [0u16; CELLS];
     let r = begun(run, &mut table);
     if r.answer.code != Answer::ACCEPTED {
         return &run[0..0];

@@ -2,14 +2,17 @@
 // open groups are the last item's ancestors, so that each level's last child so far is the ancestor on it.
 use list::kind::is_group;
 use list::lookup::cell;
+use list::table::ANY;
 use list::table::COUNT;
 use list::table::DUE_CHILD;
 use list::table::DUE_SIBLING;
 use list::table::KIND;
 use list::table::MATE;
+use list::table::MOST_LEVELS;
 use list::table::PAIR;
 use list::table::PARENT;
 use list::table::SIZE;
+use list::table::SOME;
 ghost use mathlib.Core.Path.{_≡_};
 ghost use Rattle.image.specs.mirror.Step.{isLeaf, again, owed, before, mated, inOrder, beside, inside, climbs, follows, rests, ended};
 
@@ -25,10 +28,10 @@ fn again(rows: &[u16], r: usize) -> bool
     ensures { λ b. ⌜ b ≡ again (now (rows .entry)) r ⌝ }
 {
     let count = cell(rows, r, COUNT);
-    if count < 2 {
+    if count < SOME {
         return false;
     }
-    count <= 3
+    count <= ANY
 }
 
 // The lowest sibling due after q, 0 where none is. A rule's two rows are neighbours, so its second row comes before any required one.
@@ -106,7 +109,7 @@ fn climbs(rows: &[u16], from: usize, x: usize) -> bool
 {
     let parent = cell(rows, x, PARENT);
     let mut q = from;
-    let mut levels: usize = 16;
+    let mut levels: usize = MOST_LEVELS;
     while 0 < levels {
         if q <= 1 {
             return false;
@@ -145,7 +148,7 @@ fn rests(rows: &[u16], from: usize) -> bool
     ensures { λ b. ⌜ b ≡ rests (now (rows .entry)) 16 from ⌝ }
 {
     let mut q = from;
-    let mut levels: usize = 16;
+    let mut levels: usize = MOST_LEVELS;
     while 0 < levels {
         if q <= 1 {
             return true;

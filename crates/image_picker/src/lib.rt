@@ -3,6 +3,8 @@ use answer::Answer;
 use image_order::is_leaf;
 use image_reader::item_end;
 use list::lookup::cell;
+use list::table::CCY;
+use list::table::CELLS;
 use list::table::KIND;
 ghost use mathlib.Core.Path.{_≡_};
 ghost use Rattle.image.specs.mirror.Ends.{itemEnd};
@@ -20,14 +22,14 @@ fn wide(x: u8) -> usize
 pub fn head(rows: &[u16], r: usize) -> usize
     ensures { λ n. ⌜ n ≡ headOf (now (rows .entry)) r ⌝ }
 {
-    if cell(rows, r, KIND) <= 5 {
+    if cell(rows, r, KIND) <= CCY {
         return 2;
     }
     0
 }
 
 // Where the value of the n-th leaf of `row` stands, after its row byte; 0 where there is none.
-fn find(rows: &[u16; 4096], run: &[u8], from: usize, row: usize, n: usize) -> usize
+fn find(rows: &[u16; CELLS], run: &[u8], from: usize, row: usize, n: usize) -> usize
     ensures { λ p. ⌜ Finds (now (rows .entry)) (itemEnd (now (rows .entry)) (now (run .entry))) (now (run .entry)) from row n p ⌝ }
 {
     if is_leaf(rows, row) {
@@ -37,7 +39,7 @@ fn find(rows: &[u16; 4096], run: &[u8], from: usize, row: usize, n: usize) -> us
 }
 
 // The same for a row of a leaf.
-fn find_leaf(rows: &[u16; 4096], run: &[u8], from: usize, row: usize, n: usize) -> usize
+fn find_leaf(rows: &[u16; CELLS], run: &[u8], from: usize, row: usize, n: usize) -> usize
     ensures { λ p. ⌜ Comes (hunt (now (rows .entry)) (itemEnd (now (rows .entry)) (now (run .entry))) (now (run .entry)) row) p n from ⌝ }
 {
     let mut left = n;
@@ -63,7 +65,7 @@ fn find_leaf(rows: &[u16; 4096], run: &[u8], from: usize, row: usize, n: usize) 
 }
 
 // The answer for the n-th leaf, from 0, of `row`: its row, and where its part begins.
-pub fn pick_from(rows: &[u16; 4096], run: &[u8], from: usize, row: usize, n: usize) -> Answer
+pub fn pick_from(rows: &[u16; CELLS], run: &[u8], from: usize, row: usize, n: usize) -> Answer
     ensures is { λ a. ⌜ Answered (now (rows .entry)) (itemEnd (now (rows .entry)) (now (run .entry))) (now (run .entry)) from row n a ⌝ }
     ensures means { λ a. ⌜ SelectsAnswer (now (rows .entry)) (now (run .entry)) from row n a ⌝ }
 {
@@ -76,7 +78,7 @@ pub fn pick_from(rows: &[u16; 4096], run: &[u8], from: usize, row: usize, n: usi
 
 // Its part of the run: the value's bytes without row byte and length, empty where `pick_from` refuses.
 pub fn picked_from<'a>(
-    rows: &[u16; 4096],
+    rows: &[u16; CELLS],
     run: &'a [u8],
     from: usize,
     row: usize,

@@ -4,6 +4,7 @@ use image_order::ended;
 use image_order::follows;
 use image_order::is_leaf;
 use list::lookup::cell;
+use list::table::CELLS;
 use list::table::KIND;
 use list::table::MOST;
 use list::table::WORD_COUNT;
@@ -106,7 +107,7 @@ fn items(rows: &[u16], run: &[u8], from: usize) -> Tally
 
 // The answer for the items from a place of a run on, where they end or where they break, and how many there are. The table is an array of
 // 256 rows and not a slice: the compiler knows its length, so that no lookup in it asks for its end.
-pub fn body(rows: &[u16; 4096], run: &[u8], from: usize) -> Tally
+pub fn body(rows: &[u16; CELLS], run: &[u8], from: usize) -> Tally
     ensures is { λ r. ⌜ Behind (now (rows .entry)) (itemEnd (now (rows .entry)) (now (run .entry))) (now (run .entry)) from (r .answer) (r .count) ⌝ }
     ensures means { λ r. ⌜ Told (now (rows .entry)) (now (run .entry)) from (r .answer) (r .count) ⌝ }
 {

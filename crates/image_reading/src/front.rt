@@ -23,6 +23,13 @@ pub struct Head {
     pub from: usize,
 }
 
+// Where the version's second byte stands, and the kind byte after it, in whose place version 1 has its first item; where version 2 has it.
+const VERSION_END: usize = Answer::VERSION + 1;
+
+const KIND_BYTE: usize = VERSION_END + 1;
+
+const ITEMS: usize = KIND_BYTE + 1;
+
 // The kind byte of a statement, which version 1 leaves out.
 const STATEMENT: usize = 1;
 
@@ -47,16 +54,16 @@ fn wide(x: u8) -> usize
 fn named(run: &[u8]) -> bool
     ensures { λ b. ⌜ Named (now (run .entry)) b ⌝ }
 {
-    if run.len() < 5 {
+    if run.len() < KIND_BYTE {
         return false;
     }
-    if run[0] != 75 {
+    if run[0] != b'K' {
         return false;
     }
-    if run[1] != 84 {
+    if run[1] != b'T' {
         return false;
     }
-    run[2] == 79
+    run[2] == b'O'
 }
 
 // The version, in 16 bits after the name.
@@ -64,17 +71,17 @@ fn version(run: &[u8]) -> usize
     requires { ⌜ 5 ≤ length (now run) ⌝ }
     ensures { λ v. ⌜ v ≡ versionOf (now (run .entry)) ⌝ }
 {
-    256 * wide(run[3]) + wide(run[4])
+    256 * wide(run[Answer::VERSION]) + wide(run[VERSION_END])
 }
 
 // The byte after it; 0 where it is missing or no list's.
 fn kind_byte(run: &[u8]) -> usize
     ensures { λ k. ⌜ KindByte (now (run .entry)) k ⌝ }
 {
-    if run.len() < 6 {
+    if run.len() < ITEMS {
         return 0;
     }
-    let kind = wide(run[5]);
+    let kind = wide(run[KIND_BYTE]);
     if REPORT < kind {
         return 0;
     }
@@ -91,9 +98,9 @@ fn start(run: &[u8]) -> Reading
     let version = version(run);
     if version == 1 {
         return Reading {
-            answer: Answer::accepted(5),
+            answer: Answer::accepted(KIND_BYTE),
             kind: STATEMENT,
-            from: 5,
+            from: KIND_BYTE,
             count: 0,
         };
     }
@@ -102,12 +109,12 @@ fn start(run: &[u8]) -> Reading
     }
     let kind = kind_byte(run);
     if kind == 0 {
-        return refused(Answer::broken_image(5), 0);
+        return refused(Answer::broken_image(KIND_BYTE), 0);
     }
     Reading {
-        answer: Answer::accepted(6),
+        answer: Answer::accepted(ITEMS),
         kind,
-        from: 6,
+        from: ITEMS,
         count: 0,
     }
 }

@@ -3,6 +3,7 @@ use mathlib.Core.Path.{_≡_}
 use mathlib.Core.Logic.{_≢_}
 use mathlib.Core.List.{List, [], _∷_, _++_}
 use Prim.Native.Nat.{ℕ, _+_, _≤_, _<_}
+use Prim.Native.Char.{code}
 use lib.ListN.{length, drop}
 use Rattle.text.specs.Digits.{inDigits}
 use Rattle.answer.specs.declared.Answer.{Answer}
@@ -11,7 +12,14 @@ use Rattle.image_reading.specs.Reads.{HouseReads, HouseCounts}
 
 -- "one line for each image, `PLACE LENGTH ITEMS`"
 unfoldable pub imageLine : ℕ → ℕ → ℕ → List ℕ
-imageLine place size count = inDigits place ++ (32 ∷ (inDigits size ++ (32 ∷ (inDigits count ++ (10 ∷ [])))))
+imageLine place size count = inDigits place ++ (code " " ∷ (inDigits size ++ (code " " ∷ (inDigits count ++ (code "\n" ∷ [])))))
+
+-- how long it is at most, and room for all lines of a run with that of a refusal: no image is shorter than six bytes, no line of one longer than 24
+abbrev pub longestLine : ℕ
+longestLine = 63
+
+abbrev pub allLines : ℕ
+allLines = 4194375
 
 -- what is written for the rest of a run from a place on: "it answers as they do on the rest of the run", places of refusals counted from its start
 pub data Divides (run : List ℕ) : ℕ → List ℕ → Type 0 where

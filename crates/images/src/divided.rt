@@ -2,6 +2,7 @@
 use answer::Answer;
 use image_first::reading;
 use image_hold::held::next_at;
+use program_line::answer_line::REFUSAL;
 use program_line::answer_line::put_refusal;
 use text_bytes::number::copy;
 use text_digits::decimal::put;
@@ -10,11 +11,15 @@ ghost use Prim.Native.Nat.{_+_, _≤_};
 ghost use lib.ListN.{length, take};
 ghost use Rattle.io.specs.Counts.{Counts};
 ghost use Rattle.text.specs.Pasting.{pasted};
-ghost use Rattle.images.specs.Divides.{imageLine, Divides};
+ghost use Rattle.images.specs.Divides.{imageLine, Divides, longestLine, allLines};
+
+// A run with an image in it has at most 1,048,576 bytes, no image is shorter than six and no line of one longer than 24: so there is room for
+// every line, and for that of a refusal after them.
+pub(crate) const ROOM: usize = 4 * Answer::LIMIT + REFUSAL;
 
 // Writes an image's line at a place, its three numbers of at most twenty digits each; the place after it.
 fn put_image(out: &mut [u8], to: usize, place: usize, size: usize, count: usize) -> usize
-    requires { ⌜ to + 63 ≤ length (now out) ⌝ }
+    requires { ⌜ to + longestLine ≤ length (now out) ⌝ }
     ensures { λ r. ⌜ (r ≡ to + length (imageLine place size count)) × (now (out .exit) ≡ pasted (now (out .entry)) to (imageLine place size count)) ⌝ }
 {
     let blank = to + put(out, to, place as u64);
@@ -26,11 +31,9 @@ fn put_image(out: &mut [u8], to: usize, place: usize, size: usize, count: usize)
     end + 1
 }
 
-// Puts what is written for a run to the start of a buffer, and answers how many bytes it is. A run with an image in it has at most 1,048,576
-// bytes, no image is shorter than six and no line of one longer than 24: so the buffer has room for every line, and for that of a refusal,
-// of at most 71 bytes, after them.
+// Puts what is written for a run to the start of a buffer, and answers how many bytes it is.
 pub(crate) fn divided(run: &[u8], out: &mut [u8]) -> usize
-    requires { ⌜ length (now out) ≡ 4194375 ⌝ }
+    requires { ⌜ length (now out) ≡ allLines ⌝ }
     ensures is { λ r. ⌜ Divides (now (run .entry)) 0 (take r (now (out .exit))) ⌝ }
     ensures within { λ r. ⌜ Counts r (now (out .exit)) ⌝ }
 {

@@ -6,7 +6,7 @@ use unit::read::read;
 ghost use mathlib.Core.Path.{_≡_};
 ghost use lib.ListN.{length, take};
 ghost use Rattle.io.specs.Counts.{Counts};
-ghost use Rattle.kto.specs.Says.{Says};
+ghost use Rattle.kto.specs.Says.{Says, most};
 ghost use Rattle.kto.specs.Answered.{Answered};
 
 // The most bytes that count.
@@ -14,7 +14,7 @@ pub(crate) const MOST: usize = 65536;
 
 // The answer to longer input: of the file as the program reads it, no more is known.
 fn longer() -> Answer
-    ensures { λ r. ⌜ r ≡ record { code = 1; row = 0; place = 65536 } ⌝ }
+    ensures { λ r. ⌜ r ≡ record { code = 1; row = 0; place = most } ⌝ }
 {
     Answer {
         code: Answer::TOO_LONG,
@@ -40,7 +40,7 @@ fn answered(input: &[u8], out: &mut [u8]) -> Answer
 
 // Puts what is written for an input to the start of a buffer, and answers how many bytes it is.
 pub(crate) fn said(input: &[u8], out: &mut [u8]) -> usize
-    requires { ⌜ length (now out) ≡ 65536 ⌝ }
+    requires { ⌜ length (now out) ≡ most ⌝ }
     ensures is { λ r. ⌜ Says (now (input .entry)) (take r (now (out .exit))) ⌝ }
     ensures within { λ r. ⌜ Counts r (now (out .exit)) ⌝ }
 {

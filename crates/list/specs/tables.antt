@@ -1,6 +1,8 @@
 -- Of `list`: a list as two tables.
 -- a list as two tables of numbers
 pub mod Table
+-- the columns of a table, and the numbers of kinds
+pub mod Columns
 -- a table over 256 rows
 pub mod Laid
 -- tables that say a well-formed list, and what follows from it

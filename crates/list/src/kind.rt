@@ -1,4 +1,6 @@
 // Groups and leaves, by the number of a row's kind.
+use crate::table::DTM;
+use crate::table::REF;
 ghost use mathlib.Core.Path.{_≡_};
 ghost use Rattle.list.specs.tables.Numbers.{isGroupIn};
 
@@ -7,7 +9,7 @@ pub fn is_group(kind: usize) -> bool
     ensures { λ r. ⌜ r ≡ isGroupIn kind ⌝ }
 {
     match kind {
-        2..=11 => false,
+        REF..=DTM => false,
         _ => true,
     }
 }

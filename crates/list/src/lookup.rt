@@ -1,12 +1,15 @@
 // Lookups in the two tables. No row, column, place or table is out of bounds: each has an answer.
 use crate::table::CHILD;
+use crate::table::COLUMNS;
 use crate::table::DUE_CHILD;
 use crate::table::DUE_SIBLING;
+use crate::table::MOST_ROWS;
 use crate::table::NAME;
 use crate::table::NAME_END;
 use crate::table::SIBLING;
 use crate::table::SPACE;
 use crate::table::SPACE_END;
+use crate::table::WORD_COUNT;
 use text::part::same_part;
 ghost use mathlib.Core.Path.{_≡_};
 ghost use lib.Seq.{slice};
@@ -21,17 +24,17 @@ fn wide(x: u16) -> usize
     x as usize
 }
 
-// A column of a row; 0 in a row above 255, in a column above 15, and past the table's end.
+// A column of a row; 0 in a row above 255, in a column after the last, and past the table's end.
 pub fn cell(rows: &[u16], r: usize, column: usize) -> usize
     ensures { λ x. ⌜ x ≡ cell (now (rows .entry)) r column ⌝ }
 {
-    if 15 < column {
+    if WORD_COUNT < column {
         return 0;
     }
-    if 255 < r {
+    if MOST_ROWS < r {
         return 0;
     }
-    let at = 16 * r + column;
+    let at = COLUMNS * r + column;
     if at < rows.len() { wide(rows[at]) } else { 0 }
 }
 
@@ -74,7 +77,7 @@ fn named(rows: &[u16], pool: &[u8], from: usize, s: &[u8], a: usize, b: usize) -
     ensures { λ x. ⌜ x ≡ along (now (rows .entry)) (now (pool .entry)) (slice a b (now (s .entry))) 255 from ⌝ }
 {
     let mut r = from;
-    let mut left: usize = 255;
+    let mut left: usize = MOST_ROWS;
     while 0 < left {
         if r == 0 {
             return 0;

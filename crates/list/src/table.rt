@@ -4,6 +4,7 @@ ghost use mathlib.Core.Path.{_≡_};
 ghost use mathlib.Core.List.{[], _∷_, _++_, map};
 ghost use Rattle.list.specs.Listing.{alternative};
 ghost use Rattle.list.specs.tables.Table.{counts, kinds, countOf, kindOf};
+ghost use Rattle.list.specs.tables.Columns.{PARENT, COUNT, KIND, MOST, NAME, NAME-END, WORDS, WORDS-END, MATE, CHILD, SIBLING, DUE-CHILD, DUE-SIBLING, PAIR, LEVEL, WORD-COUNT, SIZE, SPACE, SPACE-END};
 
 // A row's own: its parent, its count, its kind, the k of TXTk, where its name and an ENUM's words start and end in the pool, and the
 // first row of the rule whose second row it is.
@@ -40,6 +41,18 @@ pub const PAIR: usize = 13;
 pub const LEVEL: usize = 14;
 
 pub const WORD_COUNT: usize = 15;
+
+pub const COLUMNS: usize = WORD_COUNT + 1;
+
+// "at most 255 rows and 16 levels", "one to 255 different words"
+pub const MOST_ROWS: usize = 255;
+
+pub const MOST_LEVELS: usize = 16;
+
+pub const MOST_WORDS: usize = 255;
+
+// How many cells a table has that has a row for every row byte.
+pub const CELLS: usize = COLUMNS * (MOST_ROWS + 1);
 
 // Row 0's: how many rows there are, and where the namespace starts and ends in the pool.
 pub const SIZE: usize = 0;
@@ -85,8 +98,8 @@ pub const DATE: usize = 10;
 pub const DTM: usize = 11;
 
 // Nobody calls these: their promises say that the numbers above are those of the definitions.
-fn columns() -> [usize; 16]
-    ensures { λ r. ⌜ r ≡ 0 ∷ 1 ∷ 2 ∷ 3 ∷ 4 ∷ 5 ∷ 6 ∷ 7 ∷ 8 ∷ 9 ∷ 10 ∷ 11 ∷ 12 ∷ 13 ∷ 14 ∷ 15 ∷ [] ⌝ }
+fn columns() -> [usize; COLUMNS]
+    ensures { λ r. ⌜ r ≡ PARENT ∷ COUNT ∷ KIND ∷ MOST ∷ NAME ∷ NAME-END ∷ WORDS ∷ WORDS-END ∷ MATE ∷ CHILD ∷ SIBLING ∷ DUE-CHILD ∷ DUE-SIBLING ∷ PAIR ∷ LEVEL ∷ WORD-COUNT ∷ [] ⌝ }
 {
     [
         PARENT,
@@ -108,19 +121,19 @@ fn columns() -> [usize; 16]
     ]
 }
 
-fn own() -> [usize; 3]
-    ensures { λ r. ⌜ r ≡ 0 ∷ 1 ∷ 2 ∷ [] ⌝ }
+fn own() -> [usize; SPACE_END + 1]
+    ensures { λ r. ⌜ r ≡ SIZE ∷ SPACE ∷ SPACE-END ∷ [] ⌝ }
 {
     [SIZE, SPACE, SPACE_END]
 }
 
-fn counts() -> [usize; 5]
+fn counts() -> [usize; ALTERNATIVE + 1]
     ensures { λ r. ⌜ map countOf r ≡ counts ++ (alternative ∷ []) ⌝ }
 {
     [ONE, OPTIONAL, SOME, ANY, ALTERNATIVE]
 }
 
-fn kinds() -> [usize; 12]
+fn kinds() -> [usize; DTM + 1]
     ensures { λ r. ⌜ map (λ c. kindOf c 1 []) r ≡ kinds 1 [] ⌝ }
 {
     [

@@ -1,5 +1,6 @@
 // The words of an ENUM, which stand in the pool with single spaces between them.
 use crate::lookup::cell;
+use crate::table::MOST_WORDS;
 use crate::table::WORDS;
 use crate::table::WORDS_END;
 use text::part::least;
@@ -74,7 +75,7 @@ pub fn word_byte(rows: &[u16], pool: &[u8], r: usize, s: &[u8], a: usize, b: usi
     ensures { λ x. ⌜ x ≡ byteOf (placeIn (wordsIn (now (rows .entry)) (now (pool .entry)) r) (slice a b (now (s .entry)))) ⌝ }
 {
     let place = word_place(rows, pool, r, s, a, b);
-    if 255 < place {
+    if MOST_WORDS < place {
         return 0;
     }
     place as u8

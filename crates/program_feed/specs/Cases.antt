@@ -17,9 +17,19 @@ little (x ∷ xs) = x + 256 * little xs
 abbrev pub numberAt : ℕ → List ℕ → ℕ
 numberAt at s = little (take 4 (drop at s))
 
+-- how many bytes a head has, and where its second and third number stand
+abbrev pub headSize : ℕ
+headSize = 13
+
+abbrev pub secondAt : ℕ
+secondAt = 5
+
+abbrev pub thirdAt : ℕ
+thirdAt = 9
+
 -- "that many bytes (at most 1,048,577 ..)"
 abbrev pub longest : ℕ
-longest = 1048577
+longest = limit + 1
 
 -- by the op, room (of a pick: the row), n (of a pick; of a tidying the room for the file) and the length: "room at most 1,048,576 is honoured
 -- exactly, more counts as 1,048,576"; "names another op": broken
@@ -37,9 +47,9 @@ opBy op room n size =
 unfoldable pub caseBy : ℕ → ℕ → ℕ → ℕ → Case
 caseBy op room n size = cond (ltb longest size) Broken (opBy op room n size)
 
--- "A feed that breaks off": fewer than 13 bytes are no head
+-- "A feed that breaks off": fewer bytes are no head
 unfoldable pub caseOf : List ℕ → Case
-caseOf s = cond (ltb (length s) 13) Broken (caseBy (getD s 0 0) (numberAt 1 s) (numberAt 5 s) (numberAt 9 s))
+caseOf s = cond (ltb (length s) headSize) Broken (caseBy (getD s 0 0) (numberAt 1 s) (numberAt secondAt s) (numberAt thirdAt s))
 
 -- how many bytes a case has after its head
 abbrev pub sizeOf : Case → ℕ
@@ -53,11 +63,11 @@ sizeOf Broken = 0
 
 -- the case that a feed begins with: its head, "then that many bytes"; broken where the feed "breaks off" before they end
 unfoldable pub caseIn : List ℕ → Case
-caseIn s = cond (ltb (length s) (13 + sizeOf (caseOf s))) Broken (caseOf s)
+caseIn s = cond (ltb (length s) (headSize + sizeOf (caseOf s))) Broken (caseOf s)
 
 -- its bytes after the head
 abbrev pub bytesIn : ℕ → List ℕ → List ℕ
-bytesIn size s = take size (drop 13 s)
+bytesIn size s = take size (drop headSize s)
 
 -- of a broken feed "nothing after it is read"
 abbrev pub goesOn : Case → Bool

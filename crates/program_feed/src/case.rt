@@ -1,11 +1,12 @@
 // What the head of a case asks for.
 use answer::Answer;
 use text::part::least;
+use text::width::WIDTH_32;
 ghost use mathlib.Core.Path.{_≡_};
 ghost use Prim.Native.Nat.{_+_, _≤_, _<_, _^_, min};
 ghost use lib.ListN.{length, getD, take, drop};
 ghost use Rattle.answer.specs.Table.{limit};
-ghost use Rattle.program_feed.specs.Cases.{little, numberAt, opBy, caseOf, sizeOf, caseIn, goesOn};
+ghost use Rattle.program_feed.specs.Cases.{little, numberAt, opBy, caseOf, sizeOf, caseIn, goesOn, headSize, secondAt};
 
 pub enum Case {
     // A file of `size` bytes, for a buffer of `room`.
@@ -42,11 +43,32 @@ pub enum Case {
     Broken,
 }
 
-// How many bytes a head has: the op, and three numbers of 32 bits.
-pub const HEAD: usize = 13;
+// The ops.
+const CHECK: u8 = 0;
+
+const READ: u8 = 1;
+
+const PICK: u8 = 2;
+
+const WRITE: u8 = 3;
+
+const COUNT: u8 = 6;
+
+const TIDY: u8 = 8;
+
+// A head is the op and three numbers of 32 bits: where these stand, and how many bytes it has.
+const FIRST: usize = 1;
+
+const SECOND: usize = FIRST + WIDTH_32;
+
+const SIZE: usize = SECOND + WIDTH_32;
+
+pub const HEAD: usize = SIZE + WIDTH_32;
 
 // The most bytes that a case may have: one more than a file may.
-pub const LONGEST: usize = 1048577;
+pub const LONGEST: usize = Answer::LIMIT + 1;
+
+const LAST_BYTE: usize = WIDTH_32 - 1;
 
 fn wide(x: u8) -> usize
     ensures { λ r. ⌜ (r ≡ x) × (r < 256) ⌝ }
@@ -59,7 +81,7 @@ fn number(s: &[u8], at: usize) -> usize
     requires { ⌜ at + 4 ≤ length (now s) ⌝ }
     ensures { λ r. ⌜ r ≡ little (take 4 (drop at (now (s .entry)))) ⌝ }
 {
-    wide(s[at]) + 256 * (wide(s[at + 1]) + 256 * (wide(s[at + 2]) + 256 * wide(s[at + 3])))
+    wide(s[at]) + 256 * (wide(s[at + 1]) + 256 * (wide(s[at + 2]) + 256 * wide(s[at + LAST_BYTE])))
 }
 
 // A room that a head asks for; more than a buffer may need counts as that much.
@@ -72,53 +94,53 @@ fn room_at(head: &[u8], at: usize) -> usize
 
 // The case that a whole head asks for, of so many bytes.
 fn by_op(head: &[u8], size: usize) -> Case
-    requires { ⌜ 13 ≤ length (now head) ⌝ }
-    ensures { λ r. ⌜ r ≡ opBy (getD (now (head .entry)) 0 0) (numberAt 1 (now (head .entry))) (numberAt 5 (now (head .entry))) size ⌝ }
+    requires { ⌜ headSize ≤ length (now head) ⌝ }
+    ensures { λ r. ⌜ r ≡ opBy (getD (now (head .entry)) 0 0) (numberAt 1 (now (head .entry))) (numberAt secondAt (now (head .entry))) size ⌝ }
 {
     let op = head[0];
-    if op == 0 {
+    if op == CHECK {
         return Case::Check {
-            room: room_at(head, 1),
+            room: room_at(head, FIRST),
             size: size,
         };
     }
-    if op == 1 {
+    if op == READ {
         return Case::Read { size: size };
     }
-    if op == 2 {
+    if op == PICK {
         return Case::Pick {
-            row: number(head, 1),
-            nth: number(head, 5),
+            row: number(head, FIRST),
+            nth: number(head, SECOND),
             size: size,
         };
     }
-    if op == 3 {
+    if op == WRITE {
         return Case::Write {
-            room: room_at(head, 1),
+            room: room_at(head, FIRST),
             size: size,
         };
     }
-    if op == 6 {
+    if op == COUNT {
         return Case::Count { size: size };
     }
-    if op == 8 {
+    if op == TIDY {
         return Case::Tidy {
-            room: room_at(head, 1),
-            space: room_at(head, 5),
+            room: room_at(head, FIRST),
+            space: room_at(head, SECOND),
             size: size,
         };
     }
     Case::Broken
 }
 
-// The case that a head asks for; what stands after its 13 bytes does not matter.
+// The case that a head asks for; what stands after it does not matter.
 pub fn case_of(head: &[u8]) -> Case
     ensures { λ r. ⌜ r ≡ caseOf (now (head .entry)) ⌝ }
 {
     if head.len() < HEAD {
         return Case::Broken;
     }
-    let size = number(head, 9);
+    let size = number(head, SIZE);
     if LONGEST < size {
         return Case::Broken;
     }

@@ -1,13 +1,18 @@
 // What a call's answer hands back, and the lines of answers that hand back no bytes of a buffer.
 use answer::Answer;
 use program_reply::put_answer;
+use text::width::WIDTH_32;
+use text::width::WIDTH_64;
 use text_bytes::number::put64;
 ghost use mathlib.Core.Path.{_≡_};
 ghost use mathlib.Core.List.{[]};
 ghost use Prim.Native.Nat.{_≤_};
 ghost use lib.ListN.{length};
 ghost use Rattle.text.specs.Numbers.{bigEndian};
-ghost use Rattle.program_reply.specs.Reply.{answerLine, heldLength, Put};
+ghost use Rattle.program_reply.specs.Reply.{answerLine, heldLength, Put, longestAnswer, longestCount};
+
+// Where the last four of eight bytes begin.
+const LAST_HALF: usize = WIDTH_64 - WIDTH_32;
 
 // How many bytes an accepted call leaves in the buffer that it was lent; a refused one none.
 pub fn held(a: Answer) -> usize
@@ -23,7 +28,7 @@ pub fn held(a: Answer) -> usize
 // nothing is changed. It is at most 64 bytes.
 pub fn put_bare(a: Answer, out: &mut [u8]) -> usize
     ensures put { λ r. ⌜ Put (answerLine a []) (now (out .entry)) r (now (out .exit)) ⌝ }
-    ensures most { λ _. ⌜ length (answerLine a []) ≤ 64 ⌝ }
+    ensures most { λ _. ⌜ length (answerLine a []) ≤ longestAnswer ⌝ }
 {
     put_answer(a, b" ", 0, 0, out)
 }
@@ -32,9 +37,9 @@ pub fn put_bare(a: Answer, out: &mut [u8]) -> usize
 // not fit, and then nothing is changed. It is at most 72 bytes.
 pub fn put_count(a: Answer, count: usize, out: &mut [u8]) -> usize
     ensures put { λ r. ⌜ Put (answerLine a (bigEndian 4 count)) (now (out .entry)) r (now (out .exit)) ⌝ }
-    ensures most { λ _. ⌜ length (answerLine a (bigEndian 4 count)) ≤ 72 ⌝ }
+    ensures most { λ _. ⌜ length (answerLine a (bigEndian 4 count)) ≤ longestCount ⌝ }
 {
-    let mut bytes = [0u8; 8];
+    let mut bytes = [0u8; WIDTH_64];
     put64(&mut bytes, 0, count as u64);
-    put_answer(a, &bytes, 4, 8, out)
+    put_answer(a, &bytes, LAST_HALF, WIDTH_64, out)
 }

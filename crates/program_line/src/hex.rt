@@ -6,26 +6,31 @@ ghost use lib.Seq.{slice};
 ghost use Rattle.text.specs.Pasting.{pasted};
 ghost use Rattle.program_line.specs.Hex.{hexDigit, hexadecimal};
 
+const BASE: u8 = 16;
+
+// What makes a letter of a digit above nine.
+const LETTERS: u8 = b'a' - 10;
+
 fn digit(n: u8) -> u8
     requires { ⌜ n < 16 ⌝ }
     ensures { λ r. ⌜ r ≡ hexDigit n ⌝ }
 {
     if n < 10 {
-        return 48 + n;
+        return b'0' + n;
     }
-    87 + n
+    LETTERS + n
 }
 
 fn high(x: u8) -> u8
     ensures { λ r. ⌜ r ≡ hexDigit (x / 16) ⌝ }
 {
-    digit(x / 16)
+    digit(x / BASE)
 }
 
 fn low(x: u8) -> u8
     ensures { λ r. ⌜ r ≡ hexDigit (x % 16) ⌝ }
 {
-    digit(x % 16)
+    digit(x % BASE)
 }
 
 // Writes the part of src from a to b in hexadecimal at a place of out, or nothing where it does not fit. There are twice as

@@ -1,5 +1,6 @@
 // The lines that answer a feed: the line of an answer, the line of a broken feed. A line is written whole from the start of a buffer on, or not at all.
 use answer::Answer;
+use program_line::answer_line::ROOM;
 use program_line::answer_line::put_numbers;
 use program_line::hex;
 use text::part::part_len;
@@ -10,7 +11,15 @@ ghost use Prim.Native.Nat.{_+_, _≤_};
 ghost use lib.ListN.{length};
 ghost use lib.Seq.{slice};
 ghost use Rattle.text.specs.Pasting.{pasted};
-ghost use Rattle.program_reply.specs.Reply.{answerLine, pairLine, brokenLine, Put};
+ghost use Rattle.program_reply.specs.Reply.{answerLine, pairLine, brokenLine, Put, longestAnswer, longestPair, longestBroken};
+
+const BROKEN: [u8; 20] = *b"feed broken at case ";
+
+// Its most bytes.
+const BROKEN_LINE: usize = BROKEN.len() + decimal::MOST_DIGITS + 1;
+
+// What stands beside the numbers and the digits in the line of an answer with two parts: a blank, a slash, and LF.
+const PAIR_MARKS: usize = 3;
 
 // The line of an answer into a buffer that holds it; how many bytes it is.
 fn spread_answer(a: Answer, s: &[u8], from: usize, to: usize, out: &mut [u8]) -> usize
@@ -30,9 +39,9 @@ fn spread_answer(a: Answer, s: &[u8], from: usize, to: usize, out: &mut [u8]) ->
 // bytes it is; 0 where it does not fit, and then nothing is changed. It is at most 64 bytes and two for each byte of the part.
 pub fn put_answer(a: Answer, s: &[u8], from: usize, to: usize, out: &mut [u8]) -> usize
     ensures put { λ r. ⌜ Put (answerLine a (slice from to (now (s .entry)))) (now (out .entry)) r (now (out .exit)) ⌝ }
-    ensures most { λ _. ⌜ length (answerLine a (slice from to (now (s .entry)))) ≤ 64 + (length (slice from to (now (s .entry))) + length (slice from to (now (s .entry)))) ⌝ }
+    ensures most { λ _. ⌜ length (answerLine a (slice from to (now (s .entry)))) ≤ longestAnswer + (length (slice from to (now (s .entry))) + length (slice from to (now (s .entry)))) ⌝ }
 {
-    let mut space = [0u8; 64];
+    let mut space = [0u8; ROOM];
     let n = put_numbers(&mut space, 0, a) + 2;
     if out.len() < n {
         return 0;
@@ -63,10 +72,10 @@ fn spread_pair(a: Answer, s: &[u8], t: &[u8], out: &mut [u8]) -> usize
 // not fit, and then nothing is changed. It is at most 65 bytes and two for each byte of the slices.
 pub fn put_pair(a: Answer, s: &[u8], t: &[u8], out: &mut [u8]) -> usize
     ensures put { λ r. ⌜ Put (pairLine a (now (s .entry)) (now (t .entry))) (now (out .entry)) r (now (out .exit)) ⌝ }
-    ensures most { λ _. ⌜ length (pairLine a (now (s .entry)) (now (t .entry))) ≤ 65 + (length (now (s .entry)) + length (now (s .entry))) + (length (now (t .entry)) + length (now (t .entry))) ⌝ }
+    ensures most { λ _. ⌜ length (pairLine a (now (s .entry)) (now (t .entry))) ≤ longestPair + (length (now (s .entry)) + length (now (s .entry))) + (length (now (t .entry)) + length (now (t .entry))) ⌝ }
 {
-    let mut space = [0u8; 64];
-    let n = put_numbers(&mut space, 0, a) + 3;
+    let mut space = [0u8; ROOM];
+    let n = put_numbers(&mut space, 0, a) + PAIR_MARKS;
     if out.len() < n {
         return 0;
     }
@@ -82,11 +91,11 @@ pub fn put_pair(a: Answer, s: &[u8], t: &[u8], out: &mut [u8]) -> usize
 
 // The line of a broken feed into a buffer that holds it; how many bytes it is.
 fn spread_broken(n: u64, buf: &mut [u8]) -> usize
-    requires { ⌜ 41 ≤ length (now buf) ⌝ }
-    ensures { λ r. ⌜ (r ≡ length (brokenLine n)) × ((r ≤ 41) × (now (buf .exit) ≡ pasted (now (buf .entry)) 0 (brokenLine n))) ⌝ }
+    requires { ⌜ longestBroken ≤ length (now buf) ⌝ }
+    ensures { λ r. ⌜ (r ≡ length (brokenLine n)) × ((r ≤ longestBroken) × (now (buf .exit) ≡ pasted (now (buf .entry)) 0 (brokenLine n))) ⌝ }
 {
-    copy(b"feed broken at case ", 0, 20, buf, 0);
-    let end = 20 + decimal::put(buf, 20, n);
+    copy(&BROKEN, 0, BROKEN.len(), buf, 0);
+    let end = BROKEN.len() + decimal::put(buf, BROKEN.len(), n);
     copy(b"\n", 0, 1, buf, end);
     end + 1
 }
@@ -95,9 +104,9 @@ fn spread_broken(n: u64, buf: &mut [u8]) -> usize
 // then nothing is changed. It is at most 41 bytes.
 pub fn put_broken(n: u64, out: &mut [u8]) -> usize
     ensures put { λ r. ⌜ Put (brokenLine n) (now (out .entry)) r (now (out .exit)) ⌝ }
-    ensures most { λ _. ⌜ length (brokenLine n) ≤ 41 ⌝ }
+    ensures most { λ _. ⌜ length (brokenLine n) ≤ longestBroken ⌝ }
 {
-    let mut space = [0u8; 41];
+    let mut space = [0u8; BROKEN_LINE];
     let w = spread_broken(n, &mut space);
     copy(&space, 0, w, out, 0);
     if out.len() < w {

@@ -79,3 +79,10 @@ pub data Replies (s : List ℕ) (k : ℕ) (l : List ℕ) : Type 0 where
 -- n bytes of its image are what check leaves of the file s in a buffer of so much room, whatever stood there
 abbrev pub ImageHeld : List ℕ → ℕ → ℕ → Type 0
 ImageHeld s room n = (d : List ℕ) (a : Answer) (d′ : List ℕ) → length d ≡ room → Checks s d a d′ → n ≡ heldLength a
+
+-- room for the line of an answer with the bytes of a case, and with two parts as long as buffers may be
+abbrev pub lineRoom : ℕ
+lineRoom = 2097218
+
+abbrev pub pairRoom : ℕ
+pairRoom = 4194369

@@ -1,8 +1,11 @@
 // Answers a feed of cases from standard input, with a line for each to standard output.
 mod reply; // reply.rt: the line for a case, computed on slices
 
+use answer::Answer;
 use libc::STDIN_FILENO;
 use libc::STDOUT_FILENO;
+use program_feed::case::HEAD;
+use program_feed::case::LONGEST;
 use program_feed::case::case_in;
 use program_feed::case::case_of;
 use program_feed::case::goes_on;
@@ -12,6 +15,12 @@ ghost use mathlib.Core.Path.{_≡_};
 ghost use Prim.Native.Nat.{_+_, _≤_};
 ghost use lib.ListN.{length};
 ghost use Rattle.io.specs.Counts.{Counts};
+ghost use Rattle.answer.specs.Table.{limit};
+ghost use Rattle.program_feed.specs.Cases.{headSize, longest};
+ghost use Rattle.replay.specs.Replies.{pairRoom};
+
+// The most bytes of a line: of each byte of an image and of a file, two digits.
+const LINE: usize = 65 + 4 * Answer::LIMIT;
 
 // Reads between two places of a buffer, as far as the feed goes; how many bytes.
 fn fill(space: &mut [u8], from: usize, end: usize) -> usize
@@ -23,15 +32,15 @@ fn fill(space: &mut [u8], from: usize, end: usize) -> usize
 
 // Reads a case as far as the feed goes, its head and then as many bytes as that says; how many bytes there are.
 fn take_case(space: &mut [u8]) -> usize
-    requires { ⌜ length (now space) ≡ 1048590 ⌝ }
+    requires { ⌜ length (now space) ≡ headSize + longest ⌝ }
     ensures { λ r. ⌜ Counts r (now (space .exit)) ⌝ }
 {
-    let got = fill(space, 0, 13);
-    if got < 13 {
+    let got = fill(space, 0, HEAD);
+    if got < HEAD {
         return got;
     }
-    let end = 13 + size_of(case_of(space));
-    13 + fill(space, 13, end)
+    let end = HEAD + size_of(case_of(space));
+    HEAD + fill(space, HEAD, end)
 }
 
 // One case; whether the feed goes on after it. A line is written as soon as it is there.
@@ -42,7 +51,7 @@ fn answer_case(
     second: &mut [u8],
     line: &mut [u8],
 ) -> bool
-    requires { ⌜ (length (now space) ≡ 1048590) × ((length (now buffer) ≡ 1048576) × ((length (now second) ≡ 1048576) × (length (now line) ≡ 4194369))) ⌝ }
+    requires { ⌜ (length (now space) ≡ headSize + longest) × ((length (now buffer) ≡ limit) × ((length (now second) ≡ limit) × (length (now line) ≡ pairRoom))) ⌝ }
 {
     let got = take_case(space);
     if got == 0 {
@@ -57,7 +66,7 @@ fn answer_case(
 
 // A proved loop ends, and nothing says that a feed does: the number of the case is what ends it.
 fn answer_all(space: &mut [u8], buffer: &mut [u8], second: &mut [u8], line: &mut [u8])
-    requires { ⌜ (length (now space) ≡ 1048590) × ((length (now buffer) ≡ 1048576) × ((length (now second) ≡ 1048576) × (length (now line) ≡ 4194369))) ⌝ }
+    requires { ⌜ (length (now space) ≡ headSize + longest) × ((length (now buffer) ≡ limit) × ((length (now second) ≡ limit) × (length (now line) ≡ pairRoom))) ⌝ }
 {
     let mut number: u64 = 0;
     while number < u64::MAX && answer_case(number, space, buffer, second, line) {
@@ -67,9 +76,9 @@ fn answer_all(space: &mut [u8], buffer: &mut [u8], second: &mut [u8], line: &mut
 
 // The longest case, the largest rooms and the longest line.
 fn main() {
-    let mut space = [0u8; 1048590];
-    let mut buffer = [0u8; 1048576];
-    let mut second = [0u8; 1048576];
-    let mut line = [0u8; 4194369];
+    let mut space = [0u8; HEAD + LONGEST];
+    let mut buffer = [0u8; Answer::LIMIT];
+    let mut second = [0u8; Answer::LIMIT];
+    let mut line = [0u8; LINE];
     answer_all(&mut space, &mut buffer, &mut second, &mut line);
 }

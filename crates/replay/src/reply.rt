@@ -21,13 +21,14 @@ ghost use mathlib.Core.Path.{_≡_};
 ghost use Prim.Native.Nat.{_+_, _≤_};
 ghost use lib.ListN.{length, take};
 ghost use Rattle.io.specs.Counts.{Counts};
-ghost use Rattle.program_feed.specs.Cases.{bytesIn};
-ghost use Rattle.program_reply.specs.Reply.{answerLine};
-ghost use Rattle.replay.specs.Replies.{heldBy, ImageHeld, Checked, Measured, Tallied, Picked, Written, Tidied, Replies};
+ghost use Rattle.program_feed.specs.Cases.{bytesIn, headSize, longest};
+ghost use Rattle.program_reply.specs.Reply.{answerLine, longestAnswer};
+ghost use Rattle.replay.specs.Replies.{heldBy, ImageHeld, Checked, Measured, Tallied, Picked, Written, Tidied, Replies, lineRoom, pairRoom};
+ghost use Rattle.answer.specs.Table.{limit};
 
 // The line of an answer and the first n bytes of s, put to the start of a buffer that holds any such; how many bytes it is.
 fn put_line(a: Answer, s: &[u8], n: usize, line: &mut [u8]) -> usize
-    requires { ⌜ 64 + (length (now s) + length (now s)) ≤ length (now line) ⌝ }
+    requires { ⌜ longestAnswer + (length (now s) + length (now s)) ≤ length (now line) ⌝ }
     ensures is { λ r. ⌜ take r (now (line .exit)) ≡ answerLine a (take n (now (s .entry))) ⌝ }
     ensures within { λ r. ⌜ Counts r (now (line .exit)) ⌝ }
 {
@@ -36,7 +37,7 @@ fn put_line(a: Answer, s: &[u8], n: usize, line: &mut [u8]) -> usize
 
 // The line of a call's answer, with what it then holds in the buffer that it was lent.
 fn put_filled(a: Answer, buffer: &[u8], line: &mut [u8]) -> usize
-    requires { ⌜ (length (now buffer) ≤ 1048576) × (2097218 ≤ length (now line)) ⌝ }
+    requires { ⌜ (length (now buffer) ≤ limit) × (lineRoom ≤ length (now line)) ⌝ }
     ensures is { λ r. ⌜ take r (now (line .exit)) ≡ answerLine a (heldBy a (now (buffer .entry))) ⌝ }
     ensures within { λ r. ⌜ Counts r (now (line .exit)) ⌝ }
 {
@@ -45,7 +46,7 @@ fn put_filled(a: Answer, buffer: &[u8], line: &mut [u8]) -> usize
 
 // A check, for a buffer with the case's room.
 fn checked(file: &[u8], buffer: &mut [u8], line: &mut [u8]) -> usize
-    requires { ⌜ (length (now buffer) ≤ 1048576) × (2097218 ≤ length (now line)) ⌝ }
+    requires { ⌜ (length (now buffer) ≤ limit) × (lineRoom ≤ length (now line)) ⌝ }
     ensures is { λ r. ⌜ Checked (now (file .entry)) (now (buffer .entry)) (now (buffer .exit)) (take r (now (line .exit))) ⌝ }
     ensures within { λ r. ⌜ Counts r (now (line .exit)) ⌝ }
 {
@@ -55,7 +56,7 @@ fn checked(file: &[u8], buffer: &mut [u8], line: &mut [u8]) -> usize
 
 // A write, for a buffer with the case's room.
 fn written(run: &[u8], buffer: &mut [u8], line: &mut [u8]) -> usize
-    requires { ⌜ (length (now buffer) ≤ 1048576) × (2097218 ≤ length (now line)) ⌝ }
+    requires { ⌜ (length (now buffer) ≤ limit) × (lineRoom ≤ length (now line)) ⌝ }
     ensures is { λ r. ⌜ Written (now (run .entry)) (now (buffer .entry)) (now (buffer .exit)) (take r (now (line .exit))) ⌝ }
     ensures within { λ r. ⌜ Counts r (now (line .exit)) ⌝ }
 {
@@ -65,7 +66,7 @@ fn written(run: &[u8], buffer: &mut [u8], line: &mut [u8]) -> usize
 
 // A read.
 fn measured(run: &[u8], line: &mut [u8]) -> usize
-    requires { ⌜ 2097218 ≤ length (now line) ⌝ }
+    requires { ⌜ lineRoom ≤ length (now line) ⌝ }
     ensures is { λ r. ⌜ Measured (now (run .entry)) (take r (now (line .exit))) ⌝ }
     ensures within { λ r. ⌜ Counts r (now (line .exit)) ⌝ }
 {
@@ -86,7 +87,7 @@ fn image_held(file: &[u8], room: usize) -> usize
 
 // A tidying, for buffers with the case's rooms.
 fn tidied(file: &[u8], image: &mut [u8], out: &mut [u8], line: &mut [u8]) -> usize
-    requires { ⌜ (length (now image) ≤ 1048576) × ((length (now out) ≤ 1048576) × (4194369 ≤ length (now line))) ⌝ }
+    requires { ⌜ (length (now image) ≤ limit) × ((length (now out) ≤ limit) × (pairRoom ≤ length (now line))) ⌝ }
     ensures is { λ r. ⌜ Tidied (now (file .entry)) (now (image .entry)) (now (out .entry)) (now (image .exit)) (now (out .exit)) (take r (now (line .exit))) ⌝ }
     ensures within { λ r. ⌜ Counts r (now (line .exit)) ⌝ }
 {
@@ -98,7 +99,7 @@ fn tidied(file: &[u8], image: &mut [u8], out: &mut [u8], line: &mut [u8]) -> usi
 
 // A read, with the number of items in four bytes.
 fn tallied(run: &[u8], line: &mut [u8]) -> usize
-    requires { ⌜ 2097218 ≤ length (now line) ⌝ }
+    requires { ⌜ lineRoom ≤ length (now line) ⌝ }
     ensures is { λ r. ⌜ Tallied (now (run .entry)) (take r (now (line .exit))) ⌝ }
     ensures within { λ r. ⌜ Counts r (now (line .exit)) ⌝ }
 {
@@ -108,7 +109,7 @@ fn tallied(run: &[u8], line: &mut [u8]) -> usize
 
 // A pick, with its part.
 fn part_picked(run: &[u8], row: usize, nth: usize, line: &mut [u8]) -> usize
-    requires { ⌜ (length (now run) ≤ 1048577) × (2097218 ≤ length (now line)) ⌝ }
+    requires { ⌜ (length (now run) ≤ longest) × (lineRoom ≤ length (now line)) ⌝ }
     ensures is { λ r. ⌜ Picked (now (run .entry)) row nth (take r (now (line .exit))) ⌝ }
     ensures within { λ r. ⌜ Counts r (now (line .exit)) ⌝ }
 {
@@ -119,7 +120,7 @@ fn part_picked(run: &[u8], row: usize, nth: usize, line: &mut [u8]) -> usize
 
 // A case's bytes after its head.
 fn bytes_behind<'a>(feed: &'a [u8], size: usize) -> &'a [u8]
-    requires { ⌜ 13 + size ≤ length (now feed) ⌝ }
+    requires { ⌜ headSize + size ≤ length (now feed) ⌝ }
     ensures { λ r. ⌜ now r ≡ bytesIn size (now (feed .entry)) ⌝ }
 {
     let end = HEAD + size;
@@ -135,7 +136,7 @@ pub(crate) fn reply(
     second: &mut [u8],
     line: &mut [u8],
 ) -> usize
-    requires { ⌜ (1048576 ≤ length (now buffer)) × ((1048576 ≤ length (now second)) × (4194369 ≤ length (now line))) ⌝ }
+    requires { ⌜ (limit ≤ length (now buffer)) × ((limit ≤ length (now second)) × (pairRoom ≤ length (now line))) ⌝ }
     ensures is { λ r. ⌜ Replies (now (feed .entry)) number (take r (now (line .exit))) ⌝ }
     ensures within { λ r. ⌜ Counts r (now (line .exit)) ⌝ }
 {

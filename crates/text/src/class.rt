@@ -8,8 +8,8 @@ pub fn is_blank(b: u8) -> bool
     ensures { λ r. ⌜ r ≡ isBlank b ⌝ }
 {
     match b {
-        9 | 13 | 32 => true,
-        10 => true,
+        b'\t' | b'\r' | b' ' => true,
+        b'\n' => true,
         _ => false,
     }
 }
@@ -18,7 +18,7 @@ pub fn is_capital(b: u8) -> bool
     ensures { λ r. ⌜ r ≡ isCapital b ⌝ }
 {
     match b {
-        65..=90 => true,
+        b'A'..=b'Z' => true,
         _ => false,
     }
 }
@@ -27,8 +27,8 @@ pub fn is_letter(b: u8) -> bool
     ensures { λ r. ⌜ r ≡ isLetter b ⌝ }
 {
     match b {
-        65..=90 => true,
-        97..=122 => true,
+        b'A'..=b'Z' => true,
+        b'a'..=b'z' => true,
         _ => false,
     }
 }
@@ -37,7 +37,7 @@ pub fn is_digit(b: u8) -> bool
     ensures { λ r. ⌜ r ≡ isDigit b ⌝ }
 {
     match b {
-        48..=57 => true,
+        b'0'..=b'9' => true,
         _ => false,
     }
 }
@@ -46,9 +46,9 @@ pub fn is_name_start(b: u8) -> bool
     ensures { λ r. ⌜ r ≡ isNameStart b ⌝ }
 {
     match b {
-        65..=90 => true,
-        95 => true,
-        97..=122 => true,
+        b'A'..=b'Z' => true,
+        b'_' => true,
+        b'a'..=b'z' => true,
         _ => false,
     }
 }

@@ -3,3 +3,4 @@
 pub mod class; // class.rt: bytes by class
 pub mod span; // span.rt: how far a class reaches
 pub mod part; // part.rt: parts of slices, compared
+pub mod width; // width.rt: how many bytes a number has

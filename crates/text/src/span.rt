@@ -7,29 +7,34 @@ ghost use lib.ListN.{drop};
 ghost use Rattle.text.specs.Lists.{span};
 ghost use Rattle.text.specs.Bytes.{isBlank};
 
+// Runs are passed four bytes a turn: so many, and those of them after the first.
+pub const TURN: usize = 4;
+
+pub const TURN_REST: usize = TURN - 1;
+
 // The end of the spaces from a place on, four a turn. It may stop early near the end of the bytes: what is left of the blanks is the same.
 fn spaces_end(s: &[u8], at: usize) -> usize
     ensures { λ r. ⌜ r + span isBlank (drop r (now (s .entry))) ≡ at + span isBlank (drop at (now (s .entry))) ⌝ }
 {
-    if s.len() < 4 {
+    if s.len() < TURN {
         return at;
     }
-    let last = s.len() - 3;
+    let last = s.len() - TURN_REST;
     let mut i = at;
     while i < last {
         let j = i + 1;
         let k = j + 1;
         let l = k + 1;
-        if s[i] != 32 {
+        if s[i] != b' ' {
             return i;
         }
-        if s[j] != 32 {
+        if s[j] != b' ' {
             return j;
         }
-        if s[k] != 32 {
+        if s[k] != b' ' {
             return k;
         }
-        if s[l] != 32 {
+        if s[l] != b' ' {
             return l;
         }
         i = l + 1;
@@ -42,7 +47,7 @@ fn line_end(s: &[u8], at: usize) -> usize
     ensures { λ r. ⌜ r + span isBlank (drop r (now (s .entry))) ≡ at + span isBlank (drop at (now (s .entry))) ⌝ }
 {
     if at < s.len() {
-        if s[at] == 10 {
+        if s[at] == b'\n' {
             return at + 1;
         }
     }
@@ -56,7 +61,7 @@ pub fn blanks_end(s: &[u8], at: usize) -> usize
     if s.len() <= at {
         return at;
     }
-    if 32 < s[at] {
+    if b' ' < s[at] {
         return at;
     }
     let mut i = spaces_end(s, line_end(s, at));

@@ -1,6 +1,9 @@
 // Numbers as big-endian bytes, and parts of slices, written into a lent buffer. Where they do not fit, nothing is changed.
 
 use text::part::part_len;
+use text::width::WIDTH_16;
+use text::width::WIDTH_32;
+use text::width::WIDTH_64;
 ghost use mathlib.Core.Path.{_≡_};
 ghost use Prim.Native.Nat.{_≤_, _<_, _^_};
 ghost use lib.ListN.{length, take, drop};
@@ -30,19 +33,19 @@ fn put(dst: &mut [u8], at: usize, w: usize, n: u64)
 pub fn put16(dst: &mut [u8], at: usize, n: u16)
     ensures { λ _. ⌜ now (dst .exit) ≡ pasted (now (dst .entry)) at (bigEndian 2 n) ⌝ }
 {
-    put(dst, at, 2, n as u64);
+    put(dst, at, WIDTH_16, n as u64);
 }
 
 pub fn put32(dst: &mut [u8], at: usize, n: u32)
     ensures { λ _. ⌜ now (dst .exit) ≡ pasted (now (dst .entry)) at (bigEndian 4 n) ⌝ }
 {
-    put(dst, at, 4, n as u64);
+    put(dst, at, WIDTH_32, n as u64);
 }
 
 pub fn put64(dst: &mut [u8], at: usize, n: u64)
     ensures { λ _. ⌜ now (dst .exit) ≡ pasted (now (dst .entry)) at (bigEndian 8 n) ⌝ }
 {
-    put(dst, at, 8, n);
+    put(dst, at, WIDTH_64, n);
 }
 
 fn wide(x: u8) -> u64
@@ -82,19 +85,19 @@ fn get(s: &[u8], at: usize, w: usize) -> u64
 pub fn get16(s: &[u8], at: usize) -> u16
     ensures { λ r. ⌜ r ≡ number (take 2 (drop at (now (s .entry)))) ⌝ }
 {
-    get(s, at, 2) as u16
+    get(s, at, WIDTH_16) as u16
 }
 
 pub fn get32(s: &[u8], at: usize) -> u32
     ensures { λ r. ⌜ r ≡ number (take 4 (drop at (now (s .entry)))) ⌝ }
 {
-    get(s, at, 4) as u32
+    get(s, at, WIDTH_32) as u32
 }
 
 pub fn get64(s: &[u8], at: usize) -> u64
     ensures { λ r. ⌜ r ≡ number (take 8 (drop at (now (s .entry)))) ⌝ }
 {
-    get(s, at, 8)
+    get(s, at, WIDTH_64)
 }
 
 // The part of src from a to b, written to a place of dst.

@@ -71,25 +71,25 @@ resolvedAll ps = map resolved ps
 
 -- the bytes that mark up: `<`, `>`, `/`, `=`, `&`, `]`, and the two quotes, as the laws and the code's promises name them
 abbrev pub less : ℕ
-less = 60
+less = code "<"
 
 abbrev pub greater : ℕ
-greater = 62
+greater = code ">"
 
 abbrev pub solidus : ℕ
-solidus = 47
+solidus = code "/"
 
 abbrev pub equal : ℕ
-equal = 61
+equal = code "="
 
 abbrev pub ampersand : ℕ
-ampersand = 38
+ampersand = code "&"
 
 abbrev pub bracket : ℕ
-bracket = 93
+bracket = code "]"
 
 abbrev pub apostrophe : ℕ
-apostrophe = 39
+apostrophe = code "'"
 
 abbrev pub quotation : ℕ
-quotation = 34
+quotation = code "\""

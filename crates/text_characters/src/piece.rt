@@ -12,6 +12,27 @@ ghost use Rattle.text_characters.specs.Pieces.{isXmlChar};
 ghost use Rattle.text_characters.specs.Chars.{charOf, NextChar};
 ghost use Rattle.text_characters.specs.mirror.Resolving.{entityAt, plainAt};
 
+// The five entities as they are spelled, and the characters that they stand for.
+const AMP: [u8; 5] = *b"&amp;";
+
+const LT: [u8; 4] = *b"&lt;";
+
+const GT: [u8; 4] = *b"&gt;";
+
+const QUOT: [u8; 6] = *b"&quot;";
+
+const APOS: [u8; 6] = *b"&apos;";
+
+const AMPERSAND: u32 = b'&' as u32;
+
+const LESS: u32 = b'<' as u32;
+
+const GREATER: u32 = b'>' as u32;
+
+const QUOTE: u32 = b'"' as u32;
+
+const APOSTROPHE: u32 = b'\'' as u32;
+
 fn is_xml_char(c: u32) -> bool
     ensures { λ r. ⌜ r ≡ isXmlChar c ⌝ }
 {
@@ -39,20 +60,20 @@ fn ascii_char(x: u8) -> Char
 fn entity(s: &[u8], at: usize) -> Char
     ensures { λ r. ⌜ r ≡ entityAt (drop at (now (s .entry))) ⌝ }
 {
-    if begins(s, at, b"&amp;") {
-        return char_of(5, 38);
+    if begins(s, at, &AMP) {
+        return char_of(AMP.len(), AMPERSAND);
     }
-    if begins(s, at, b"&lt;") {
-        return char_of(4, 60);
+    if begins(s, at, &LT) {
+        return char_of(LT.len(), LESS);
     }
-    if begins(s, at, b"&gt;") {
-        return char_of(4, 62);
+    if begins(s, at, &GT) {
+        return char_of(GT.len(), GREATER);
     }
-    if begins(s, at, b"&quot;") {
-        return char_of(6, 34);
+    if begins(s, at, &QUOT) {
+        return char_of(QUOT.len(), QUOTE);
     }
-    if begins(s, at, b"&apos;") {
-        return char_of(6, 39);
+    if begins(s, at, &APOS) {
+        return char_of(APOS.len(), APOSTROPHE);
     }
     char_of(0, 0)
 }
@@ -65,10 +86,10 @@ pub fn next_char(s: &[u8], at: usize) -> Char
         return char_of(0, 0);
     }
     let x = s[at];
-    if x == 38 {
+    if x == b'&' {
         return entity(s, at);
     }
-    if x == 60 {
+    if x == b'<' {
         return char_of(0, 0);
     }
     if x < 0x80 {

@@ -5,8 +5,41 @@ ghost use Prim.Native.Nat.{_+_, _/_, _≤_, _<_};
 ghost use lib.ListN.{length, drop, getD};
 ghost use Rattle.text_characters.specs.Utf8.{Utf8};
 ghost use Rattle.text_characters.specs.Chars.{charOf, Decoded};
-ghost use Rattle.text_characters.specs.mirror.Decoding.{isAscii, AsciiOver, isTail, isScalar, kept, two, three, four, decoded, Paired};
+ghost use Rattle.text_characters.specs.mirror.Decoding.{isAscii, AsciiOver, isTail, isScalar, kept, two, three, four, decoded, Paired, half};
 ghost use Rattle.text.specs.Lists.{span, LongestBeginning};
+
+// A byte that goes on holds six bits of a character, the first of two, three or four bytes five, four or three: how many numbers these
+// bits write, and the weight of what stands before one, two or three bytes that go on.
+const TAIL: u8 = 1 << 6;
+
+const FIRST_OF_TWO: u8 = 1 << 5;
+
+const FIRST_OF_THREE: u8 = 1 << 4;
+
+const FIRST_OF_FOUR: u8 = 1 << 3;
+
+const ONE_TAIL: u32 = 1 << 6;
+
+const TWO_TAILS: u32 = 1 << 12;
+
+const THREE_TAILS: u32 = 1 << 18;
+
+// How many bytes the longer sequences have, and the place of the last of four.
+const OF_THREE: usize = 3;
+
+const OF_FOUR: usize = 4;
+
+const FOURTH: usize = OF_FOUR - 1;
+
+// The first byte that is no ASCII.
+const BEYOND: u8 = 0x80;
+
+// Bytes are tested eight at a time, in two halves: how many a half has, and those after its first.
+const HALF: usize = 4;
+
+const HALF_LAST: usize = HALF - 1;
+
+const EIGHT: usize = 2 * HALF;
 
 // A character of a text: how many bytes spell it and its code point, or 0 and 0 where none begins.
 pub struct Char {
@@ -78,7 +111,7 @@ fn decode_two(x: u8, y: u8) -> Char
     if !is_tail(y) {
         return char_of(0, 0);
     }
-    keep(2, 0x80, wide(x % 32) * 64 + wide(y % 64))
+    keep(2, 0x80, wide(x % FIRST_OF_TWO) * ONE_TAIL + wide(y % TAIL))
 }
 
 fn decode_three(x: u8, y: u8, z: u8) -> Char
@@ -91,9 +124,9 @@ fn decode_three(x: u8, y: u8, z: u8) -> Char
         return char_of(0, 0);
     }
     keep(
-        3,
+        OF_THREE,
         0x800,
-        wide(x % 16) * 4096 + wide(y % 64) * 64 + wide(z % 64),
+        wide(x % FIRST_OF_THREE) * TWO_TAILS + wide(y % TAIL) * ONE_TAIL + wide(z % TAIL),
     )
 }
 
@@ -110,9 +143,12 @@ fn decode_four(x: u8, y: u8, z: u8, w: u8) -> Char
         return char_of(0, 0);
     }
     keep(
-        4,
+        OF_FOUR,
         0x10000,
-        wide(x % 8) * 262144 + wide(y % 64) * 4096 + wide(z % 64) * 64 + wide(w % 64),
+        wide(x % FIRST_OF_FOUR) * THREE_TAILS
+            + wide(y % TAIL) * TWO_TAILS
+            + wide(z % TAIL) * ONE_TAIL
+            + wide(w % TAIL),
     )
 }
 
@@ -124,7 +160,7 @@ pub fn decode(s: &[u8], at: usize) -> Char
         return char_of(0, 0);
     }
     let x = s[at];
-    if x < 0x80 {
+    if x < BEYOND {
         return char_of(1, wide(x));
     }
     if x < 0xC0 {
@@ -137,7 +173,7 @@ pub fn decode(s: &[u8], at: usize) -> Char
         return decode_three(x, byte(s, at, 1), byte(s, at, 2));
     }
     if x < 0xF8 {
-        return decode_four(x, byte(s, at, 1), byte(s, at, 2), byte(s, at, 3));
+        return decode_four(x, byte(s, at, 1), byte(s, at, 2), byte(s, at, FOURTH));
     }
     char_of(0, 0)
 }
@@ -159,7 +195,7 @@ pub(crate) fn pair(s: &[u8], at: usize) -> u32
     if !is_tail(y) {
         return 0;
     }
-    wide(x % 32) * 64 + wide(y % 64)
+    wide(x % FIRST_OF_TWO) * ONE_TAIL + wide(y % TAIL)
 }
 
 // How many bytes the character has that begins at a place, 0 where none does.
@@ -175,17 +211,17 @@ fn char_len(s: &[u8], at: usize) -> usize
 }
 
 fn top_bit(b: u8) -> u8
-    ensures { λ r. ⌜ (r ≡ b / 128) × (r ≤ 1) ⌝ }
+    ensures { λ r. ⌜ (r ≡ b / 0x80) × (r ≤ 1) ⌝ }
 {
-    b / 128
+    b / BEYOND
 }
 
 // How many of the four bytes at a place are no ASCII.
 fn marked(s: &[u8], at: usize) -> u8
-    requires { ⌜ at + 4 ≤ length (now s) ⌝ }
-    ensures { λ r. ⌜ (r ≤ 4) × (r ≡ 0 → AsciiOver 4 (now (s .entry)) at) ⌝ }
+    requires { ⌜ at + half ≤ length (now s) ⌝ }
+    ensures { λ r. ⌜ (r ≤ half) × (r ≡ 0 → AsciiOver half (now (s .entry)) at) ⌝ }
 {
-    top_bit(s[at]) + top_bit(s[at + 1]) + top_bit(s[at + 2]) + top_bit(s[at + 3])
+    top_bit(s[at]) + top_bit(s[at + 1]) + top_bit(s[at + 2]) + top_bit(s[at + HALF_LAST])
 }
 
 // As far as eight bytes of ASCII follow, and eight more: eight loads and one test, which become one load and one test.
@@ -194,13 +230,13 @@ fn ascii_eights(s: &[u8], at: usize) -> usize
 {
     let mut i = at;
     while i < s.len() {
-        if s.len() - i < 8 {
+        if s.len() - i < EIGHT {
             return i;
         }
-        if marked(s, i) + marked(s, i + 4) != 0 {
+        if marked(s, i) + marked(s, i + HALF) != 0 {
             return i;
         }
-        i += 8;
+        i += EIGHT;
     }
     i
 }
@@ -210,7 +246,7 @@ fn ascii_end(s: &[u8], at: usize) -> usize
 {
     let mut i = ascii_eights(s, at);
     while i < s.len() {
-        if 0x80 <= s[i] {
+        if BEYOND <= s[i] {
             return i;
         }
         i += 1;

@@ -3,19 +3,23 @@ use text_bytes::number::copy;
 ghost use mathlib.Core.Path.{_≡_};
 ghost use Prim.Native.Nat.{_+_, _-_, _≤_, _<_};
 ghost use lib.ListN.{length};
-ghost use Rattle.text.specs.Digits.{inDigits, padded, pointed, lastPointed};
+ghost use Rattle.text.specs.Digits.{inDigits, padded, pointed, lastPointed, mostDigits, mostPointed};
 ghost use Rattle.text.specs.Pasting.{pasted};
+ghost use Rattle.text.specs.Bytes.{code};
+
+// The most digits that a number of 64 bits has.
+pub const MOST_DIGITS: usize = 20;
 
 fn digit(n: u64) -> u8
     requires { ⌜ n < 10 ⌝ }
-    ensures { λ r. ⌜ r ≡ 48 + n ⌝ }
+    ensures { λ r. ⌜ r ≡ code "0" + n ⌝ }
 {
-    48 + (n as u8)
+    b'0' + (n as u8)
 }
 
 // How many digits n has.
 pub fn width(n: u64) -> usize
-    ensures { λ r. ⌜ (r ≡ length (inDigits n)) × (r ≤ 20) ⌝ }
+    ensures { λ r. ⌜ (r ≡ length (inDigits n)) × (r ≤ mostDigits) ⌝ }
 {
     let mut left = n;
     let mut w = 1;
@@ -28,7 +32,7 @@ pub fn width(n: u64) -> usize
 
 // How many bytes they are with a point before the last k: a digit at least stands before it.
 fn pointed_width(n: u64, k: u8) -> usize
-    ensures { λ r. ⌜ (r ≡ length (pointed k n)) × (r ≤ 257) ⌝ }
+    ensures { λ r. ⌜ (r ≡ length (pointed k n)) × (r ≤ mostPointed) ⌝ }
 {
     let w = width(n);
     if k == 0 {
@@ -80,7 +84,7 @@ fn spread_last(buf: &mut [u8], at: usize, d: u64, k: u8) -> usize
     ensures { λ r. ⌜ (r ≡ at + length (lastPointed k d)) × (now (buf .exit) ≡ pasted (now (buf .entry)) at (lastPointed k d)) ⌝ }
 {
     if k == 1 {
-        buf[at] = 46;
+        buf[at] = b'.';
         buf[at + 1] = digit(d);
         return at + 2;
     }
@@ -112,7 +116,7 @@ fn spread(buf: &mut [u8], at: usize, n: u64, k: u8) -> usize
 
 // Writes the digits of n at a place with a point before the last k, and answers how many bytes they are.
 pub fn put_pointed(buf: &mut [u8], at: usize, n: u64, k: u8) -> usize
-    ensures { λ r. ⌜ (r ≡ length (pointed k n)) × ((r ≤ 257) × (now (buf .exit) ≡ pasted (now (buf .entry)) at (pointed k n))) ⌝ }
+    ensures { λ r. ⌜ (r ≡ length (pointed k n)) × ((r ≤ mostPointed) × (now (buf .exit) ≡ pasted (now (buf .entry)) at (pointed k n))) ⌝ }
 {
     let w = pointed_width(n, k);
     if buf.len() < at {
@@ -127,7 +131,7 @@ pub fn put_pointed(buf: &mut [u8], at: usize, n: u64, k: u8) -> usize
 
 // Writes the digits of n at a place, and answers how many there are.
 pub fn put(buf: &mut [u8], at: usize, n: u64) -> usize
-    ensures { λ r. ⌜ (r ≡ length (inDigits n)) × ((r ≤ 20) × (now (buf .exit) ≡ pasted (now (buf .entry)) at (inDigits n))) ⌝ }
+    ensures { λ r. ⌜ (r ≡ length (inDigits n)) × ((r ≤ mostDigits) × (now (buf .exit) ≡ pasted (now (buf .entry)) at (inDigits n))) ⌝ }
 {
     put_pointed(buf, at, n, 0)
 }

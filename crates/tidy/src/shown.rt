@@ -5,10 +5,11 @@ ghost use mathlib.Core.Path.{_≡_};
 ghost use lib.ListN.{length, take};
 ghost use Rattle.io.specs.Counts.{Counts};
 ghost use Rattle.tidy.specs.Presents.{Presents};
+ghost use Rattle.answer.specs.Table.{limit};
 
 // Puts what is written for a file to the start of a buffer, and answers how many bytes it is.
 pub(crate) fn shown(input: &[u8], image: &mut [u8], out: &mut [u8]) -> usize
-    requires { ⌜ (length (now image) ≡ 1048576) × (length (now out) ≡ 1048576) ⌝ }
+    requires { ⌜ (length (now image) ≡ limit) × (length (now out) ≡ limit) ⌝ }
     ensures is { λ r. ⌜ Presents (now (input .entry)) (take r (now (out .exit))) ⌝ }
     ensures within { λ r. ⌜ Counts r (now (out .exit)) ⌝ }
 {

@@ -15,6 +15,8 @@ use Rattle.value.specs.parts.Form.{Form}
 use Rattle.value.specs.declared.judged.Judged.{Judged}
 use Rattle.value.specs.declared.judged.Moment as M
 use Rattle.value.specs.declared.judged.Judged.the-variants.{Refused, Text, Truth, Natural, Amount, Day, Moment}
+use Rattle.list.specs.tables.Columns.{ENUM}
+use Rattle.value.specs.Places.{numberSize, amountSize, dateSize, momentSize}
 
 -- a test that is passed exactly when P holds
 abbrev pub Exactly : Bool → Type 0 → Type 0
@@ -53,17 +55,17 @@ abbrev pub sizeOf : Judged → ℕ
 sizeOf Refused = 0
 sizeOf (Text n) = 2 + n
 sizeOf (Truth b) = 1
-sizeOf (Natural n) = 8
-sizeOf (Amount c k) = 12
-sizeOf (Day y m d) = 4
-sizeOf (Moment m) = 13
+sizeOf (Natural n) = numberSize
+sizeOf (Amount c k) = amountSize
+sizeOf (Day y m d) = dateSize
+sizeOf (Moment m) = momentSize
 
 -- a mirror: a code is its own text
 abbrev pub codedOf : Bool → ℕ → Judged
 codedOf true n = Text n
 codedOf false n = Refused
 
--- of the kind with this number, but for ENUM (6), whatever the currency; refused where no kind has it
+-- of the kind with this number, but for ENUM, whatever the currency; refused where no kind has it
 pub record Checked (kind k : ℕ) (s : List ℕ) (r : Judged) : Type 0 where
-  pub known : (l : Leaf) → code l ≡ kind → kind ≢ 6 → Given l k 0 → (w : List ℕ) → Ccy w → Right l w s r
-  pub unknown : ((l : Leaf) → code l ≡ kind → kind ≢ 6 → ⊥) → r ≡ Refused
+  pub known : (l : Leaf) → code l ≡ kind → kind ≢ ENUM → Given l k 0 → (w : List ℕ) → Ccy w → Right l w s r
+  pub unknown : ((l : Leaf) → code l ≡ kind → kind ≢ ENUM → ⊥) → r ≡ Refused

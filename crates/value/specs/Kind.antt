@@ -3,18 +3,19 @@ use mathlib.Core.Path.{_≡_}
 use Prim.Native.Nat.{ℕ}
 use lib.ListN.{length}
 use Rattle.list.specs.Listing.{Leaf, ref, iban, ccy, bool, num, amt, date, dtm, txt, enum}
+use Rattle.list.specs.tables.Columns.{REF, TXT, IBAN, CCY, ENUM, BOOL, NUM, AMT, DATE, DTM}
 
 abbrev pub code : Leaf → ℕ
-code ref = 2
-code (txt k) = 3
-code iban = 4
-code ccy = 5
-code (enum ws) = 6
-code bool = 7
-code num = 8
-code amt = 9
-code date = 10
-code dtm = 11
+code ref = REF
+code (txt k) = TXT
+code iban = IBAN
+code ccy = CCY
+code (enum ws) = ENUM
+code bool = BOOL
+code num = NUM
+code amt = AMT
+code date = DATE
+code dtm = DTM
 
 -- k is TXTk's, n the number of an ENUM's words; of the others they say nothing
 abbrev pub Given : Leaf → ℕ → ℕ → Type 0

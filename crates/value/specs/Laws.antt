@@ -1,12 +1,13 @@
 -- What holds of values, of every kind alike. Assumes nothing.
 use mathlib.Core.Path.{_≡_}
 use mathlib.Core.List.{List, [], _++_}
-use Prim.Native.Nat.{ℕ, _+_, _≤_}
+use Prim.Native.Nat.{ℕ, _+_, _-_, _≤_}
 use lib.ListN.{length}
 use Rattle.text_characters.specs.Pieces.{Spells}
 use Rattle.list.specs.Listing.{Leaf, ref, iban, ccy, bool, num, amt, date, dtm, txt, enum}
 use Rattle.list.specs.WellFormed.{LeafOk}
 use Rattle.value.specs.Value.{Value, IsValue, Spelt, bytes}
+use Rattle.value.specs.Places.{numberSize, amountSize}
 
 -- how many bytes more than its raw text a value may have
 abbrev pub extra : Leaf → ℕ
@@ -14,8 +15,8 @@ extra ref = 2
 extra iban = 2
 extra ccy = 2
 extra bool = 0
-extra num = 7
-extra amt = 11
+extra num = numberSize - 1
+extra amt = amountSize - 1
 extra date = 0
 extra dtm = 0
 extra (txt k) = 2

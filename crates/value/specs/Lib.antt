@@ -7,6 +7,8 @@ pub mod Rules
 pub mod Judged
 -- the numbers of types in a table
 pub mod Kind
+-- where the parts of a value stand
+pub mod Places
 -- the laws of values, as one record
 pub mod Laws
 -- mirrors, which say how the code goes

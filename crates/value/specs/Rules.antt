@@ -1,7 +1,7 @@
 -- What a text spells by the former and by the present date-time rule: of the ten types DTM alone has two rules. Assumes nothing.
 use mathlib.Core.Path.{_≡_}
 use mathlib.Core.List.{List}
-use Prim.Native.Nat.{ℕ, _%_}
+use Prim.Native.Nat.{ℕ, _%_, _^_}
 use Rattle.list.specs.Listing.{Leaf, ref, iban, ccy, bool, num, amt, date, dtm, txt, enum}
 use Rattle.value.specs.parts.Former.{DateRule, MomentBy}
 use Rattle.value.specs.Value.{Value, text, place, truth, natural, amount, day, moment}
@@ -39,4 +39,4 @@ InThousandths (truth b) = Unit {0}
 InThousandths (natural n) = Unit {0}
 InThousandths (amount w k c) = Unit {0}
 InThousandths (day y m d) = Unit {0}
-InThousandths (moment y mo d h mi s u z) = u % 1000 ≡ 0
+InThousandths (moment y mo d h mi s u z) = u % 10 ^ 3 ≡ 0

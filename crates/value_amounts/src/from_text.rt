@@ -1,6 +1,8 @@
 // AMT: one pass over the digits, a function for each stage, each the tail call of the one before.
 
 use text::class::is_digit;
+use value::bounds::MOST_SCALE;
+use value::bounds::NUMBER_LIMIT;
 use value::judged::Judged;
 ghost use Prim.Native.Nat.{_^_, _≤_, _<_, _+_};
 ghost use mathlib.Core.Path.{_≡_};
@@ -9,8 +11,21 @@ ghost use lib.ListN.{length, drop};
 ghost use Rattle.list.specs.Listing.{amt};
 ghost use Rattle.value.specs.Judged.{FormedAny};
 
-// 10^18, and the largest number of which ten times are below it
-const LIMIT: u64 = 1000000000000000000;
+// Powers of ten, of which an amount's places after the point need five.
+const TEN: u64 = 10;
+
+const TEN_2: u64 = 10 * TEN;
+
+const TEN_3: u64 = 10 * TEN_2;
+
+const TEN_4: u64 = 10 * TEN_3;
+
+const TEN_5: u64 = 10 * TEN_4;
+
+// The last of these places, and the one before it, from 0.
+const LAST_PLACE: usize = MOST_SCALE as usize - 1;
+
+const FOURTH_PLACE: usize = LAST_PLACE - 1;
 
 fn wide(x: u8) -> u64
     ensures { λ r. ⌜ r ≡ x ⌝ }
@@ -33,15 +48,15 @@ fn finish(neg: bool, c: u64, k: u8) -> Judged
 
 // Ten to the power of z + 1, of which there are five.
 fn shift(z: usize) -> u64
-    requires { ⌜ z ≤ 4 ⌝ }
-    ensures { λ r. ⌜ (r ≡ 10 ^ (z + 1)) × ((10 ≤ r) × (r ≤ 100000)) ⌝ }
+    requires { ⌜ z < 5 ⌝ }
+    ensures { λ r. ⌜ (r ≡ 10 ^ (z + 1)) × ((10 ≤ r) × (r ≤ 10 ^ 5)) ⌝ }
 {
     match z {
-        0 => 10,
-        1 => 100,
-        2 => 1000,
-        3 => 10000,
-        _ => 100000,
+        0 => TEN,
+        1 => TEN_2,
+        2 => TEN_3,
+        FOURTH_PLACE => TEN_4,
+        _ => TEN_5,
     }
 }
 
@@ -60,17 +75,17 @@ fn frac(t: &[u8], at: usize, neg: bool, whole: u64) -> Judged
             return Judged::Refused;
         }
         i += 1;
-        if b == 48 {
+        if b == b'0' {
             z += 1;
         } else {
-            if 4 < k + z {
+            if LAST_PLACE < k + z {
                 return Judged::Refused;
             }
             let p = shift(z);
-            if LIMIT / p <= c {
+            if NUMBER_LIMIT / p <= c {
                 return Judged::Refused;
             }
-            c = c * p + wide(b - 48);
+            c = c * p + wide(b - b'0');
             k = k + z + 1;
             z = 0;
         }
@@ -88,15 +103,15 @@ fn whole(t: &[u8], at: usize, neg: bool) -> Judged
     while i < t.len() {
         let b = t[i];
         if !is_digit(b) {
-            if b == 46 {
+            if b == b'.' {
                 return frac(t, i + 1, neg, c);
             }
             return Judged::Refused;
         }
-        if LIMIT / 10 <= c {
+        if NUMBER_LIMIT / 10 <= c {
             return Judged::Refused;
         }
-        c = c * 10 + wide(b - 48);
+        c = c * 10 + wide(b - b'0');
         i += 1;
     }
     finish(neg, c, 0)
@@ -114,7 +129,7 @@ fn signed(t: &[u8], at: usize, neg: bool) -> Judged
     if is_digit(b) {
         return whole(t, at, neg);
     }
-    if b != 46 {
+    if b != b'.' {
         return Judged::Refused;
     }
     let next = at + 1;
@@ -132,10 +147,10 @@ pub fn amount(t: &[u8]) -> Judged
         return Judged::Refused;
     }
     let b = t[0];
-    if b == 43 {
+    if b == b'+' {
         return signed(t, 1, false);
     }
-    if b == 45 {
+    if b == b'-' {
         return signed(t, 1, true);
     }
     signed(t, 0, false)

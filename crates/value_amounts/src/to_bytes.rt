@@ -2,6 +2,9 @@
 
 use text_bytes::number::copy;
 use text_bytes::number::put64;
+use value::packed::AMOUNT_SIZE;
+use value::packed::COEFFICIENT;
+use value::packed::SCALE;
 use value_codes::ccy::is_ccy;
 use value_shared::blanks::part_of;
 use value_shared::place::has_room;
@@ -24,11 +27,11 @@ pub fn write_amount(
     if !is_ccy(part_of(s, c, d)) {
         return 0;
     }
-    if !has_room(out.len(), at, 12) {
-        return 12;
+    if !has_room(out.len(), at, AMOUNT_SIZE) {
+        return AMOUNT_SIZE;
     }
     copy(s, c, d, out, at);
-    place(out, at + 3, scale);
-    put64(out, at + 4, coefficient);
-    12
+    place(out, at + SCALE, scale);
+    put64(out, at + COEFFICIENT, coefficient);
+    AMOUNT_SIZE
 }

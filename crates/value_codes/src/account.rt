@@ -7,13 +7,20 @@ ghost use Rattle.value.specs.types.Code.{isLetterOrDigit, Iban};
 ghost use Rattle.value.specs.mirror.Layout.{ibanAt};
 ghost use Rattle.value.specs.Judged.{Exactly};
 
+// "two capitals, two digits, 1 to 30 ASCII letters or digits": the last digit of the two, the fewest bytes and the most.
+const LAST_DIGIT: usize = 3;
+
+const LEAST: usize = LAST_DIGIT + 2;
+
+const MOST: usize = LAST_DIGIT + 1 + 30;
+
 fn is_letter_or_digit(b: u8) -> bool
     ensures { λ r. ⌜ r ≡ isLetterOrDigit b ⌝ }
 {
     match b {
-        48..=57 => true,
-        65..=90 => true,
-        97..=122 => true,
+        b'0'..=b'9' => true,
+        b'A'..=b'Z' => true,
+        b'a'..=b'z' => true,
         _ => false,
     }
 }
@@ -24,7 +31,7 @@ fn iban_byte(i: usize, b: u8) -> bool
 {
     match i {
         0..=1 => is_capital(b),
-        2..=3 => is_digit(b),
+        2..=LAST_DIGIT => is_digit(b),
         _ => is_letter_or_digit(b),
     }
 }
@@ -32,10 +39,10 @@ fn iban_byte(i: usize, b: u8) -> bool
 pub fn is_iban(t: &[u8]) -> bool
     ensures { λ r. ⌜ Exactly r (Iban (now (t .entry))) ⌝ }
 {
-    if t.len() < 5 {
+    if t.len() < LEAST {
         return false;
     }
-    if 34 < t.len() {
+    if MOST < t.len() {
         return false;
     }
     let mut i = 0;

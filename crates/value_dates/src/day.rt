@@ -1,7 +1,10 @@
 // DATE: digits by two, and real days.
 
 use text::class::is_digit;
+use value::bounds::LAST_MONTH;
+use value::bounds::LAST_YEAR;
 use value::judged::Judged;
+use value::written;
 ghost use mathlib.Core.Path.{_≡_};
 ghost use Rattle.value.specs.types.Day.{monthDays, Real};
 ghost use lib.ListN.{drop};
@@ -16,7 +19,7 @@ pub fn month_days(y: u16, m: u8) -> u8
     if m == 0 {
         return 0;
     }
-    if 12 < m {
+    if LAST_MONTH < m {
         return 0;
     }
     match m {
@@ -37,26 +40,34 @@ pub fn month_days(y: u16, m: u8) -> u8
     }
 }
 
-// The number of two digits, 100 where there are none.
+// What stands for the number of two digits that are none: it is beyond each that two digits write.
+const NO_NUMBER: u8 = 100;
+
+const LAST_NUMBER: u8 = NO_NUMBER - 1;
+
+// The years that the first two digits of one count.
+const CENTURY: u16 = 100;
+
+// The number of two digits.
 pub(crate) fn two(s: &[u8], at: usize) -> u8
     ensures { λ r. ⌜ Two (drop at (now (s .entry))) r ⌝ }
 {
     if s.len() <= at {
-        return 100;
+        return NO_NUMBER;
     }
     let x = s[at];
     let next = at + 1;
     if s.len() <= next {
-        return 100;
+        return NO_NUMBER;
     }
     let y = s[next];
     if !is_digit(x) {
-        return 100;
+        return NO_NUMBER;
     }
     if !is_digit(y) {
-        return 100;
+        return NO_NUMBER;
     }
-    (x - 48) * 10 + (y - 48)
+    (x - b'0') * 10 + (y - b'0')
 }
 
 // Whether this byte stands there.
@@ -81,21 +92,21 @@ pub(crate) fn day_at(t: &[u8]) -> Judged
 {
     let hi = two(t, 0);
     let lo = two(t, 2);
-    let m = two(t, 5);
-    let d = two(t, 8);
-    if 99 < hi {
+    let m = two(t, written::MONTH);
+    let d = two(t, written::DAY);
+    if LAST_NUMBER < hi {
         return Judged::Refused;
     }
-    if 99 < lo {
+    if LAST_NUMBER < lo {
         return Judged::Refused;
     }
-    if !mark(t, 4, 45) {
+    if !mark(t, written::FIRST_DASH, b'-') {
         return Judged::Refused;
     }
-    if !mark(t, 7, 45) {
+    if !mark(t, written::SECOND_DASH, b'-') {
         return Judged::Refused;
     }
-    let y = wide16(hi) * 100 + wide16(lo);
+    let y = wide16(hi) * CENTURY + wide16(lo);
     if y == 0 {
         return Judged::Refused;
     }
@@ -116,10 +127,10 @@ pub(crate) fn next_day(y: u16, m: u8, d: u8) -> Judged
     if d < month_days(y, m) {
         return Judged::Day(y, m, d + 1);
     }
-    if m < 12 {
+    if m < LAST_MONTH {
         return Judged::Day(y, m + 1, 1);
     }
-    if y < 9999 {
+    if y < LAST_YEAR {
         return Judged::Day(y + 1, 1, 1);
     }
     Judged::Refused
@@ -129,7 +140,7 @@ pub(crate) fn next_day(y: u16, m: u8, d: u8) -> Judged
 pub fn day(t: &[u8]) -> Judged
     ensures { λ r. ⌜ FormedAny date (now (t .entry)) r ⌝ }
 {
-    if t.len() != 10 {
+    if t.len() != written::DATE_END {
         return Judged::Refused;
     }
     day_at(t)

@@ -2,6 +2,8 @@
 
 use text_bytes::number::get16;
 use text_bytes::number::get32;
+use value::bounds;
+use value::packed;
 use value_dates::day::month_days;
 use value_shared::place::byte;
 ghost use mathlib.Core.Path.{_≡_};
@@ -14,7 +16,7 @@ fn is_real(y: u16, m: u8, d: u8) -> bool
     if y == 0 {
         return false;
     }
-    if 9999 < y {
+    if bounds::LAST_YEAR < y {
         return false;
     }
     if d == 0 {
@@ -26,7 +28,7 @@ fn is_real(y: u16, m: u8, d: u8) -> bool
 pub fn is_day(b: &[u8]) -> bool
     ensures { λ r. ⌜ r ≡ isDay (now (b .entry)) ⌝ }
 {
-    is_real(get16(b, 0), byte(b, 2), byte(b, 3))
+    is_real(get16(b, 0), byte(b, packed::MONTH), byte(b, packed::DAY))
 }
 
 pub fn is_moment(b: &[u8]) -> bool
@@ -35,17 +37,17 @@ pub fn is_moment(b: &[u8]) -> bool
     if !is_day(b) {
         return false;
     }
-    if 23 < byte(b, 4) {
+    if bounds::LAST_HOUR < byte(b, packed::HOUR) {
         return false;
     }
-    if 59 < byte(b, 5) {
+    if bounds::LAST_MINUTE < byte(b, packed::MINUTE) {
         return false;
     }
-    if 59 < byte(b, 6) {
+    if bounds::LAST_SECOND < byte(b, packed::SECOND) {
         return false;
     }
-    if 999999 < get32(b, 7) {
+    if bounds::LAST_MICRO < get32(b, packed::MICROS) {
         return false;
     }
-    get16(b, 11) <= 1680
+    get16(b, packed::OFFSET) <= bounds::LAST_OFFSET
 }

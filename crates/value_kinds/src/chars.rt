@@ -3,6 +3,7 @@
 use text_bytes::number::copy;
 use text_bytes::number::put16;
 use text_characters::piece::next_char;
+use value::packed::MOST_BYTES;
 use value_shared::blanks::part_of;
 use value_shared::place::has_room;
 use value_shared::place::place;
@@ -21,7 +22,7 @@ fn run_end(t: &[u8], at: usize) -> usize
 {
     let mut i = at;
     while i < t.len() {
-        if t[i] == 38 {
+        if t[i] == b'&' {
             return i;
         }
         i += 1;
@@ -53,7 +54,7 @@ pub(crate) fn put_chars(t: &[u8], out: &mut [u8], at: usize)
 pub(crate) fn text_size(n: usize) -> usize
     ensures { λ r. ⌜ r ≡ textSize n ⌝ }
 {
-    if 65535 < n {
+    if MOST_BYTES < n {
         return 0;
     }
     2 + n

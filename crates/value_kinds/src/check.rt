@@ -1,5 +1,7 @@
 // The entry of the checkers: the raw text of a leaf, judged by its kind.
 
+use list::table;
+use value::bounds::MOST_REF;
 use value::judged::Judged;
 use value_amounts::from_text::amount;
 use value_codes::account::is_iban;
@@ -14,6 +16,25 @@ use value_texts::from_text::spelled;
 ghost use mathlib.Core.Path.{_≡_};
 ghost use Rattle.value.specs.Judged.{codedOf, Checked};
 ghost use lib.Seq.{slice};
+
+// The numbers of the kinds, each a byte here.
+const REF: u8 = table::REF as u8;
+
+const TXT: u8 = table::TXT as u8;
+
+const IBAN: u8 = table::IBAN as u8;
+
+const CCY: u8 = table::CCY as u8;
+
+const BOOL: u8 = table::BOOL as u8;
+
+const NUM: u8 = table::NUM as u8;
+
+const AMT: u8 = table::AMT as u8;
+
+const DATE: u8 = table::DATE as u8;
+
+const DTM: u8 = table::DTM as u8;
 
 // A code that is its own text.
 fn coded(good: bool, n: usize) -> Judged
@@ -31,15 +52,15 @@ pub fn check(kind: u8, k: usize, s: &[u8], a: usize, b: usize) -> Judged
 {
     let t = part_of(s, a, b);
     match kind {
-        2 => spelled(t, true, 35),
-        3 => spelled(t, false, k),
-        4 => coded(is_iban(t), t.len()),
-        5 => coded(is_ccy(t), t.len()),
-        7 => truth(trimmed(t)),
-        8 => natural(trimmed(t)),
-        9 => amount(trimmed(t)),
-        10 => day(trimmed(t)),
-        11 => moment(trimmed(t)),
+        REF => spelled(t, true, MOST_REF),
+        TXT => spelled(t, false, k),
+        IBAN => coded(is_iban(t), t.len()),
+        CCY => coded(is_ccy(t), t.len()),
+        BOOL => truth(trimmed(t)),
+        NUM => natural(trimmed(t)),
+        AMT => amount(trimmed(t)),
+        DATE => day(trimmed(t)),
+        DTM => moment(trimmed(t)),
         _ => Judged::Refused,
     }
 }

@@ -4,6 +4,10 @@ use crate::chars::text_size;
 use crate::chars::write_text;
 use crate::check::check;
 use value::judged::Judged;
+use value::packed::AMOUNT_SIZE;
+use value::packed::DATE_SIZE;
+use value::packed::MOMENT_SIZE;
+use value::packed::NUMBER_SIZE;
 use value_amounts::to_bytes::write_amount;
 use value_dates_stored::to_bytes::write_day;
 use value_dates_stored::to_bytes::write_moment;
@@ -20,10 +24,10 @@ pub fn size(kind: u8, k: usize, s: &[u8], a: usize, b: usize) -> usize
         Judged::Refused => 0,
         Judged::Text(n) => text_size(n),
         Judged::Truth(_) => 1,
-        Judged::Natural(_) => 8,
-        Judged::Amount(_, _) => 12,
-        Judged::Day(_, _, _) => 4,
-        Judged::Moment(_) => 13,
+        Judged::Natural(_) => NUMBER_SIZE,
+        Judged::Amount(_, _) => AMOUNT_SIZE,
+        Judged::Day(_, _, _) => DATE_SIZE,
+        Judged::Moment(_) => MOMENT_SIZE,
     }
 }
 

@@ -1,6 +1,20 @@
 // A value of any kind, by the number of its kind in a table.
 
+use list::table::AMT;
+use list::table::BOOL;
+use list::table::CCY;
+use list::table::DATE;
+use list::table::DTM;
+use list::table::ENUM;
+use list::table::IBAN;
+use list::table::NUM;
+use list::table::REF;
+use list::table::TXT;
 use text_bytes::number::get16;
+use value::packed::AMOUNT_SIZE;
+use value::packed::DATE_SIZE;
+use value::packed::MOMENT_SIZE;
+use value::packed::NUMBER_SIZE;
 use value_amounts::from_bytes::is_amount;
 use value_codes::account::is_iban;
 use value_codes::ccy::is_ccy;
@@ -16,9 +30,11 @@ ghost use Prim.Native.Nat.{_≤_, _+_};
 ghost use lib.ListN.{length, drop};
 ghost use Rattle.value.specs.mirror.Ends.{Spans, valueEnd};
 ghost use Rattle.value.specs.given.Stands.{EndsBy};
+ghost use Rattle.list.specs.tables.Columns.{REF, TXT, IBAN, CCY, ENUM, BOOL, NUM, AMT, DATE, DTM};
+ghost use Rattle.value.specs.Places.{longestText};
 
 fn wide(x: u16) -> usize
-    ensures { λ r. ⌜ (r ≡ x) × (r ≤ 65535) ⌝ }
+    ensures { λ r. ⌜ (r ≡ x) × (r ≤ longestText) ⌝ }
 {
     x as usize
 }
@@ -37,7 +53,7 @@ fn span(s: &[u8], at: usize) -> usize
 // The place after the value that begins at a place, 0 where none does: a function for each kind, which knows its width.
 fn reference_end(s: &[u8], at: usize) -> usize
     requires { ⌜ at ≤ length (now s) ⌝ }
-    ensures { λ r. ⌜ r ≡ valueEnd 2 0 0 (now (s .entry)) at ⌝ }
+    ensures { λ r. ⌜ r ≡ valueEnd REF 0 0 (now (s .entry)) at ⌝ }
 {
     let n = span(s, at);
     if s.len() - at < n {
@@ -53,7 +69,7 @@ fn reference_end(s: &[u8], at: usize) -> usize
 
 fn writing_end(s: &[u8], at: usize, k: usize) -> usize
     requires { ⌜ at ≤ length (now s) ⌝ }
-    ensures { λ r. ⌜ r ≡ valueEnd 3 k 0 (now (s .entry)) at ⌝ }
+    ensures { λ r. ⌜ r ≡ valueEnd TXT k 0 (now (s .entry)) at ⌝ }
 {
     let n = span(s, at);
     if s.len() - at < n {
@@ -69,7 +85,7 @@ fn writing_end(s: &[u8], at: usize, k: usize) -> usize
 
 fn account_end(s: &[u8], at: usize) -> usize
     requires { ⌜ at ≤ length (now s) ⌝ }
-    ensures { λ r. ⌜ r ≡ valueEnd 4 0 0 (now (s .entry)) at ⌝ }
+    ensures { λ r. ⌜ r ≡ valueEnd IBAN 0 0 (now (s .entry)) at ⌝ }
 {
     let n = span(s, at);
     if s.len() - at < n {
@@ -85,7 +101,7 @@ fn account_end(s: &[u8], at: usize) -> usize
 
 fn currency_end(s: &[u8], at: usize) -> usize
     requires { ⌜ at ≤ length (now s) ⌝ }
-    ensures { λ r. ⌜ r ≡ valueEnd 5 0 0 (now (s .entry)) at ⌝ }
+    ensures { λ r. ⌜ r ≡ valueEnd CCY 0 0 (now (s .entry)) at ⌝ }
 {
     let n = span(s, at);
     if s.len() - at < n {
@@ -101,7 +117,7 @@ fn currency_end(s: &[u8], at: usize) -> usize
 
 fn place_end(s: &[u8], at: usize, words: usize) -> usize
     requires { ⌜ at ≤ length (now s) ⌝ }
-    ensures { λ r. ⌜ r ≡ valueEnd 6 0 words (now (s .entry)) at ⌝ }
+    ensures { λ r. ⌜ r ≡ valueEnd ENUM 0 words (now (s .entry)) at ⌝ }
 {
     if s.len() - at < 1 {
         return 0;
@@ -115,7 +131,7 @@ fn place_end(s: &[u8], at: usize, words: usize) -> usize
 
 fn truth_end(s: &[u8], at: usize) -> usize
     requires { ⌜ at ≤ length (now s) ⌝ }
-    ensures { λ r. ⌜ r ≡ valueEnd 7 0 0 (now (s .entry)) at ⌝ }
+    ensures { λ r. ⌜ r ≡ valueEnd BOOL 0 0 (now (s .entry)) at ⌝ }
 {
     if s.len() - at < 1 {
         return 0;
@@ -129,12 +145,12 @@ fn truth_end(s: &[u8], at: usize) -> usize
 
 fn natural_end(s: &[u8], at: usize) -> usize
     requires { ⌜ at ≤ length (now s) ⌝ }
-    ensures { λ r. ⌜ r ≡ valueEnd 8 0 0 (now (s .entry)) at ⌝ }
+    ensures { λ r. ⌜ r ≡ valueEnd NUM 0 0 (now (s .entry)) at ⌝ }
 {
-    if s.len() - at < 8 {
+    if s.len() - at < NUMBER_SIZE {
         return 0;
     }
-    let end = at + 8;
+    let end = at + NUMBER_SIZE;
     if is_natural(&s[at..end]) {
         return end;
     }
@@ -143,12 +159,12 @@ fn natural_end(s: &[u8], at: usize) -> usize
 
 fn amount_end(s: &[u8], at: usize) -> usize
     requires { ⌜ at ≤ length (now s) ⌝ }
-    ensures { λ r. ⌜ r ≡ valueEnd 9 0 0 (now (s .entry)) at ⌝ }
+    ensures { λ r. ⌜ r ≡ valueEnd AMT 0 0 (now (s .entry)) at ⌝ }
 {
-    if s.len() - at < 12 {
+    if s.len() - at < AMOUNT_SIZE {
         return 0;
     }
-    let end = at + 12;
+    let end = at + AMOUNT_SIZE;
     if is_amount(&s[at..end]) {
         return end;
     }
@@ -157,12 +173,12 @@ fn amount_end(s: &[u8], at: usize) -> usize
 
 fn day_end(s: &[u8], at: usize) -> usize
     requires { ⌜ at ≤ length (now s) ⌝ }
-    ensures { λ r. ⌜ r ≡ valueEnd 10 0 0 (now (s .entry)) at ⌝ }
+    ensures { λ r. ⌜ r ≡ valueEnd DATE 0 0 (now (s .entry)) at ⌝ }
 {
-    if s.len() - at < 4 {
+    if s.len() - at < DATE_SIZE {
         return 0;
     }
-    let end = at + 4;
+    let end = at + DATE_SIZE;
     if is_day(&s[at..end]) {
         return end;
     }
@@ -171,12 +187,12 @@ fn day_end(s: &[u8], at: usize) -> usize
 
 fn moment_end(s: &[u8], at: usize) -> usize
     requires { ⌜ at ≤ length (now s) ⌝ }
-    ensures { λ r. ⌜ r ≡ valueEnd 11 0 0 (now (s .entry)) at ⌝ }
+    ensures { λ r. ⌜ r ≡ valueEnd DTM 0 0 (now (s .entry)) at ⌝ }
 {
-    if s.len() - at < 13 {
+    if s.len() - at < MOMENT_SIZE {
         return 0;
     }
-    let end = at + 13;
+    let end = at + MOMENT_SIZE;
     if is_moment(&s[at..end]) {
         return end;
     }
@@ -192,16 +208,16 @@ pub fn value_end(kind: usize, k: usize, words: usize, s: &[u8], at: usize) -> us
         return 0;
     }
     match kind {
-        2 => reference_end(s, at),
-        3 => writing_end(s, at, k),
-        4 => account_end(s, at),
-        5 => currency_end(s, at),
-        6 => place_end(s, at, words),
-        7 => truth_end(s, at),
-        8 => natural_end(s, at),
-        9 => amount_end(s, at),
-        10 => day_end(s, at),
-        11 => moment_end(s, at),
+        REF => reference_end(s, at),
+        TXT => writing_end(s, at, k),
+        IBAN => account_end(s, at),
+        CCY => currency_end(s, at),
+        ENUM => place_end(s, at, words),
+        BOOL => truth_end(s, at),
+        NUM => natural_end(s, at),
+        AMT => amount_end(s, at),
+        DATE => day_end(s, at),
+        DTM => moment_end(s, at),
         _ => 0,
     }
 }

@@ -1,6 +1,7 @@
 // ENUM, BOOL and NUM, from their bytes: a word's place in its list, yes or no, a number.
 
 use text_bytes::number::get64;
+use value::bounds::NUMBER_LIMIT;
 use value_shared::place::byte;
 ghost use mathlib.Core.Path.{_≡_};
 ghost use Rattle.value.specs.mirror.Judges.{isPlace, isTruth, isNatural};
@@ -31,5 +32,5 @@ pub fn is_truth(b: &[u8]) -> bool
 pub fn is_natural(b: &[u8]) -> bool
     ensures { λ r. ⌜ r ≡ isNatural (now (b .entry)) ⌝ }
 {
-    get64(b, 0) < 1000000000000000000
+    get64(b, 0) < NUMBER_LIMIT
 }

@@ -2,6 +2,7 @@
 
 use text::class::is_digit;
 use text::part::begins;
+use value::bounds::MOST_DIGITS;
 use value::judged::Judged;
 ghost use mathlib.Core.Path.{_≡_};
 ghost use Rattle.list.specs.Listing.{num, bool};
@@ -20,7 +21,7 @@ pub fn natural(t: &[u8]) -> Judged
     if t.len() == 0 {
         return Judged::Refused;
     }
-    if 18 < t.len() {
+    if MOST_DIGITS < t.len() {
         return Judged::Refused;
     }
     let mut i = 0;
@@ -30,7 +31,7 @@ pub fn natural(t: &[u8]) -> Judged
         if !is_digit(b) {
             return Judged::Refused;
         }
-        n = n * 10 + wide(b - 48);
+        n = n * 10 + wide(b - b'0');
         i += 1;
     }
     Judged::Natural(n)

@@ -1,6 +1,7 @@
 // The bytes of BOOL and NUM, whole or not at all, and how many there are.
 
 use text_bytes::number::put64;
+use value::packed::NUMBER_SIZE;
 use value_shared::place::place;
 ghost use mathlib.Core.Path.{_≡_};
 ghost use mathlib.Core.List.{[], _∷_};
@@ -27,5 +28,5 @@ pub fn write_natural(out: &mut [u8], at: usize, n: u64) -> usize
     ensures { λ r. ⌜ Wrote (now (out .entry)) at (bytes (natural n)) r (now (out .exit)) ⌝ }
 {
     put64(out, at, n);
-    8
+    NUMBER_SIZE
 }

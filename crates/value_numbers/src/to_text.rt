@@ -12,6 +12,11 @@ ghost use Rattle.value.specs.mirror.Stored.{wordRaw};
 ghost use mathlib.Core.Bool.{not};
 ghost use lib.Dec.{eqb};
 ghost use Rattle.value.specs.mirror.Stored.{truthText};
+ghost use Rattle.value.specs.Places.{longestTruth};
+
+const TRUE: [u8; 4] = *b"true";
+
+const FALSE: [u8; 5] = *b"false";
 
 // ENUM: a word of capitals, which are copied as they stand.
 pub fn write_word(
@@ -35,12 +40,12 @@ pub fn write_word(
 
 // "BOOL as `true` or `false`"
 pub fn write_truth(b: &[u8], out: &mut [u8], at: usize) -> usize
-    ensures { λ r. ⌜ (r ≡ length (truthText (not (eqb (getD (now (b .entry)) 0 0) 0)))) × ((r ≤ 5) × (now (out .exit) ≡ pasted (now (out .entry)) at (truthText (not (eqb (getD (now (b .entry)) 0 0) 0))))) ⌝ }
+    ensures { λ r. ⌜ (r ≡ length (truthText (not (eqb (getD (now (b .entry)) 0 0) 0)))) × ((r ≤ longestTruth) × (now (out .exit) ≡ pasted (now (out .entry)) at (truthText (not (eqb (getD (now (b .entry)) 0 0) 0))))) ⌝ }
 {
     if byte(b, 0) == 0 {
-        copy(b"false", 0, 5, out, at);
-        return 5;
+        copy(&FALSE, 0, FALSE.len(), out, at);
+        return FALSE.len();
     }
-    copy(b"true", 0, 4, out, at);
-    4
+    copy(&TRUE, 0, TRUE.len(), out, at);
+    TRUE.len()
 }

@@ -5,7 +5,7 @@ use text_characters::piece::next_char;
 use value::judged::Judged;
 ghost use Prim.Native.Nat.{_+_, _%_};
 ghost use mathlib.Core.Path.{_≡_};
-ghost use Rattle.value.specs.mirror.Pages.{bitOf, wordIn, words, wordOf, refWords, quietWords};
+ghost use Rattle.value.specs.mirror.Pages.{bitOf, wordIn, words, wordOf, refWords, quietWords, page};
 ghost use Rattle.value.specs.types.Text.{isTxt, isRef};
 ghost use Rattle.value.specs.mirror.Tests.{notSpace};
 ghost use mathlib.Core.Bool.{_&&_, not, _||_, cond};
@@ -13,15 +13,48 @@ ghost use lib.Dec.{eqb};
 ghost use Rattle.value.specs.mirror.Texts.{classOf, widthOf, quietTxt, quietOf, textOf, Spelled};
 ghost use lib.ListN.{drop};
 ghost use Rattle.text.specs.Lists.{span};
+ghost use Rattle.text.specs.Bytes.{code};
 
-// The word of the page from U+0040 on: all but the backtick and the last, U+007F.
+// How many code points a page has, each a bit of its word; the last page of a byte, and the euro's.
+const PAGE: u32 = 64;
+
+const LAST_PAGE: u32 = 3;
+
+const EURO_PAGE: u32 = 0x20AC / PAGE;
+
+// The words of TXT's pages: from U+0000 on all but the control characters; from U+0040 on all but the backtick and the last, U+007F; from
+// U+0080 on `§` and `°`; from U+00C0 on `Ä`, `Ö`, `Ü`, `ß`, `ä`, `ö` and `ü`; the euro.
+const SIGNS: u64 = 0xFFFFFFFF00000000;
+
 const LETTERS: u64 = 0x7FFFFFFEFFFFFFFF;
+
+const MARKS: u64 = 0x0001008000000000;
+
+const UMLAUTS: u64 = 0x1040001090400010;
+
+const EURO: u64 = 0x0000100000000000;
+
+// The words of REF's pages without the slash, and that of TXT's first one without `&` and `<`.
+const REF_SIGNS: u64 = 0x87FF7B8100000000;
+
+const REF_LETTERS: u64 = 0x07FFFFFE07FFFFFE;
+
+const QUIET_SIGNS: u64 = 0xEFFFFFBF00000000;
+
+const SPACE: u32 = b' ' as u32;
+
+const SLASH: u32 = b'/' as u32;
+
+// The first code point beyond ASCII, and the last of it.
+const BEYOND: u32 = 0x80;
+
+const LAST_ASCII: u32 = BEYOND - 1;
 
 // Whether the bit of a code point is 1 in the word of its page.
 fn has_bit(word: u64, c: u32) -> bool
-    ensures { λ r. ⌜ r ≡ bitOf word (c % 64) ⌝ }
+    ensures { λ r. ⌜ r ≡ bitOf word (c % page) ⌝ }
 {
-    (word >> (c % 64)) % 2 == 1
+    (word >> (c % PAGE)) % 2 == 1
 }
 
 // The words of the first four pages, of 64 code points each. To the compiler such a `match` is a table; with the euro's page among its keys it
@@ -30,10 +63,10 @@ fn low_word(page: u32) -> u64
     ensures { λ r. ⌜ r ≡ wordIn words page ⌝ }
 {
     match page {
-        0 => 0xFFFFFFFF00000000,
+        0 => SIGNS,
         1 => LETTERS,
-        2 => 0x0001008000000000,
-        3 => 0x1040001090400010,
+        2 => MARKS,
+        LAST_PAGE => UMLAUTS,
         _ => 0,
     }
 }
@@ -43,10 +76,10 @@ fn word(c: u32) -> u64
     ensures { λ r. ⌜ r ≡ wordOf c ⌝ }
 {
     if c < 256 {
-        return low_word(c / 64);
+        return low_word(c / PAGE);
     }
-    if c / 64 == 130 {
-        return 0x0000100000000000;
+    if c / PAGE == EURO_PAGE {
+        return EURO;
     }
     0
 }
@@ -63,29 +96,29 @@ fn ref_word(page: u32) -> u64
     ensures { λ r. ⌜ r ≡ wordIn refWords page ⌝ }
 {
     match page {
-        0 => 0x87FF7B8100000000,
-        1 => 0x07FFFFFE07FFFFFE,
+        0 => REF_SIGNS,
+        1 => REF_LETTERS,
         2 => 0,
-        3 => 0,
+        LAST_PAGE => 0,
         _ => 0,
     }
 }
 
 // A byte that a reference may have and that is no slash, which must be looked at.
 pub fn is_quiet_ref(b: u8) -> bool
-    ensures { λ r. ⌜ r ≡ (isRef b && not (eqb b 47)) ⌝ }
+    ensures { λ r. ⌜ r ≡ (isRef b && not (eqb b (code "/"))) ⌝ }
 {
     let c = b as u32;
-    has_bit(ref_word(c / 64), c)
+    has_bit(ref_word(c / PAGE), c)
 }
 
 fn is_ref(c: u32) -> bool
     ensures { λ r. ⌜ r ≡ isRef c ⌝ }
 {
-    if c == 47 {
+    if c == SLASH {
         return true;
     }
-    if 127 < c {
+    if LAST_ASCII < c {
         return false;
     }
     is_quiet_ref(c as u8)
@@ -107,14 +140,14 @@ fn inked(ink: bool, c: u32) -> bool
     if ink {
         return true;
     }
-    c != 32
+    c != SPACE
 }
 
 fn slash_and(flag: bool, c: u32) -> bool
-    ensures { λ r. ⌜ r ≡ (flag && eqb c 47) ⌝ }
+    ensures { λ r. ⌜ r ≡ (flag && eqb c (code "/")) ⌝ }
 {
     if flag {
-        return c == 47;
+        return c == SLASH;
     }
     false
 }
@@ -122,18 +155,18 @@ fn slash_and(flag: bool, c: u32) -> bool
 fn width(len: usize, code: u32) -> usize
     ensures { λ r. ⌜ r ≡ widthOf len code ⌝ }
 {
-    if code < 128 {
+    if code < BEYOND {
         return 1;
     }
     len
 }
 
 // Whether a reference may not go on with a slash: a character and a run of bytes that are none stand before.
-fn slash_behind(strict: bool, code: u32, run: usize) -> bool
-    ensures { λ r. ⌜ r ≡ (eqb run 0 && (strict && eqb code 47)) ⌝ }
+fn slash_behind(strict: bool, c: u32, run: usize) -> bool
+    ensures { λ r. ⌜ r ≡ (eqb run 0 && (strict && eqb c (code "/"))) ⌝ }
 {
     if run == 0 {
-        return slash_and(strict, code);
+        return slash_and(strict, c);
     }
     false
 }
@@ -143,10 +176,10 @@ fn quiet_word(page: u32) -> u64
     ensures { λ r. ⌜ r ≡ wordIn quietWords page ⌝ }
 {
     match page {
-        0 => 0xEFFFFFBF00000000,
+        0 => QUIET_SIGNS,
         1 => LETTERS,
         2 => 0,
-        3 => 0,
+        LAST_PAGE => 0,
         _ => 0,
     }
 }
@@ -155,7 +188,7 @@ fn is_quiet_txt(b: u8) -> bool
     ensures { λ r. ⌜ r ≡ quietTxt b ⌝ }
 {
     let c = b as u32;
-    has_bit(quiet_word(c / 64), c)
+    has_bit(quiet_word(c / PAGE), c)
 }
 
 fn is_quiet(strict: bool, b: u8) -> bool

@@ -1,5 +1,7 @@
 // The bytes of a text, `&`, `<` and `>` by entities: what stands between two of them is copied as it stands.
 
+use text::span::TURN;
+use text::span::TURN_REST;
 use text_bytes::number::copy;
 use text_bytes::number::get16;
 use value_shared::blanks::part_of;
@@ -12,13 +14,31 @@ ghost use Rattle.text.specs.Lists.{span};
 ghost use Rattle.text.specs.Pasting.{pasted};
 ghost use lib.Dec.{leb};
 ghost use Rattle.value.specs.mirror.Stored.{textRaw};
+ghost use Rattle.value.specs.Places.{mostMore, longestText, longestRaw};
+
+// What is written for the three.
+const AMP: [u8; 5] = *b"&amp;";
+
+const LT: [u8; 4] = *b"&lt;";
+
+const GT: [u8; 4] = *b"&gt;";
+
+// How many bytes more than the one that they stand for.
+const AMP_EXTRA: u32 = AMP.len() as u32 - 1;
+
+const LT_EXTRA: u32 = LT.len() as u32 - 1;
+
+const GT_EXTRA: u32 = GT.len() as u32 - 1;
+
+// The longest of them.
+const LONGEST: usize = AMP.len();
 
 // None of the three; a row without neighbours is one test of a mask.
 fn is_plain(x: u8) -> bool
     ensures { λ r. ⌜ r ≡ isPlain x ⌝ }
 {
     match x {
-        38 | 60 | 62 => false,
+        b'&' | b'<' | b'>' => false,
         _ => true,
     }
 }
@@ -28,10 +48,10 @@ fn is_plain(x: u8) -> bool
 fn plain_fours(t: &[u8], at: usize) -> usize
     ensures { λ r. ⌜ r + span isPlain (drop r (now (t .entry))) ≡ at + span isPlain (drop at (now (t .entry))) ⌝ }
 {
-    if t.len() < 4 {
+    if t.len() < TURN {
         return at;
     }
-    let last = t.len() - 3;
+    let last = t.len() - TURN_REST;
     let mut i = at;
     while i < last {
         let j = i + 1;
@@ -70,24 +90,24 @@ fn plain_end(t: &[u8], at: usize) -> usize
 
 // How many bytes more than one are written for a byte: tests that only choose a number, so that several bytes are counted at a time.
 fn extra(x: u8) -> u32
-    ensures { λ r. ⌜ (1 + r ≡ length (escape x)) × (r ≤ 4) ⌝ }
+    ensures { λ r. ⌜ (1 + r ≡ length (escape x)) × (r ≤ mostMore) ⌝ }
 {
-    if x == 38 {
-        return 4;
+    if x == b'&' {
+        return AMP_EXTRA;
     }
-    if x == 60 {
-        return 3;
+    if x == b'<' {
+        return LT_EXTRA;
     }
-    if x == 62 {
-        return 3;
+    if x == b'>' {
+        return GT_EXTRA;
     }
     0
 }
 
 // How many bytes are written for t.
 fn raw_len(t: &[u8]) -> usize
-    requires { ⌜ length (now t) ≤ 65535 ⌝ }
-    ensures { λ r. ⌜ (r ≡ length (escaped (now (t .entry)))) × (r ≤ 327675) ⌝ }
+    requires { ⌜ length (now t) ≤ longestText ⌝ }
+    ensures { λ r. ⌜ (r ≡ length (escaped (now (t .entry)))) × (r ≤ longestRaw) ⌝ }
 {
     let mut n: u32 = 0;
     let mut i = 0;
@@ -103,16 +123,16 @@ fn put_mark(x: u8, out: &mut [u8], at: usize) -> usize
     requires { ⌜ (isMarked x ≡ true) × (at + length (escape x) ≤ length (now out)) ⌝ }
     ensures { λ r. ⌜ (r ≡ at + length (escape x)) × (now (out .exit) ≡ pasted (now (out .entry)) at (escape x)) ⌝ }
 {
-    if x == 38 {
-        copy(b"&amp;", 0, 5, out, at);
-        return at + 5;
+    if x == b'&' {
+        copy(&AMP, 0, AMP.len(), out, at);
+        return at + AMP.len();
     }
-    if x == 60 {
-        copy(b"&lt;", 0, 4, out, at);
-        return at + 4;
+    if x == b'<' {
+        copy(&LT, 0, LT.len(), out, at);
+        return at + LT.len();
     }
-    copy(b"&gt;", 0, 4, out, at);
-    at + 4
+    copy(&GT, 0, GT.len(), out, at);
+    at + GT.len()
 }
 
 // All of t, run by run; the place after it.
@@ -136,10 +156,10 @@ fn spread(t: &[u8], out: &mut [u8], at: usize) -> usize
 
 // Whether t fits into so many bytes. Mostly it would if each byte were an entity, which needs no counting.
 fn has_room(t: &[u8], room: usize) -> bool
-    requires { ⌜ length (now t) ≤ 65535 ⌝ }
+    requires { ⌜ length (now t) ≤ longestText ⌝ }
     ensures { λ r. ⌜ r ≡ leb (length (escaped (now (t .entry)))) room ⌝ }
 {
-    if 5 * t.len() <= room {
+    if LONGEST * t.len() <= room {
         return true;
     }
     raw_len(t) <= room
@@ -147,8 +167,8 @@ fn has_room(t: &[u8], room: usize) -> bool
 
 // Writes t at a place of the buffer, and answers how many bytes that is. Where there is no room for it, it is counted and not written.
 pub(crate) fn write_chars(t: &[u8], out: &mut [u8], at: usize) -> usize
-    requires { ⌜ length (now t) ≤ 65535 ⌝ }
-    ensures { λ r. ⌜ (r ≡ length (escaped (now (t .entry)))) × ((r ≤ 327675) × (now (out .exit) ≡ pasted (now (out .entry)) at (escaped (now (t .entry))))) ⌝ }
+    requires { ⌜ length (now t) ≤ longestText ⌝ }
+    ensures { λ r. ⌜ (r ≡ length (escaped (now (t .entry)))) × ((r ≤ longestRaw) × (now (out .exit) ≡ pasted (now (out .entry)) at (escaped (now (t .entry))))) ⌝ }
 {
     if out.len() < at {
         return raw_len(t);
@@ -161,7 +181,7 @@ pub(crate) fn write_chars(t: &[u8], out: &mut [u8], at: usize) -> usize
 
 // REF, TXT, IBAN, CCY: as long as the first two bytes say.
 pub fn write_text(b: &[u8], out: &mut [u8], at: usize) -> usize
-    ensures { λ r. ⌜ (r ≡ length (textRaw (now (b .entry)))) × ((r ≤ 327675) × (now (out .exit) ≡ pasted (now (out .entry)) at (textRaw (now (b .entry))))) ⌝ }
+    ensures { λ r. ⌜ (r ≡ length (textRaw (now (b .entry)))) × ((r ≤ longestRaw) × (now (out .exit) ≡ pasted (now (out .entry)) at (textRaw (now (b .entry))))) ⌝ }
 {
     write_chars(part_of(b, 2, 2 + (get16(b, 0) as usize)), out, at)
 }

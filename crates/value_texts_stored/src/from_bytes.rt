@@ -3,6 +3,7 @@
 use text::class::is_digit;
 use text::class::is_letter;
 use text_characters::utf8::decode;
+use value::bounds::MOST_REF;
 use value_texts::from_text::is_quiet_ref;
 use value_texts::from_text::is_txt;
 ghost use mathlib.Core.Path.{_≡_};
@@ -16,10 +17,11 @@ ghost use Rattle.value.specs.mirror.Judges.{isReference, txtLen, isWriting};
 ghost use Rattle.value.specs.mirror.Texts.{isAsciiTxt};
 ghost use lib.ListN.{drop};
 ghost use Rattle.text.specs.Lists.{span};
+ghost use Rattle.text.specs.Bytes.{code};
 
 // Of a reference, but no slash; most are digits and letters, which come in runs.
 fn is_word(x: u8) -> bool
-    ensures { λ r. ⌜ r ≡ (isRef x && not (eqb x 47)) ⌝ }
+    ensures { λ r. ⌜ r ≡ (isRef x && not (eqb x (code "/"))) ⌝ }
 {
     if is_digit(x) {
         return true;
@@ -36,7 +38,7 @@ fn inked(b: &[u8]) -> bool
 {
     let mut i = 0;
     while i < b.len() {
-        if b[i] != 32 {
+        if b[i] != b' ' {
             return true;
         }
         i += 1;
@@ -56,7 +58,7 @@ fn is_spaced(b: &[u8]) -> bool
         if is_word(x) {
             slash = false;
         } else {
-            if x != 47 {
+            if x != b'/' {
                 return false;
             }
             if slash {
@@ -71,7 +73,7 @@ fn is_spaced(b: &[u8]) -> bool
 pub fn is_reference(b: &[u8]) -> bool
     ensures { λ r. ⌜ r ≡ isReference (now (b .entry)) ⌝ }
 {
-    if 35 < b.len() {
+    if MOST_REF < b.len() {
         return false;
     }
     if !inked(b) {
@@ -84,8 +86,8 @@ fn is_ascii_txt(x: u8) -> bool
     ensures { λ r. ⌜ r ≡ isAsciiTxt x ⌝ }
 {
     match x {
-        96 => false,
-        32..=126 => true,
+        b'`' => false,
+        b' '..=b'~' => true,
         _ => false,
     }
 }

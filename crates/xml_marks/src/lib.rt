@@ -1,5 +1,7 @@
 // Up to a byte, and over it. A place past the end is its own answer.
 
+use text::span::TURN;
+use text::span::TURN_REST;
 ghost use mathlib.Core.Path.{_≡_};
 ghost use Prim.Native.Nat.{_+_};
 ghost use lib.ListN.{drop};
@@ -11,10 +13,10 @@ ghost use Rattle.xml_tags.specs.mirror.Passing.{noQuote, inName};
 pub fn until(s: &[u8], at: usize, b: u8) -> usize
     ensures { λ r. ⌜ r ≡ at + span (but b) (drop at (now (s .entry))) ⌝ }
 {
-    if s.len() < 4 {
+    if s.len() < TURN {
         return until_near(s, at, b);
     }
-    let last = s.len() - 3;
+    let last = s.len() - TURN_REST;
     let mut i = at;
     while i < last {
         let j = i + 1;
@@ -70,8 +72,8 @@ fn in_name(b: u8) -> bool
     ensures { λ r. ⌜ r ≡ inName b ⌝ }
 {
     match b {
-        9 | 13 | 32 | 47 | 62 => false,
-        10 | 61 => false,
+        b'\t' | b'\r' | b' ' | b'/' | b'>' => false,
+        b'\n' | b'=' => false,
         _ => true,
     }
 }
@@ -94,8 +96,8 @@ fn no_quote(b: u8) -> bool
     ensures { λ r. ⌜ r ≡ noQuote b ⌝ }
 {
     match b {
-        34 => false,
-        39 => false,
+        b'"' => false,
+        b'\'' => false,
         _ => true,
     }
 }

@@ -10,6 +10,15 @@ ghost use Rattle.xml_pieces.specs.Over.{Over};
 ghost use Rattle.xml_pieces.specs.Kinds.{IsPiece};
 ghost use Rattle.xml_pieces.specs.mirror.Reading.{leastBehind, greatestBehind, reading, ReadsOne, ReadsTwo, ReadsThree};
 
+// A byte that goes on with a sequence is one of these.
+const TAIL: u8 = 0x80;
+
+const LAST_TAIL: u8 = 0xBF;
+
+const LAST_ASCII: u8 = TAIL - 1;
+
+const LAST_CONTROL: u8 = b' ' - 1;
+
 // Over one byte from low to high.
 fn one(s: &[u8], at: usize, low: u8, high: u8) -> Went
     ensures { λ r. ⌜ ReadsOne (now (s .entry)) at low high r ⌝ }
@@ -33,7 +42,7 @@ fn two(s: &[u8], at: usize, low: u8, high: u8) -> Went
 {
     match one(s, at, low, high) {
         Went::Stopped(n) => Went::Stopped(n),
-        Went::On(i) => one(s, i, 128, 191),
+        Went::On(i) => one(s, i, TAIL, LAST_TAIL),
     }
 }
 
@@ -43,7 +52,7 @@ fn three(s: &[u8], at: usize, low: u8, high: u8) -> Went
 {
     match one(s, at, low, high) {
         Went::Stopped(n) => Went::Stopped(n),
-        Went::On(i) => two(s, i, 128, 191),
+        Went::On(i) => two(s, i, TAIL, LAST_TAIL),
     }
 }
 
@@ -54,10 +63,10 @@ fn behind_ef(s: &[u8], at: usize) -> Went
     if s.len() <= at {
         return Went::Stopped(at);
     }
-    if s[at] == 191 {
-        return one(s, at + 1, 128, 189);
+    if s[at] == LAST_TAIL {
+        return one(s, at + 1, TAIL, 0xBD);
     }
-    two(s, at, 128, 190)
+    two(s, at, TAIL, 0xBE)
 }
 
 // The least byte that may follow a first byte of three or four.
@@ -65,9 +74,9 @@ fn least(x: u8) -> u8
     ensures { λ r. ⌜ r ≡ leastBehind x ⌝ }
 {
     match x {
-        224 => 160,
-        240 => 144,
-        _ => 128,
+        0xE0 => 0xA0,
+        0xF0 => 0x90,
+        _ => TAIL,
     }
 }
 
@@ -76,34 +85,34 @@ fn greatest(x: u8) -> u8
     ensures { λ r. ⌜ r ≡ greatestBehind x ⌝ }
 {
     match x {
-        237 => 159,
-        244 => 143,
-        _ => 191,
+        0xED => 0x9F,
+        0xF4 => 0x8F,
+        _ => LAST_TAIL,
     }
 }
 
-// A character that begins with a byte x of 128 or more.
+// A character that begins with a byte x that is no ASCII.
 fn long(s: &[u8], at: usize) -> Went
-    requires { ⌜ (at < length (now s)) × (127 < getD (now s) at 0) ⌝ }
+    requires { ⌜ (at < length (now s)) × (0x7F < getD (now s) at 0) ⌝ }
     ensures { λ r. ⌜ r ≡ reading lead (drop at (now (s .entry))) at ⌝ }
 {
     let x = s[at];
     let i = at + 1;
-    if x < 194 {
+    if x < 0xC2 {
         return Went::Stopped(at);
     }
-    if x < 224 {
-        return one(s, i, 128, 191);
+    if x < 0xE0 {
+        return one(s, i, TAIL, LAST_TAIL);
     }
-    if x == 239 {
+    if x == 0xEF {
         return behind_ef(s, i);
     }
     let low = least(x);
     let high = greatest(x);
-    if x < 240 {
+    if x < 0xF0 {
         return two(s, i, low, high);
     }
-    if x < 245 {
+    if x < 0xF5 {
         return three(s, i, low, high);
     }
     Went::Stopped(at)
@@ -146,7 +155,7 @@ pub fn piece(s: &[u8], at: usize) -> Went
         return Went::Stopped(at);
     }
     let x = s[at];
-    if 127 < x {
+    if LAST_ASCII < x {
         return long(s, at);
     }
     if x == b'&' {
@@ -155,7 +164,7 @@ pub fn piece(s: &[u8], at: usize) -> Went
     if x == b'<' {
         return Went::Stopped(at);
     }
-    if 31 < x {
+    if LAST_CONTROL < x {
         return Went::On(at + 1);
     }
     if is_blank(x) {

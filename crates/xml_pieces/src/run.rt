@@ -5,6 +5,9 @@ ghost use lib.ListN.{drop};
 ghost use Rattle.text.specs.Lists.{span};
 ghost use Rattle.xml_pieces.specs.Kinds.{above};
 
+// How many bytes there are.
+pub const BYTES: usize = 256;
+
 fn wide(x: u8) -> usize
     ensures { λ r. ⌜ (r ≡ x) × (r < 256) ⌝ }
 {
@@ -12,7 +15,7 @@ fn wide(x: u8) -> usize
 }
 
 // Where a run of bytes ends whose class in the table is above a level.
-pub fn run_end(s: &[u8], at: usize, classes: &[u8; 256], level: u8) -> usize
+pub fn run_end(s: &[u8], at: usize, classes: &[u8; BYTES], level: u8) -> usize
     ensures { λ r. ⌜ r ≡ at + span (above (now (classes .entry)) level) (drop at (now (s .entry))) ⌝ }
 {
     let mut i = at;

@@ -4,6 +4,7 @@ use text::part::same_part;
 use text::span::blanks_end;
 use xml_pieces::Went;
 use xml_pieces::piece::piece;
+use xml_pieces::run::BYTES;
 use xml_pieces::run::run_end;
 ghost use mathlib.Core.Path.{_≡_};
 ghost use Prim.Native.Nat.{_≤_, _<_};
@@ -15,6 +16,11 @@ ghost use Rattle.xml.specs.mirror.Auto.{member};
 ghost use Rattle.xml_scan.specs.mirror.Classes.{Classed};
 ghost use Rattle.xml_scan.specs.mirror.Goes.{Marked, GoesValue, GoesEquals};
 ghost use Rattle.xml_scan.specs.mirror.Tags.{names, Held, GoesName, GoesAttribute};
+
+// "At most four attributes": so many, and the number of the last, from 0.
+pub(crate) const MOST_ATTRIBUTES: usize = 4;
+
+const LAST_ATTRIBUTE: usize = MOST_ATTRIBUTES - 1;
 
 // Over a value and the quote that ends it.
 fn value(s: &[u8], at: usize, quote: u8) -> Went
@@ -58,7 +64,14 @@ fn equals(s: &[u8], at: usize) -> Went
 }
 
 // Whether the name from a to e is one of the first n, which stand from from[k] to to[k].
-fn seen(s: &[u8], from: &[usize; 4], to: &[usize; 4], n: usize, a: usize, e: usize) -> bool
+fn seen(
+    s: &[u8],
+    from: &[usize; MOST_ATTRIBUTES],
+    to: &[usize; MOST_ATTRIBUTES],
+    n: usize,
+    a: usize,
+    e: usize,
+) -> bool
     requires { ⌜ n ≤ 4 ⌝ }
     ensures { λ r. ⌜ r ≡ member (slice a e (now (s .entry))) (names (now (s .entry)) (now (from .entry)) (now (to .entry)) n) ⌝ }
 {
@@ -75,7 +88,7 @@ fn seen(s: &[u8], from: &[usize; 4], to: &[usize; 4], n: usize, a: usize, e: usi
 }
 
 // Over an attribute's name: "Attribute names may hold one colon between two names". A second colon is left to what follows the name.
-fn full_name(s: &[u8], at: usize, classes: &[u8; 256]) -> Went
+fn full_name(s: &[u8], at: usize, classes: &[u8; BYTES]) -> Went
     requires { ⌜ (at < length (now s)) × (isNameStart (getD (now s) at 0) ≡ true) × Classed (now classes) ⌝ }
     ensures { λ r. ⌜ GoesName (now (s .entry)) at r ⌝ }
 {
@@ -100,10 +113,10 @@ fn full_name(s: &[u8], at: usize, classes: &[u8; 256]) -> Went
 pub(crate) fn attribute(
     s: &[u8],
     at: usize,
-    from: &mut [usize; 4],
-    to: &mut [usize; 4],
+    from: &mut [usize; MOST_ATTRIBUTES],
+    to: &mut [usize; MOST_ATTRIBUTES],
     n: usize,
-    classes: &[u8; 256],
+    classes: &[u8; BYTES],
 ) -> Went
     requires { ⌜
         (at < length (now s)) × (isNameStart (getD (now s) at 0) ≡ true) × Held 4 (now s) (now from) (now to) n
@@ -113,7 +126,7 @@ pub(crate) fn attribute(
         GoesAttribute (now (s .entry)) at n (now (from .entry)) (now (to .entry)) (now (from .exit)) (now (to .exit)) r
         ⌝ }
 {
-    if 3 < n {
+    if LAST_ATTRIBUTE < n {
         return Went::Stopped(at);
     }
     match full_name(s, at, classes) {

@@ -2,15 +2,17 @@
 use xml_pieces::Went;
 use xml_pieces::bracket::brackets;
 use xml_pieces::piece::piece;
+use xml_pieces::run::BYTES;
 use xml_pieces::run::run_end;
 ghost use Prim.Native.Nat.{_≤_, _<_};
 ghost use lib.ListN.{length, getD};
 ghost use mathlib.Core.Logic.{_≢_};
 ghost use Rattle.xml_scan.specs.mirror.Classes.{Classed};
 ghost use Rattle.xml_scan.specs.mirror.Goes.{GoesText, GoesOther};
+ghost use Rattle.text.specs.Bytes.{code};
 
 // Over text and the `<` that ends it.
-pub(crate) fn text_end(s: &[u8], at: usize, classes: &[u8; 256]) -> Went
+pub(crate) fn text_end(s: &[u8], at: usize, classes: &[u8; BYTES]) -> Went
     requires { ⌜ (at ≤ length (now s)) × Classed (now classes) ⌝ }
     ensures { λ r. ⌜ GoesText (now (s .entry)) at r ⌝ }
 {
@@ -34,7 +36,7 @@ pub(crate) fn text_end(s: &[u8], at: usize, classes: &[u8; 256]) -> Went
 
 // Over a `>`, a row of `]` or a piece, in text.
 fn other(s: &[u8], at: usize) -> Went
-    requires { ⌜ (at < length (now s)) × (getD (now s) at 0 ≢ 60) ⌝ }
+    requires { ⌜ (at < length (now s)) × (getD (now s) at 0 ≢ code "<") ⌝ }
     ensures { λ r. ⌜ GoesOther (now (s .entry)) at r ⌝ }
 {
     let x = s[at];

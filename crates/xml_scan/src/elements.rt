@@ -5,6 +5,7 @@ use crate::tag::tag_rest;
 use text::class::is_name_start;
 use text::span::blanks_end;
 use xml_pieces::Went;
+use xml_pieces::run::BYTES;
 use xml_pieces::run::run_end;
 use xml_pieces::word::word;
 ghost use Prim.Native.Nat.{_≤_, _<_};
@@ -13,6 +14,11 @@ ghost use Rattle.xml.specs.mirror.Auto.{root, done};
 ghost use Rattle.xml_scan.specs.mirror.Classes.{Classed};
 ghost use Rattle.xml_scan.specs.mirror.Goes.{Goes};
 ghost use Rattle.xml_scan.specs.mirror.Tags.{inside, marked, Nested, Steps, GoesStart, GoesClose};
+
+// "Nesting is at most 16": so many, and the number of the innermost, from 0.
+const MOST_LEVELS: usize = 16;
+
+const LAST_LEVEL: usize = MOST_LEVELS - 1;
 
 // A place, and how many elements are open there.
 enum Step {
@@ -24,10 +30,10 @@ enum Step {
 fn start_tag(
     s: &[u8],
     at: usize,
-    from: &mut [usize; 16],
-    to: &mut [usize; 16],
+    from: &mut [usize; MOST_LEVELS],
+    to: &mut [usize; MOST_LEVELS],
     n: usize,
-    classes: &[u8; 256],
+    classes: &[u8; BYTES],
 ) -> Step
     requires { ⌜ Nested (now s) at (now from) (now to) n (now classes) ⌝ }
     ensures { λ r. ⌜
@@ -40,7 +46,7 @@ fn start_tag(
     if !is_name_start(s[at]) {
         return Step::Stopped(at);
     }
-    if 15 < n {
+    if LAST_LEVEL < n {
         return Step::Stopped(at);
     }
     let e = run_end(s, at + 1, classes, 1);
@@ -84,10 +90,10 @@ fn end_tag(s: &[u8], at: usize, w: &[u8]) -> Went
 fn any_tag(
     s: &[u8],
     at: usize,
-    from: &mut [usize; 16],
-    to: &mut [usize; 16],
+    from: &mut [usize; MOST_LEVELS],
+    to: &mut [usize; MOST_LEVELS],
     n: usize,
-    classes: &[u8; 256],
+    classes: &[u8; BYTES],
 ) -> Step
     requires { ⌜ (0 < n) × Nested (now s) at (now from) (now to) n (now classes) ⌝ }
     ensures { λ r. ⌜
@@ -114,10 +120,10 @@ fn any_tag(
 fn advance(
     s: &[u8],
     at: usize,
-    from: &mut [usize; 16],
-    to: &mut [usize; 16],
+    from: &mut [usize; MOST_LEVELS],
+    to: &mut [usize; MOST_LEVELS],
     n: usize,
-    classes: &[u8; 256],
+    classes: &[u8; BYTES],
 ) -> Step
     requires { ⌜ (0 < n) × Nested (now s) at (now from) (now to) n (now classes) ⌝ }
     ensures { λ r. ⌜
@@ -132,12 +138,12 @@ fn advance(
 }
 
 // Over the one element, after its `<`, with all that stands in it.
-pub(crate) fn elements(s: &[u8], at: usize, classes: &[u8; 256]) -> Went
+pub(crate) fn elements(s: &[u8], at: usize, classes: &[u8; BYTES]) -> Went
     requires { ⌜ (at ≤ length (now s)) × Classed (now classes) ⌝ }
     ensures { λ r. ⌜ Goes (now (s .entry)) at root done r ⌝ }
 {
-    let mut from = [0usize; 16];
-    let mut to = [0usize; 16];
+    let mut from = [0usize; MOST_LEVELS];
+    let mut to = [0usize; MOST_LEVELS];
     let mut here = start_tag(s, at, &mut from, &mut to, 0, classes);
     loop {
         match here {

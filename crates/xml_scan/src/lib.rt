@@ -5,6 +5,7 @@ use prolog::prolog;
 use table::CLASSES;
 use text::span::blanks_end;
 use xml_pieces::Went;
+use xml_pieces::run::BYTES;
 ghost use Rattle.xml_scan.specs.mirror.Classes.{Classed};
 ghost use Rattle.xml_scan.specs.Right.{Right};
 
@@ -23,7 +24,7 @@ pub enum Scanned {
 }
 
 // Over a whole text: what stands before the first element, the element, and blanks after it.
-fn document(s: &[u8], classes: &[u8; 256]) -> Scanned
+fn document(s: &[u8], classes: &[u8; BYTES]) -> Scanned
     requires { ⌜ Classed (now classes) ⌝ }
     ensures { λ r. ⌜ Right (now (s .entry)) r ⌝ }
 {

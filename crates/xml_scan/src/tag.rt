@@ -1,8 +1,10 @@
 // What follows the name in a start tag.
+use crate::attribute::MOST_ATTRIBUTES;
 use crate::attribute::attribute;
 use text::class::is_name_start;
 use text::span::blanks_end;
 use xml_pieces::Went;
+use xml_pieces::run::BYTES;
 ghost use mathlib.Core.Path.{_≡_};
 ghost use Prim.Native.Nat.{_≤_, _<_};
 ghost use lib.ListN.{length, getD};
@@ -41,12 +43,12 @@ fn tag_end(s: &[u8], at: usize) -> Tag
 }
 
 // Over attributes, "each after one or more blanks", then blanks, and `>` or `/>`.
-fn attributes(s: &[u8], at: usize, classes: &[u8; 256]) -> Tag
+fn attributes(s: &[u8], at: usize, classes: &[u8; BYTES]) -> Tag
     requires { ⌜ (at ≤ length (now s)) × Classed (now classes) ⌝ }
     ensures { λ r. ⌜ GoesTag (now (s .entry)) at r ⌝ }
 {
-    let mut from = [0usize; 4];
-    let mut to = [0usize; 4];
+    let mut from = [0usize; MOST_ATTRIBUTES];
+    let mut to = [0usize; MOST_ATTRIBUTES];
     let mut n = 0;
     let mut i = at;
     loop {
@@ -71,7 +73,7 @@ fn attributes(s: &[u8], at: usize, classes: &[u8; 256]) -> Tag
 }
 
 // Over what follows the name: mostly it is `>`.
-pub(crate) fn tag_rest(s: &[u8], at: usize, classes: &[u8; 256]) -> Tag
+pub(crate) fn tag_rest(s: &[u8], at: usize, classes: &[u8; BYTES]) -> Tag
     requires { ⌜ (at ≤ length (now s)) × Classed (now classes) ⌝ }
     ensures { λ r. ⌜ GoesTag (now (s .entry)) at r ⌝ }
 {

@@ -9,6 +9,7 @@ use Rattle.answer.specs.declared.Answer.{Answer}
 use Rattle.answer.specs.Table as table
 use Rattle.text.specs.Bytes.{ascii, isBlank}
 use Rattle.text.specs.Lists.{same, span}
+use Rattle.list.specs.tables.Columns.{KIND, AMT}
 use Rattle.list.specs.tables.Table.{cell}
 use Rattle.value.specs.mirror.Judges.{isCurrency}
 use Rattle.list.specs.mirror.Lookup.{childAlong}
@@ -36,14 +37,14 @@ named w s a b = same w (slice a b s)
 
 unfoldable pub ownIn : List ℕ → List ℕ → ℕ → ℕ → Attribute → Bool
 ownIn t s r count a =
-    cond (eqb (cell t r 2) 9)
+    cond (eqb (cell t r KIND) AMT)
     (eqb count 1 && (named (ascii "Ccy") s (a .name) (a .stop) && isCurrency (slice (a .value) (a .quote) s)))
     (eqb count 0)
 
 -- ---- a text
 
 unfoldable pub inkBefore : List ℕ → List ℕ → ℕ → ℕ → ℕ → ℕ
-inkBefore t s row at less = cond (isGroupIn (cell t row 2)) (inkIn s at less) less
+inkBefore t s row at less = cond (isGroupIn (cell t row KIND)) (inkIn s at less) less
 
 -- the same in two steps, g saying whether it is a group: from where a text is looked at, after its blanks in a group, and the first ink
 -- from there
@@ -83,6 +84,10 @@ closedIn t g a here less end = closedBy a here less end (endIn t g (here .level)
 
 -- ---- an opening tag
 
+-- the last of 16 levels, counted from 0
+abbrev pub deepest : ℕ
+deepest = 15
+
 unfoldable pub rowIn : List ℕ → List ℕ → List ℕ → Level → ℕ → ℕ → ℕ
 rowIn t pool s lv less stop = cond (ltb less (length s)) (childAlong t pool (lv .row) (lv .last) (slice (less + 1) stop s)) 0
 
@@ -93,11 +98,11 @@ inner t here r less end a = record { level = freshIn t r less; depth = here .dep
 abbrev pub enteredBy : List ℕ → Here → ℕ → ℕ → ℕ → Attribute → Found → Turn
 enteredBy t here r less end a (Violation v) = refusedAt here v
 enteredBy t here r less end a Fine =
-    cond (ltb 15 (here .depth)) (lostAt here less) (record { met = Opened; here = inner t here r less end a; less = less })
+    cond (ltb deepest (here .depth)) (lostAt here less) (record { met = Opened; here = inner t here r less end a; less = less })
 
 abbrev pub belowBy : List ℕ → List ℕ → Here → ℕ → Found → List ℕ
 belowBy t st here r (Violation v) = st
-belowBy t st here r Fine = cond (ltb 15 (here .depth)) st (pushed st (here .depth) (advanceIn t (here .level) r))
+belowBy t st here r Fine = cond (ltb deepest (here .depth)) st (pushed st (here .depth) (advanceIn t (here .level) r))
 
 abbrev pub vacantBy : Here → ℕ → ℕ → Found → Turn
 vacantBy here r less (Violation v) = refusedAt here v
@@ -124,7 +129,7 @@ numberOf End = 3
 module _ (t pool s st : List ℕ) (here : Here) where
   -- by what stands after the text
   abbrev pub metIn : Kind → Token → Turn
-  metIn Close k = closedIn t (isGroupIn (cell t (here .level .row) 2)) st here (k .less) (k .end)
+  metIn Close k = closedIn t (isGroupIn (cell t (here .level .row) KIND)) st here (k .less) (k .end)
   metIn End k = lostAt here (k .less)
   metIn Open k =
       enteredIn t here (rowIn t pool s (here .level) (k .less) (k .stop)) (ownIn t s (rowIn t pool s (here .level) (k .less) (k .stop)) (k .attributes) (k .first))

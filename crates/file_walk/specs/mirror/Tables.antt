@@ -5,6 +5,7 @@ use Prim.Native.Nat.{ℕ, zero, suc, _+_, _*_}
 use lib.Dec.{eqb, ltb}
 use lib.ListN.{getD, set}
 use Rattle.answer.specs.Table as table
+use Rattle.list.specs.tables.Columns.{COUNT, KIND, MATE, PAIR, SOME, CHOICE}
 use Rattle.list.specs.tables.Table.{cell}
 use Rattle.list.specs.mirror.Lookup.{dueAfter}
 use Rattle.file_walk.specs.declared.level.Level.{Level}
@@ -20,7 +21,7 @@ module _ (t : List ℕ) where
   nextIn row due r = cond (eqb r due) (dueAfter t row r) due
 
   abbrev pub oddIn : Bool → ℕ → ℕ → Bool
-  oddIn odd last r = odd || (not (eqb r last) && (misses (cell t r 8) last || misses (cell t last 13) r))
+  oddIn odd last r = odd || (not (eqb r last) && (misses (cell t r MATE) last || misses (cell t last PAIR) r))
 
   abbrev pub advanceIn : Level → ℕ → Level
   advanceIn lv r = record { row = lv .row; place = lv .place; last = r; due = nextIn (lv .row) (lv .due) r; odd = oddIn (lv .odd) (lv .last) r }
@@ -28,10 +29,10 @@ module _ (t : List ℕ) where
   -- ---- the tests of a tag
 
   unfoldable pub passedIn : Level → ℕ → Bool
-  passedIn lv r = not (eqb (cell t (lv .row) 2) 1) && ltb r (lv .last)
+  passedIn lv r = not (eqb (cell t (lv .row) KIND) CHOICE) && ltb r (lv .last)
 
   unfoldable pub againIn : Level → ℕ → Bool
-  againIn lv r = cond (eqb (cell t (lv .row) 2) 1) (not (eqb (lv .last) 0)) (ltb (cell t r 1) 2 && eqb (lv .last) r)
+  againIn lv r = cond (eqb (cell t (lv .row) KIND) CHOICE) (not (eqb (lv .last) 0)) (ltb (cell t r COUNT) SOME && eqb (lv .last) r)
 
   unfoldable pub openingIn : Level → ℕ → Bool → ℕ → Found
   openingIn lv r own o = firstOf (
@@ -41,7 +42,7 @@ module _ (t : List ℕ) where
       refuse (not own) (table.wrongAttributes r o) ∷ [])
 
   unfoldable pub brokenIn : Level → Bool
-  brokenIn lv = lv .odd || not (eqb (cell t (lv .last) 13) 0)
+  brokenIn lv = lv .odd || not (eqb (cell t (lv .last) PAIR) 0)
 
   unfoldable pub groupEndIn : Level → Found
   groupEndIn lv = firstOf (
@@ -49,7 +50,16 @@ module _ (t : List ℕ) where
       refuse (ltb 0 (lv .due)) (table.absent (lv .due) (lv .place)) ∷
       refuse (brokenIn lv) (table.ruleBroken (lv .row) (lv .place)) ∷ [])
 
--- ---- the stack
+-- ---- the stack: a level's row, place, last child, required child, and whether it is odd
+
+abbrev pub FIELDS : ℕ
+FIELDS = 5
+
+abbrev pub dueCell : ℕ
+dueCell = 3
+
+abbrev pub oddCell : ℕ
+oddCell = 4
 
 abbrev pub bit : Bool → ℕ
 bit true = 1
@@ -58,16 +68,16 @@ bit false = 0
 abbrev pub levelAt : List ℕ → ℕ → Level
 levelAt a n =
     record {
-      row = getD a (5 * n) 0;
-      place = getD a (5 * n + 1) 0;
-      last = getD a (5 * n + 2) 0;
-      due = getD a (5 * n + 3) 0;
-      odd = not (eqb (getD a (5 * n + 4) 0) 0);
+      row = getD a (FIELDS * n) 0;
+      place = getD a (FIELDS * n + 1) 0;
+      last = getD a (FIELDS * n + 2) 0;
+      due = getD a (FIELDS * n + dueCell) 0;
+      odd = not (eqb (getD a (FIELDS * n + oddCell) 0) 0);
     }
 
 unfoldable pub pushed : List ℕ → ℕ → Level → List ℕ
 pushed a n lv =
-    set (set (set (set (set a (5 * n) (lv .row)) (5 * n + 1) (lv .place)) (5 * n + 2) (lv .last)) (5 * n + 3) (lv .due)) (5 * n + 4) (bit (lv .odd))
+    set (set (set (set (set a (FIELDS * n) (lv .row)) (FIELDS * n + 1) (lv .place)) (FIELDS * n + 2) (lv .last)) (FIELDS * n + dueCell) (lv .due)) (FIELDS * n + oddCell) (bit (lv .odd))
 
 -- the n first levels, the last first
 unfoldable pub levels : List ℕ → ℕ → List Level

@@ -11,6 +11,7 @@ use Rattle.text.specs.Bytes.{ascii}
 use Rattle.text.specs.Puts.{Puts}
 use Rattle.list.specs.Listing.{Leaf, leaf}
 use Rattle.list.specs.WellFormed.{LeafOk}
+use Rattle.list.specs.tables.Columns.{KIND, MOST, AMT}
 use Rattle.list.specs.tables.Table.{cell, kindOf, wordsIn, listOf}
 use Rattle.list.specs.tables.Sound.{Sound}
 use Rattle.value.specs.Value.{Value, text, place, truth, natural, amount, day, moment, IsValue, bytes}
@@ -19,7 +20,7 @@ use Rattle.xml.specs.House.{render}
 use Rattle.image.specs.Kinds.{values}
 use Rattle.image.specs.Place.{Holds}
 use Rattle.file_letter.specs.Letter.{textIn, letterOf}
-use Rattle.file_write.specs.mirror.Tags.{startIn, shutIn, coinIn}
+use Rattle.file_write.specs.mirror.Tags.{longestPool, startIn, shutIn, coinIn}
 
 -- the attribute that a value has
 abbrev pub coinText : Value → List ℕ
@@ -33,12 +34,16 @@ coinText (moment y mo d h mi s u z) = []
 
 -- the attribute of a leaf of row x, by its kind: an amount begins with its currency
 abbrev pub coinAt : List ℕ → List ℕ → ℕ → ℕ → List ℕ
-coinAt t run x i = cond (eqb (cell t x 2) 9) (coinIn (slice i (i + 3) run)) []
+coinAt t run x i = cond (eqb (cell t x KIND) AMT) (coinIn (slice i (i + 3) run)) []
+
+-- more than a leaf's element has: two names of the pool, and a text of which each byte is written as five
+abbrev pub longestLeaf : ℕ
+longestLeaf = 1000000
 
 module _ (t pool run : List ℕ) where
   -- the value v of a leaf of row x stands in the run from i on
   pub record ValueAt (x i : ℕ) (f : Leaf) (v : Value) : Type 0 where
-    pub kind : kindOf (cell t x 2) (cell t x 3) (wordsIn t pool x) ≡ leaf f
+    pub kind : kindOf (cell t x KIND) (cell t x MOST) (wordsIn t pool x) ≡ leaf f
     pub ok : LeafOk f
     pub is : IsValue f v
     pub behind : List ℕ
@@ -50,13 +55,13 @@ module _ (t pool run : List ℕ) where
 
   -- what is put for a leaf
   pub record LeafPut (x i : ℕ) (d : List ℕ) (at r : ℕ) (d′ : List ℕ) : Type 0 where
-    pub most : r ≤ at + 1000000
+    pub most : r ≤ at + longestLeaf
     pub value : (f : Leaf) (v : Value) → ValueAt x i f v → Puts d at (leafIn x f v) r d′
 
   -- what the pass asks: a well-formed list, a body at `from` of a run within the limit, and sums that do not overflow
   pub record Held (from : ℕ) : Type 0 where
     pub sound : Sound t pool
-    pub small : length pool ≤ 65535
+    pub small : length pool ≤ longestPool
     pub within : length run ≤ limit
     pub size : ℕ
     pub holds : Holds values (listOf t pool) (drop from run) size

@@ -3,7 +3,7 @@ use mathlib.Core.Path.{_≡_}
 use mathlib.Core.Bool.{Bool, _&&_, not, cond}
 use mathlib.Core.List.{List, _∷_, _++_}
 use mathlib.Core.Option.{none}
-use Prim.Native.Nat.{ℕ, _+_, _%_, _≤_, _<_}
+use Prim.Native.Nat.{ℕ, _+_, _%_, _^_, _≤_, _<_}
 use lib.Dec.{eqb}
 use lib.ListN.{length, getD, take, drop}
 use Rattle.answer.specs.Table.{limit}
@@ -16,10 +16,12 @@ use Rattle.image.specs.Image.{Item, itemsBytes}
 use Rattle.image.specs.Kinds.{values}
 use Rattle.image.specs.mirror.Follow.{ItemOk}
 use Rattle.file_letter.specs.Stale.{NoneOf, FirstAt, Withdrawn, Finer}
+use Rattle.list.specs.tables.Columns.{DTM}
+use Rattle.value.specs.Places.{storedMicros}
 
--- of the kind with the number k, from the bytes of its value on: a DTM, whose microseconds, from its seventh byte on, are no thousandths
+-- of the kind with the number k, from the bytes of its value on: a DTM, whose microseconds are no thousandths
 unfoldable pub finerBy : ℕ → List ℕ → Bool
-finerBy k s = eqb k 11 && not (eqb (number (take 4 (drop 7 s)) % 1000) 0)
+finerBy k s = eqb k DTM && not (eqb (number (take 4 (drop storedMicros s)) % 10 ^ 3) 0)
 
 -- the place that was noted, or else that of the leaf at i where it is finer
 unfoldable pub notedBy : ℕ → ℕ → List ℕ → ℕ → ℕ

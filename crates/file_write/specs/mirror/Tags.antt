@@ -5,8 +5,14 @@ use lib.ListN.{length}
 use lib.Seq.{slice}
 use Rattle.text.specs.Bytes.{ascii}
 use Rattle.list.specs.Listing.{size}
+use Rattle.list.specs.tables.Columns.{SPACE, SPACE-END}
 use Rattle.list.specs.tables.Table.{cell, nameIn, listOf}
 use Rattle.list.specs.tables.Sound.{Sound}
+use Rattle.text.specs.Puts.{far}
+
+-- the pool that cells of 16 bits can name
+abbrev pub longestPool : ℕ
+longestPool = 65535
 
 module _ (t pool : List ℕ) where
   -- `<` and its name, the opening tag without attributes, the closing tag
@@ -21,7 +27,7 @@ module _ (t pool : List ℕ) where
 
   -- the root's tag, with the namespace
   abbrev pub rootIn : List ℕ
-  rootIn = startIn 1 ++ (ascii " xmlns=\"" ++ (slice (cell t 0 1) (cell t 0 2) pool ++ ascii "\">"))
+  rootIn = startIn 1 ++ (ascii " xmlns=\"" ++ (slice (cell t 0 SPACE) (cell t 0 SPACE-END) pool ++ ascii "\">"))
 
 -- the attribute of an amount
 abbrev pub coinIn : List ℕ → List ℕ
@@ -31,5 +37,5 @@ coinIn w = ascii " Ccy=\"" ++ (w ++ ascii "\"")
 pub record Opened (t pool : List ℕ) (g at : ℕ) : Type 0 where
   pub sound : Sound t pool
   pub within : g ≤ size (listOf t pool)
-  pub small : length pool ≤ 65535
-  pub low : at ≤ 80000000000000
+  pub small : length pool ≤ longestPool
+  pub low : at ≤ far

@@ -9,6 +9,7 @@ use lib.ListN.{length, getD}
 use lib.Seq.{slice}
 use Rattle.answer.specs.declared.Answer.{Answer}
 use Rattle.answer.specs.Table.{accepted, picked, brokenImage, noSuchLeaf}
+use Rattle.list.specs.tables.Columns.{KIND, CCY}
 use Rattle.list.specs.tables.Table.{cell}
 use Rattle.image.specs.mirror.Step.{isLeaf, follows, ended}
 
@@ -33,7 +34,7 @@ closing a = cond (eqb (a .code) 0) 1 0
 
 -- the bytes before a value's own, by the number of its kind
 unfoldable pub headOf : List ℕ → ℕ → ℕ
-headOf t r = cond (leb (cell t r 2) 5) 2 0
+headOf t r = cond (leb (cell t r KIND) CCY) 2 0
 
 -- t is the first table; `fin x i` is the end of the value of row x at i, 0 where none stands there; s is the run
 module _ (t : List ℕ) (fin : ℕ → ℕ → ℕ) (s : List ℕ) where

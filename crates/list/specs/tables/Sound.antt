@@ -8,6 +8,7 @@ use lib.ListN.{length}
 use Rattle.list.specs.Words.{firstFrom}
 use Rattle.list.specs.Listing.{ref, iban, ccy, bool, num, amt, date, dtm, txt, enum, Kind, group, choice, leaf, Rule, both, Listing, size, rowAt, nextDue}
 use Rattle.list.specs.WellFormed.{WellFormed}
+use Rattle.list.specs.tables.Columns.{MATE, CHILD, SIBLING, DUE-CHILD, DUE-SIBLING, PAIR, LEVEL, WORD-COUNT}
 use Rattle.list.specs.tables.Table.{cell, listOf}
 
 -- the lowest child of p above q; 0 where there is none
@@ -49,14 +50,14 @@ wordCount (leaf (enum ws)) = length ws
 
 -- the columns that follow from the list, at row r
 pub record Derived (t : List ℕ) (l : Listing) (r : ℕ) : Type 0 where
-  pub child : cell t r 9 ≡ nextChild l r 0
-  pub sibling : cell t r 10 ≡ nextChild l (rowAt l r .parent) r
-  pub dueChild : cell t r 11 ≡ nextDue l r 0
-  pub dueSibling : cell t r 12 ≡ nextDue l (rowAt l r .parent) r
-  pub mate : cell t r 8 ≡ firstOf (l .rules) r
-  pub pair : cell t r 13 ≡ secondOf (l .rules) r
-  pub level : cell t r 14 ≡ levelIn l 16 r
-  pub words : cell t r 15 ≡ wordCount (rowAt l r .kind)
+  pub child : cell t r CHILD ≡ nextChild l r 0
+  pub sibling : cell t r SIBLING ≡ nextChild l (rowAt l r .parent) r
+  pub dueChild : cell t r DUE-CHILD ≡ nextDue l r 0
+  pub dueSibling : cell t r DUE-SIBLING ≡ nextDue l (rowAt l r .parent) r
+  pub mate : cell t r MATE ≡ firstOf (l .rules) r
+  pub pair : cell t r PAIR ≡ secondOf (l .rules) r
+  pub level : cell t r LEVEL ≡ levelIn l 16 r
+  pub words : cell t r WORD-COUNT ≡ wordCount (rowAt l r .kind)
 
 pub record Sound (t pool : List ℕ) : Type 0 where
   pub well : WellFormed (listOf t pool)

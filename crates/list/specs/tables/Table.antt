@@ -1,26 +1,19 @@
 -- A list as two tables: what they say, whatever they hold. Assumes nothing.
--- The first has sixteen cells a row. Row 0's are the list's own: how many rows it has, where its namespace starts and ends in the second
--- table, the pool, and its kind byte; row 0 stands above the root. A row's cells are
---   0 parent   1 count (0 is 1..1, 1 is 0..1, 2 is 1..n, 3 is 0..n, 4 is none)
---   2 kind (0 G, 1 C, 2 REF, 3 TXT, 4 IBAN, 5 CCY, 6 ENUM, 7 BOOL, 8 NUM, 9 AMT, 10 DATE, 11 DTM)   3 the k of TXTk
---   4, 5 where its name starts and ends in the pool   6, 7 where an ENUM's words do, separated by single spaces
---   8 the first row of the rule whose second row it is
--- and what follows from these, so that no one need search for it (Sound):
---   9 its first child   10 its next sibling   11 its first required child   12 its next required sibling
---   13 the second row of the rule whose first row it is   14 its level   15 how many words an ENUM has
--- with 0 for none.
+-- The first has sixteen cells a row (Columns), where row 0, which stands above the root, has the list's own; the second is the pool.
 use mathlib.Core.Bool.{cond}
 use mathlib.Core.List.{List, [], _∷_}
 use Prim.Native.Nat.{ℕ, zero, suc, _+_, _*_}
+use Prim.Native.Char.{code}
 use lib.Dec.{eqb, leb}
 use lib.ListN.{getD}
 use lib.Seq.{slice}
 use Rattle.text.specs.Lists.{same}
 use Rattle.list.specs.Listing.{ref, iban, ccy, bool, num, amt, date, dtm, txt, enum, Kind, group, choice, leaf, Count, one, optional, several, any, alternative, Row, Rule, both, Listing}
+use Rattle.list.specs.tables.Columns.{PARENT, COUNT, KIND, MOST, NAME, NAME-END, WORDS, WORDS-END, MATE, SIZE, SPACE, SPACE-END, BYTE, WORD-COUNT, COLUMNS}
 
--- column j of row r; 0 in a row above 255, in a column above 15, and past the table's end
+-- column j of row r; 0 in a row above 255, in a column above the last, and past the table's end
 unfoldable pub cell : List ℕ → ℕ → ℕ → ℕ
-cell t r j = cond (leb j 15) (cond (leb r 255) (getD t (16 * r + j) 0) 0) 0
+cell t r j = cond (leb j WORD-COUNT) (cond (leb r 255) (getD t (COLUMNS * r + j) 0) 0) 0
 
 -- the first word grows by a byte at its front
 abbrev pub longer : ℕ → List (List ℕ) → List (List ℕ)
@@ -30,7 +23,7 @@ longer x (w ∷ ws) = (x ∷ w) ∷ ws
 -- the words of a text, separated by single spaces
 unfoldable pub words : List ℕ → List (List ℕ)
 words [] = [] ∷ []
-words (x ∷ xs) = cond (eqb x 32) ([] ∷ words xs) (longer x (words xs))
+words (x ∷ xs) = cond (eqb x (code " ")) ([] ∷ words xs) (longer x (words xs))
 
 -- a text without a byte has none
 abbrev pub wordsOf : List ℕ → List (List ℕ)
@@ -67,17 +60,17 @@ kindOf c k ws = getD (kinds k ws) c group
 
 -- the parts of the pool that row r names
 abbrev pub nameIn : List ℕ → List ℕ → ℕ → List ℕ
-nameIn t pool r = slice (cell t r 4) (cell t r 5) pool
+nameIn t pool r = slice (cell t r NAME) (cell t r NAME-END) pool
 
 abbrev pub wordsIn : List ℕ → List ℕ → ℕ → List (List ℕ)
-wordsIn t pool r = wordsOf (slice (cell t r 6) (cell t r 7) pool)
+wordsIn t pool r = wordsOf (slice (cell t r WORDS) (cell t r WORDS-END) pool)
 
 unfoldable pub rowOf : List ℕ → List ℕ → ℕ → Row
 rowOf t pool r = record {
   name = nameIn t pool r;
-  parent = cell t r 0;
-  count = countOf (cell t r 1);
-  kind = kindOf (cell t r 2) (cell t r 3) (wordsIn t pool r);
+  parent = cell t r PARENT;
+  count = countOf (cell t r COUNT);
+  kind = kindOf (cell t r KIND) (cell t r MOST) (wordsIn t pool r);
 }
 
 -- k rows from i on
@@ -89,13 +82,13 @@ rowsFrom t pool i (suc k) = rowOf t pool i ∷ rowsFrom t pool (suc i) k
 unfoldable pub rulesFrom : List ℕ → ℕ → ℕ → List Rule
 rulesFrom t i zero = []
 rulesFrom t i (suc k) =
-    cond (eqb (cell t i 8) 0) (rulesFrom t (suc i) k) (both (cell t i 0) (cell t i 8) i ∷ rulesFrom t (suc i) k)
+    cond (eqb (cell t i MATE) 0) (rulesFrom t (suc i) k) (both (cell t i PARENT) (cell t i MATE) i ∷ rulesFrom t (suc i) k)
 
 -- the list that the two tables say
 unfoldable pub listOf : List ℕ → List ℕ → Listing
 listOf t pool = record {
-  rows = rowsFrom t pool 1 (cell t 0 0);
-  rules = rulesFrom t 1 (cell t 0 0);
-  space = slice (cell t 0 1) (cell t 0 2) pool;
-  byte = cell t 0 3;
+  rows = rowsFrom t pool 1 (cell t 0 SIZE);
+  rules = rulesFrom t 1 (cell t 0 SIZE);
+  space = slice (cell t 0 SPACE) (cell t 0 SPACE-END) pool;
+  byte = cell t 0 BYTE;
 }

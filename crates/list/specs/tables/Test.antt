@@ -8,6 +8,7 @@ use Rattle.text.specs.Bytes.{inRange, isCapital, isNameStart, isNamePart, isUnm
 use Rattle.text.specs.Lists.{same}
 use Rattle.list.specs.Words.{firstFrom}
 use Rattle.list.specs.Listing.{Leaf, ref, iban, ccy, bool, num, amt, date, dtm, txt, enum, Kind, group, choice, leaf, Count, one, optional, several, any, alternative, Rule, both, Listing, size, rowAt, isGroup, nextDue, up}
+use Rattle.list.specs.tables.Columns.{MATE, CHILD, SIBLING, DUE-CHILD, DUE-SIBLING, PAIR, LEVEL, WORD-COUNT}
 use Rattle.list.specs.tables.Table.{cell, listOf}
 use Rattle.list.specs.tables.Sound.{nextChild, firstOf, secondOf, levelIn, wordCount}
 
@@ -133,14 +134,14 @@ module _ (l : Listing) where
   -- the columns that follow, at row r
   unfoldable pub derivedTests : List ℕ → ℕ → List Bool
   derivedTests t r =
-      eqb (cell t r 9) (nextChild l r 0) ∷
-      eqb (cell t r 10) (nextChild l (rowAt l r .parent) r) ∷
-      eqb (cell t r 11) (nextDue l r 0) ∷
-      eqb (cell t r 12) (nextDue l (rowAt l r .parent) r) ∷
-      eqb (cell t r 8) (firstOf (l .rules) r) ∷
-      eqb (cell t r 13) (secondOf (l .rules) r) ∷
-      eqb (cell t r 14) (levelIn l 16 r) ∷
-      eqb (cell t r 15) (wordCount (rowAt l r .kind)) ∷ []
+      eqb (cell t r CHILD) (nextChild l r 0) ∷
+      eqb (cell t r SIBLING) (nextChild l (rowAt l r .parent) r) ∷
+      eqb (cell t r DUE-CHILD) (nextDue l r 0) ∷
+      eqb (cell t r DUE-SIBLING) (nextDue l (rowAt l r .parent) r) ∷
+      eqb (cell t r MATE) (firstOf (l .rules) r) ∷
+      eqb (cell t r PAIR) (secondOf (l .rules) r) ∷
+      eqb (cell t r LEVEL) (levelIn l 16 r) ∷
+      eqb (cell t r WORD-COUNT) (wordCount (rowAt l r .kind)) ∷ []
 
 unfoldable pub well : Listing → Bool
 well l = allOf (listTests l)

@@ -17,6 +17,10 @@ isAscii x = ltb x 0x80
 unfoldable pub AsciiOver : ℕ → List ℕ → ℕ → Type 0
 AsciiOver n s at = at + n + span isAscii (drop (at + n) s) ≡ at + span isAscii (drop at s)
 
+-- bytes are tested eight at a time, in two halves
+abbrev pub half : ℕ
+half = 4
+
 -- a byte of a sequence that is not its first
 unfoldable pub isTail : ℕ → Bool
 isTail x = inRange 0x80 0xBF x
@@ -29,14 +33,14 @@ unfoldable pub kept : ℕ → ℕ → ℕ → Char
 kept n low c = cond (leb low c && isScalar c) (charOf n c) (charOf 0 0)
 
 unfoldable pub two : ℕ → ℕ → Char
-two x y = cond (isTail y) (kept 2 0x80 (x % 32 * 64 + y % 64)) (charOf 0 0)
+two x y = cond (isTail y) (kept 2 0x80 (x % 0x20 * 0x40 + y % 0x40)) (charOf 0 0)
 
 unfoldable pub three : ℕ → ℕ → ℕ → Char
-three x y z = cond (isTail y && isTail z) (kept 3 0x800 (x % 16 * 4096 + y % 64 * 64 + z % 64)) (charOf 0 0)
+three x y z = cond (isTail y && isTail z) (kept 3 0x800 (x % 0x10 * 0x1000 + y % 0x40 * 0x40 + z % 0x40)) (charOf 0 0)
 
 unfoldable pub four : ℕ → ℕ → ℕ → ℕ → Char
 four x y z w =
-    cond (isTail y && isTail z && isTail w) (kept 4 0x10000 (x % 8 * 262144 + y % 64 * 4096 + z % 64 * 64 + w % 64))
+    cond (isTail y && isTail z && isTail w) (kept 4 0x10000 (x % 0x8 * 0x40000 + y % 0x40 * 0x1000 + z % 0x40 * 0x40 + w % 0x40))
     (charOf 0 0)
 
 -- by the first byte; a byte past the end counts as 0, which is no tail

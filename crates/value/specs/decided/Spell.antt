@@ -3,6 +3,7 @@ use mathlib.Core.Bool.{Bool, true, false, cond, _&&_, _||_, not}
 use mathlib.Core.List.{List, [], _∷_}
 use mathlib.Core.Option.{Option, some, none}
 use Prim.Native.Nat.{ℕ, zero, suc, _+_, _*_, _-_, _%_, _^_}
+use Prim.Native.Char.{code}
 use lib.Dec.{leb, ltb, eqb}
 use lib.ListN.{length, drop, getD}
 use Rattle.text.specs.Bytes.{ascii, inRange, isBlank, isCapital, isDigit}
@@ -19,6 +20,7 @@ use Rattle.value.specs.mirror.Reading.{readOf, answer}
 use Rattle.value.specs.Value.{Value, text, place, truth, natural, amount, day, moment}
 use Rattle.value.specs.declared.judged.Judged.{Judged}
 use Rattle.value.specs.declared.judged.Judged.the-variants.{Refused, Text, Truth, Natural, Amount, Day, Moment}
+use Rattle.value.specs.Places.{writtenMonth, writtenDay, writtenHour, writtenMinute, writtenSecond, writtenFraction, zoneMinutes}
 
 -- ---- blanks at both ends
 
@@ -53,7 +55,7 @@ abbrev pub isCcy : List ℕ → Bool
 isCcy t = eqb (length t) 3 && passesFrom (λ _ x. isCapital x) 0 t
 
 abbrev pub isIban : List ℕ → Bool
-isIban t = inRange 5 34 (length t) && passesFrom ibanAt 0 t
+isIban t = inRange (2 + 2 + 1) (2 + 2 + 30) (length t) && passesFrom ibanAt 0 t
 
 abbrev pub isNum : List ℕ → Bool
 isNum t = inRange 1 18 (length t) && passesFrom (λ _ x. isDigit x) 0 t
@@ -82,17 +84,17 @@ moneyOf w (Moment m) = none
 -- ---- days and moments: the digits as they stand, and whether what they say is written so
 
 abbrev pub twoAt : ℕ → List ℕ → ℕ
-twoAt i t = (getD t i 0 - 48) * 10 + (getD t (i + 1) 0 - 48)
+twoAt i t = (getD t i 0 - code "0") * 10 + (getD t (i + 1) 0 - code "0")
 
 abbrev pub threeAt : ℕ → List ℕ → ℕ
-threeAt i t = (getD t i 0 - 48) * 100 + twoAt (i + 1) t
+threeAt i t = (getD t i 0 - code "0") * 100 + twoAt (i + 1) t
 
 abbrev pub dayWhen : List ℕ → ℕ → ℕ → ℕ → Option Value
 dayWhen t y m d = when (isReal y m d && same t (dayText y m d [])) (day y m d)
 
 unfoldable pub dayOf : List ℕ → Option Value
 unfolding isReal
-dayOf t = dayWhen t (twoAt 0 t * 100 + twoAt 2 t) (twoAt 5 t) (twoAt 8 t)
+dayOf t = dayWhen t (twoAt 0 t * 100 + twoAt 2 t) (twoAt writtenMonth t) (twoAt writtenDay t)
 
 abbrev pub isClock : ℕ → ℕ → ℕ → Bool
 isClock h m s = leb h 23 && (leb m 59 && leb s 59)
@@ -100,8 +102,8 @@ isClock h m s = leb h 23 && (leb m 59 && leb s 59)
 -- a point, and one to three digits
 unfoldable pub fractionOf : List ℕ → Fraction
 fractionOf l =
-    cond (eqb (getD l 0 0) 46)
-    (cond (isDigit (getD l 2 0)) (cond (isDigit (getD l 3 0)) (decimals 3 (threeAt 1 l)) (decimals 2 (twoAt 1 l))) (decimals 1 (getD l 1 0 - 48)))
+    cond (eqb (getD l 0 0) (code "."))
+    (cond (isDigit (getD l 2 0)) (cond (isDigit (getD l 3 0)) (decimals 3 (threeAt 1 l)) (decimals 2 (twoAt 1 l))) (decimals 1 (getD l 1 0 - code "0")))
     noFraction
 
 abbrev pub fractionLength : Fraction → ℕ
@@ -113,7 +115,7 @@ isFraction noFraction = true
 isFraction (decimals k n) = inRange 1 3 k && (ltb n (10 ^ k) && not (eqb (n % 10) 0))
 
 unfoldable pub zoneOf : List ℕ → Zone
-zoneOf l = cond (eqb (getD l 0 0) 43) (ahead (twoAt 1 l) (twoAt 4 l)) (cond (eqb (getD l 0 0) 45) (behind (twoAt 1 l) (twoAt 4 l)) zulu)
+zoneOf l = cond (eqb (getD l 0 0) (code "+")) (ahead (twoAt 1 l) (twoAt zoneMinutes l)) (cond (eqb (getD l 0 0) (code "-")) (behind (twoAt 1 l) (twoAt zoneMinutes l)) zulu)
 
 abbrev pub isOffset : ℕ → ℕ → Bool
 isOffset h m = leb m 59 && leb (h * 60 + m) 840
@@ -125,30 +127,30 @@ isZone (behind h m) = isOffset h m
 
 abbrev pub momentWhen : List ℕ → ℕ → ℕ → ℕ → ℕ → ℕ → ℕ → Fraction → Zone → Option Value
 momentWhen t y mo d h mi s f z =
-    when (isReal y mo d && (isClock h mi s && (isFraction f && (isZone z && same t (dayText y mo d (84 ∷ clockText h mi s (fractionText f (zoneText z []))))))))
+    when (isReal y mo d && (isClock h mi s && (isFraction f && (isZone z && same t (dayText y mo d (code "T" ∷ clockText h mi s (fractionText f (zoneText z []))))))))
     (moment y mo d h mi s (micros f) (offset z))
 
 -- l is what stands after the seconds
 abbrev pub momentBehind : List ℕ → List ℕ → Option Value
 momentBehind t l =
-    momentWhen t (twoAt 0 t * 100 + twoAt 2 t) (twoAt 5 t) (twoAt 8 t) (twoAt 11 t) (twoAt 14 t) (twoAt 17 t) (fractionOf l) (zoneOf (drop (fractionLength (fractionOf l)) l))
+    momentWhen t (twoAt 0 t * 100 + twoAt 2 t) (twoAt writtenMonth t) (twoAt writtenDay t) (twoAt writtenHour t) (twoAt writtenMinute t) (twoAt writtenSecond t) (fractionOf l) (zoneOf (drop (fractionLength (fractionOf l)) l))
 
 -- 24:00:00 on a day, 00:00:00 on the next
 abbrev pub midnightWhen : List ℕ → ℕ → ℕ → ℕ → Zone → ℕ × ℕ × ℕ → Option Value
 midnightWhen t y mo d z n =
-    when (isReal y mo d && (isReal (n .0) (n .1) (n .2) && (isZone z && same t (dayText y mo d (84 ∷ clockText 24 0 0 (zoneText z []))))))
+    when (isReal y mo d && (isReal (n .0) (n .1) (n .2) && (isZone z && same t (dayText y mo d (code "T" ∷ clockText 24 0 0 (zoneText z []))))))
     (moment (n .0) (n .1) (n .2) 0 0 0 0 (offset z))
 
 abbrev pub midnightOn : List ℕ → ℕ → ℕ → ℕ → Zone → Option Value
 midnightOn t y mo d z = midnightWhen t y mo d z (nextDay y mo d)
 
 abbrev pub midnightBehind : List ℕ → List ℕ → Option Value
-midnightBehind t l = midnightOn t (twoAt 0 t * 100 + twoAt 2 t) (twoAt 5 t) (twoAt 8 t) (zoneOf l)
+midnightBehind t l = midnightOn t (twoAt 0 t * 100 + twoAt 2 t) (twoAt writtenMonth t) (twoAt writtenDay t) (zoneOf l)
 
 -- the hour chooses
 unfoldable pub momentOf : List ℕ → Option Value
 unfolding isReal figures
-momentOf t = cond (eqb (twoAt 11 t) 24) (midnightBehind t (drop 19 t)) (momentBehind t (drop 19 t))
+momentOf t = cond (eqb (twoAt writtenHour t) 24) (midnightBehind t (drop writtenFraction t)) (momentBehind t (drop writtenFraction t))
 
 -- ---- all kinds
 

@@ -11,10 +11,12 @@ use Rattle.list.specs.Listing.{Leaf}
 use Rattle.value.specs.types.Code.{Ccy}
 use Rattle.value.specs.Kind.{code, Given}
 use Rattle.value.specs.Value.{Value, text, place, truth, natural, amount, day, moment, Spelt, bytes}
+use Rattle.list.specs.tables.Columns.{ENUM}
+use Rattle.value.specs.Places.{longestText}
 
 -- "16-bit byte length": a text of more bytes has none
 abbrev pub Counted : Value → Type 0
-Counted (text cs) = length (encodeAll cs) ≤ 65535
+Counted (text cs) = length (encodeAll cs) ≤ longestText
 Counted (place n) = Unit {0}
 Counted (truth b) = Unit {0}
 Counted (natural n) = Unit {0}
@@ -22,12 +24,12 @@ Counted (amount w k c) = Unit {0}
 Counted (day y m d) = Unit {0}
 Counted (moment y mo d h mi s u z) = Unit {0}
 
--- a leaf of the kind with this number has the raw text s, which spells v; k is TXTk's, cur the currency, which is AMT's alone. An ENUM (6) has
+-- a leaf of the kind with this number has the raw text s, which spells v; k is TXTk's, cur the currency, which is AMT's alone. An ENUM has
 -- words that its list knows, so none is told here.
 pub record Told (kind k : ℕ) (cur s : List ℕ) (v : Value) : Type 0 where
   pub leaf : Leaf
   pub number : code leaf ≡ kind
-  pub other : kind ≢ 6
+  pub other : kind ≢ ENUM
   pub given : Given leaf k 0
   pub chars : List ℕ
   pub spells : Spells s chars

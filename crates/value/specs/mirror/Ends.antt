@@ -1,4 +1,4 @@
--- A mirror: where a value ends, by the number of its kind in a table (list's column 2). Assumes nothing.
+-- A mirror: where a value ends, by the number of its kind in a table (list's column KIND). Assumes nothing.
 use mathlib.Core.Path.{_≡_}
 use mathlib.Core.Bool.{Bool, false, cond, _&&_}
 use mathlib.Core.List.{List, [], _∷_}
@@ -8,6 +8,7 @@ use lib.ListN.{length, getD, take, drop}
 use Rattle.text.specs.Numbers.{number}
 use Rattle.value.specs.mirror.Tests.{isByte, every}
 use Rattle.value.specs.mirror.Judges.{isReference, isWriting, isAccount, isCurrency, isPlace, isTruth, isNatural, isAmount, isDay, isMoment}
+use Rattle.value.specs.Places.{numberSize, amountSize, dateSize, momentSize, longestValue}
 
 -- how many bytes of a value are its length
 unfoldable pub head : ℕ → ℕ
@@ -17,13 +18,13 @@ head c = getD (0 ∷ 0 ∷ 2 ∷ 2 ∷ 2 ∷ 2 ∷ []) c 0
 unfoldable pub width : ℕ → List ℕ → ℕ
 width c t =
     getD
-    (0 ∷ 0 ∷ (2 + number (take 2 t)) ∷ (2 + number (take 2 t)) ∷ (2 + number (take 2 t)) ∷ (2 + number (take 2 t)) ∷ 1 ∷ 1 ∷ 8 ∷ 12 ∷ 4 ∷ 13 ∷ [])
+    (0 ∷ 0 ∷ (2 + number (take 2 t)) ∷ (2 + number (take 2 t)) ∷ (2 + number (take 2 t)) ∷ (2 + number (take 2 t)) ∷ 1 ∷ 1 ∷ numberSize ∷ amountSize ∷ dateSize ∷ momentSize ∷ [])
     c 0
 
 -- r is that width for a text, or more than there is where its length is cut off
 pub record Spans (t : List ℕ) (r : ℕ) : Type 0 where
   pub least : 2 ≤ r
-  pub most : r ≤ 65537
+  pub most : r ≤ longestValue
   pub cut : length t < r → length t < 2 + number (take 2 t)
   pub is : r ≤ length t → r ≡ 2 + number (take 2 t)
 

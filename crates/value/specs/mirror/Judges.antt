@@ -13,6 +13,7 @@ use Rattle.value.specs.types.Code.{isLetterOrDigit}
 unfoldable pub use Rattle.value.specs.types.Day.{isReal}
 use Rattle.value.specs.mirror.Tests.{every, some, apart}
 use Rattle.value.specs.mirror.Chars.{chars}
+use Rattle.value.specs.Places.{numberSize, storedScale, storedCoefficient, storedMonth, storedDay, storedHour, storedMinute, storedSecond, storedMicros, storedOffset}
 
 unfoldable pub isReference : List ℕ → Bool
 isReference b = leb (length b) 35 && (every isRef b && (some notSpace b && apart true b))
@@ -30,7 +31,7 @@ isWriting k b = textFrom k 0 false (chars b)
 
 unfoldable pub isAccount : List ℕ → Bool
 isAccount b =
-    inRange 5 34 (length b) && (every isCapital (take 2 b) && (every isDigit (take 2 (drop 2 b)) && every isLetterOrDigit (drop 4 b)))
+    inRange (2 + 2 + 1) (2 + 2 + 30) (length b) && (every isCapital (take 2 b) && (every isDigit (take 2 (drop 2 b)) && every isLetterOrDigit (drop (2 + 2) b)))
 
 unfoldable pub isCurrency : List ℕ → Bool
 isCurrency b = eqb (length b) 3 && every isCapital b
@@ -42,16 +43,16 @@ unfoldable pub isTruth : List ℕ → Bool
 isTruth b = leb (getD b 0 0) 1
 
 unfoldable pub isNatural : List ℕ → Bool
-isNatural b = ltb (number (take 8 b)) (10 ^ 18)
+isNatural b = ltb (number (take numberSize b)) (10 ^ 18)
 
 -- the scale is the smallest: it is 0, or the last digit is none
 unfoldable pub isAmount : List ℕ → Bool
 isAmount b =
-    isCurrency (take 3 b) && (leb (getD b 3 0) 5 && (ltb (number (take 8 (drop 4 b))) (10 ^ 18) && (eqb (getD b 3 0) 0 || not (eqb (number (take 8 (drop 4 b)) % 10) 0))))
+    isCurrency (take 3 b) && (leb (getD b storedScale 0) 5 && (ltb (number (take numberSize (drop storedCoefficient b))) (10 ^ 18) && (eqb (getD b storedScale 0) 0 || not (eqb (number (take numberSize (drop storedCoefficient b)) % 10) 0))))
 
 unfoldable pub isDay : List ℕ → Bool
-isDay b = isReal (number (take 2 b)) (getD b 2 0) (getD b 3 0)
+isDay b = isReal (number (take 2 b)) (getD b storedMonth 0) (getD b storedDay 0)
 
 unfoldable pub isMoment : List ℕ → Bool
 isMoment b =
-    isDay b && (leb (getD b 4 0) 23 && (leb (getD b 5 0) 59 && (leb (getD b 6 0) 59 && (ltb (number (take 4 (drop 7 b))) 1000000 && leb (number (take 2 (drop 11 b))) 1680))))
+    isDay b && (leb (getD b storedHour 0) 23 && (leb (getD b storedMinute 0) 59 && (leb (getD b storedSecond 0) 59 && (ltb (number (take 4 (drop storedMicros b))) (10 ^ 6) && leb (number (take 2 (drop storedOffset b))) (840 + 840)))))

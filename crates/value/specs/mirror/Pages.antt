@@ -1,9 +1,17 @@
--- A mirror: the characters of REF and of TXTk looked up, as bits of words, a word for each page of 64 code points. Assumes nothing.
+-- A mirror: the characters of REF and of TXTk looked up, as bits of words, a word for each page of code points. Assumes nothing.
 use mathlib.Core.Bool.{Bool, cond}
 use mathlib.Core.List.{List, [], _∷_}
 use Prim.Native.Nat.{ℕ, _/_, _%_, _^_}
+use Prim.Native.Char.{code}
 use lib.Dec.{eqb, ltb}
 use lib.ListN.{getD}
+
+-- the code points of a page, one for each bit of a word, and those of the first four pages
+abbrev pub page : ℕ
+page = 64
+
+abbrev pub lowPages : ℕ
+lowPages = 256
 
 -- whether bit k of a word is 1
 unfoldable pub bitOf : ℕ → ℕ → Bool
@@ -19,10 +27,10 @@ words = 0xFFFFFFFF00000000 ∷ 0x7FFFFFFEFFFFFFFF ∷ 0x0001008000000000 ∷ 0x1
 
 -- beyond them the euro's page alone has a word that is not 0
 unfoldable pub wordOf : ℕ → ℕ
-wordOf c = cond (ltb c 256) (wordIn words (c / 64)) (cond (eqb (c / 64) 130) 0x0000100000000000 0)
+wordOf c = cond (ltb c lowPages) (wordIn words (c / page)) (cond (eqb (c / page) (code "€" / page)) (2 ^ (code "€" % page)) 0)
 
 unfoldable pub looked : ℕ → Bool
-looked c = bitOf (wordOf c) (c % 64)
+looked c = bitOf (wordOf c) (c % page)
 
 -- the same of bytes that stand for themselves: of a text, ASCII, and neither `&` nor `<`
 abbrev pub quietWords : List ℕ
@@ -33,4 +41,4 @@ abbrev pub refWords : List ℕ
 refWords = 0x87FF7B8100000000 ∷ 0x07FFFFFE07FFFFFE ∷ 0 ∷ 0 ∷ []
 
 unfoldable pub lookedIn : List ℕ → ℕ → Bool
-lookedIn ws x = bitOf (wordIn ws (x / 64)) (x % 64)
+lookedIn ws x = bitOf (wordIn ws (x / page)) (x % page)

@@ -9,6 +9,7 @@ use Rattle.text_characters.specs.Utf8.{encodeAll}
 use Rattle.text_characters.specs.Pieces.{Spells}
 use Rattle.value.specs.Value.{text, bytes}
 use Rattle.value.specs.given.Wrote.{Wrote}
+use Rattle.value.specs.Places.{longestText}
 
 -- the characters that t spells have n bytes
 pub record Counts (t : List ℕ) (n : ℕ) : Type 0 where
@@ -17,11 +18,11 @@ pub record Counts (t : List ℕ) (n : ℕ) : Type 0 where
   pub count : n ≡ length (encodeAll chars)
 
 unfoldable pub textSize : ℕ → ℕ
-textSize n = cond (leb n 65535) (2 + n) 0
+textSize n = cond (leb n longestText) (2 + n) 0
 
 -- a text, where n has 16 bits
 unfoldable pub textBytes : ℕ → List ℕ → List ℕ
-textBytes n cs = cond (leb n 65535) (bytes (text cs)) []
+textBytes n cs = cond (leb n longestText) (bytes (text cs)) []
 
 abbrev pub TextPut : List ℕ → ℕ → List ℕ → ℕ → ℕ → List ℕ → Type 0
 TextPut t n d at r d′ = (cs : List ℕ) → Spells t cs → Wrote d at (textBytes n cs) r d′

@@ -3,6 +3,7 @@ use mathlib.Core.Path.{_≡_}
 use mathlib.Core.Bool.{Bool, true, false, cond, _&&_, _||_, not}
 use mathlib.Core.List.{List, [], _∷_}
 use Prim.Native.Nat.{ℕ, suc}
+use Prim.Native.Char.{code}
 use lib.Dec.{ltb, eqb}
 use lib.ListN.{length}
 use Rattle.text_characters.specs.Utf8.{encodeAll}
@@ -22,7 +23,7 @@ unfoldable pub textFrom : Bool → ℕ → ℕ → Bool → Bool → List ℕ �
 textFrom strict k n ink slash [] = ink && not slash
 textFrom strict k n ink slash (c ∷ cs) =
     cond (ltb n k)
-    (cond (classOf strict c) (cond (slash && eqb c 47) false (textFrom strict k (suc n) (ink || notSpace c) (strict && eqb c 47) cs)) false)
+    (cond (classOf strict c) (cond (slash && eqb c (code "/")) false (textFrom strict k (suc n) (ink || notSpace c) (strict && eqb c (code "/")) cs)) false)
     false
 
 abbrev pub textOf : Bool → ℕ → List ℕ → Bool
@@ -35,18 +36,18 @@ pub data Spelled (g : List ℕ → Bool) (s : List ℕ) (r : Judged) : Type 0 wh
 
 -- the bytes of a character that is spelled by len bytes: an entity stands for one byte
 unfoldable pub widthOf : ℕ → ℕ → ℕ
-widthOf len code = cond (ltb code 128) 1 len
+widthOf len c = cond (ltb c 0x80) 1 len
 
 -- a character of a text that has one byte
 unfoldable pub isAsciiTxt : ℕ → Bool
-isAsciiTxt x = ltb x 128 && isTxt x
+isAsciiTxt x = ltb x 0x80 && isTxt x
 
 -- quiet bytes: each is a character of the class by itself, so neither `&` nor `<`, and no slash of a reference
 unfoldable pub quietTxt : ℕ → Bool
-quietTxt x = isAsciiTxt x && not (eqb x 38 || eqb x 60)
+quietTxt x = isAsciiTxt x && not (eqb x (code "&") || eqb x (code "<"))
 
 abbrev pub quietRef : ℕ → Bool
-quietRef x = isRef x && not (eqb x 47)
+quietRef x = isRef x && not (eqb x (code "/"))
 
 abbrev pub quietOf : Bool → ℕ → Bool
 quietOf true x = quietRef x

@@ -3,6 +3,7 @@ use mathlib.Core.Path.{_≡_}
 use mathlib.Core.Logic.{_≢_, _⊎_}
 use mathlib.Core.List.{List, [], _∷_}
 use Prim.Native.Nat.{ℕ, zero, suc, _+_, _*_, _-_, _/_, _%_, _^_, _≤_, _<_}
+use Prim.Native.Char.{code}
 use Rattle.value.specs.types.Day.{Real, pair, dayText, nextDay}
 use Rattle.value.specs.types.Moment.{clockText}
 
@@ -22,11 +23,11 @@ pub data Fraction : Type 0 where
 -- the last k digits of n, then t
 unfoldable pub figures : ℕ → ℕ → List ℕ → List ℕ
 figures zero n t = t
-figures (suc k) n t = figures k (n / 10) ((48 + n % 10) ∷ t)
+figures (suc k) n t = figures k (n / 10) ((code "0" + n % 10) ∷ t)
 
 abbrev pub fractionText : Fraction → List ℕ → List ℕ
 fractionText noFraction t = t
-fractionText (decimals k n) t = 46 ∷ figures k n t
+fractionText (decimals k n) t = code "." ∷ figures k n t
 
 -- "optionally a point and three or six digits"; "now a point and one to three digits, the last not zero"
 abbrev pub FractionOk : DateRule → Fraction → Type 0
@@ -45,9 +46,9 @@ pub data Zone : Type 0 where
   ahead behind : ℕ → ℕ → Zone
 
 abbrev pub zoneText : Zone → List ℕ → List ℕ
-zoneText zulu t = 90 ∷ t
-zoneText (ahead h m) t = 43 ∷ pair h (58 ∷ pair m t)
-zoneText (behind h m) t = 45 ∷ pair h (58 ∷ pair m t)
+zoneText zulu t = code "Z" ∷ t
+zoneText (ahead h m) t = code "+" ∷ pair h (code ":" ∷ pair m t)
+zoneText (behind h m) t = code "-" ∷ pair h (code ":" ∷ pair m t)
 
 -- "minutes at most 59, up to 14:00"
 pub record Offset (h m : ℕ) : Type 0 where
@@ -72,7 +73,7 @@ pub record PlainText (rule : DateRule) (t : List ℕ) (y mo d h mi s u z : ℕ) 
   pub fraction : Fraction
   pub zone : Zone
   pub good : FractionOk rule fraction × ZoneOk zone
-  pub is : t ≡ dayText y mo d (84 ∷ clockText h mi s (fractionText fraction (zoneText zone [])))
+  pub is : t ≡ dayText y mo d (code "T" ∷ clockText h mi s (fractionText fraction (zoneText zone [])))
   pub parts : (u ≡ micros fraction) × (z ≡ offset zone)
 
 -- "also allows 24:00:00, without fraction: its content is 00:00:00 of the next day, and on 9999-12-31 it is refused": year 10000 has no real day
@@ -85,7 +86,7 @@ pub record MidnightText (t : List ℕ) (y mo d h mi s u z : ℕ) : Type 0 where
   pub real : Real y mo d
   pub zone : Zone
   pub good : ZoneOk zone
-  pub is : t ≡ dayText year month date (84 ∷ clockText 24 0 0 (zoneText zone []))
+  pub is : t ≡ dayText year month date (code "T" ∷ clockText 24 0 0 (zoneText zone []))
   pub clock : (h ≡ 0) × (mi ≡ 0) × (s ≡ 0)
   pub parts : (u ≡ 0) × (z ≡ offset zone)
 

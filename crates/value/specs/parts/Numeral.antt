@@ -2,6 +2,7 @@
 use mathlib.Core.Path.{_≡_}
 use mathlib.Core.List.{List, [], _∷_, _++_}
 use Prim.Native.Nat.{ℕ, _*_, _^_, _≤_}
+use Prim.Native.Char.{code}
 use lib.ListN.{length}
 use Rattle.text.specs.Bytes.{ascii, isDigit}
 use Rattle.text.specs.Lists.{All}
@@ -31,7 +32,7 @@ placesOf (point ds) = ds
 
 abbrev pub placesText : Places → List ℕ
 placesText noPoint = []
-placesText (point ds) = 46 ∷ ds
+placesText (point ds) = code "." ∷ ds
 
 -- "optional sign, digits with an optional point, at least one digit"
 pub record Numeral (t : List ℕ) : Type 0 where

@@ -1,7 +1,8 @@
 -- The text that is written for a value: of all that spell it, this one. Assumes nothing.
 use mathlib.Core.Bool.{cond}
 use mathlib.Core.List.{List, [], _∷_, _++_}
-use Prim.Native.Nat.{ℕ, _-_, _/_, _%_}
+use Prim.Native.Nat.{ℕ, _-_, _/_, _%_, _^_}
+use Prim.Native.Char.{code}
 use lib.Dec.{eqb, ltb}
 use lib.ListN.{getD}
 use Rattle.text.specs.Bytes.{ascii}
@@ -15,11 +16,11 @@ use Rattle.value.specs.Value.{Value, text, place, truth, natural, amount
 -- "The writer of §1 writes the shortest fraction": of so many microseconds. What is finer than thousandths has a text by the former rule alone, its six digits
 unfoldable pub fractionFor : ℕ → List ℕ
 fractionFor u =
-    cond (eqb u 0) [] (46 ∷ cond (eqb (u % 100000) 0) (padded 1 (u / 100000)) (cond (eqb (u % 10000) 0) (padded 2 (u / 10000)) (cond (eqb (u % 1000) 0) (padded 3 (u / 1000)) (padded 6 u))))
+    cond (eqb u 0) [] (code "." ∷ cond (eqb (u % 10 ^ (6 - 1)) 0) (padded 1 (u / 10 ^ (6 - 1))) (cond (eqb (u % 10 ^ (6 - 2)) 0) (padded 2 (u / 10 ^ (6 - 2))) (cond (eqb (u % 10 ^ (6 - 3)) 0) (padded 3 (u / 10 ^ (6 - 3))) (padded 6 u))))
 
 -- "offset zero as `Z`"
 abbrev pub zoneFor : ℕ → List ℕ
-zoneFor z = cond (eqb z 840) (ascii "Z") (cond (ltb z 840) (45 ∷ hoursText (840 - z)) (43 ∷ hoursText (z - 840)))
+zoneFor z = cond (eqb z 840) (ascii "Z") (cond (ltb z 840) (code "-" ∷ hoursText (840 - z)) (code "+" ∷ hoursText (z - 840)))
 
 -- "BOOL as `true` or `false`"; "amounts with their smallest scale and digits written most significant first (as `0.5` and `7`)"
 abbrev pub scriptOf : Leaf → Value → List ℕ
@@ -29,7 +30,7 @@ scriptOf f (truth b) = cond b (ascii "true") (ascii "false")
 scriptOf f (natural n) = inDigits n
 scriptOf f (amount w k c) = pointed k c
 scriptOf f (day y m d) = dayText y m d []
-scriptOf f (moment y mo d h mi s u z) = dayText y mo d (84 ∷ clockText h mi s (fractionFor u ++ zoneFor z))
+scriptOf f (moment y mo d h mi s u z) = dayText y mo d (code "T" ∷ clockText h mi s (fractionFor u ++ zoneFor z))
 
 -- the currency that a value has, which an amount alone does
 abbrev pub currencyOf : Value → List ℕ

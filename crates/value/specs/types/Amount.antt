@@ -3,6 +3,7 @@ use mathlib.Core.Path.{_≡_}
 use mathlib.Core.Logic.{_⊎_}
 use mathlib.Core.List.{List, [], _∷_, _++_}
 use Prim.Native.Nat.{ℕ, _*_, _^_, _≤_, _<_}
+use Prim.Native.Char.{code}
 use lib.ListN.{length}
 use Rattle.text.specs.Bytes.{ascii, isDigit}
 use Rattle.text.specs.Lists.{All}
@@ -16,7 +17,7 @@ pub record Written (t : List ℕ) : Type 0 where
   pub signed : (sign ≡ []) ⊎ ((sign ≡ ascii "+") ⊎ (sign ≡ ascii "-"))
   pub digits : All isDigit (whole ++ places)
   pub some : 1 ≤ length (whole ++ places)
-  pub is : (t ≡ sign ++ (whole ++ (46 ∷ places))) ⊎ ((t ≡ sign ++ whole) × (places ≡ []))
+  pub is : (t ≡ sign ++ (whole ++ (code "." ∷ places))) ⊎ ((t ≡ sign ++ whole) × (places ≡ []))
 
 -- "The value is coefficient / 10^scale": what is written, over 10 to the number of its places, is c / 10^k; "value not below 0"
 pub record Amount (t : List ℕ) (c k : ℕ) : Type 0 where

@@ -2,7 +2,7 @@
 use mathlib.Core.Path.{_≡_}
 use mathlib.Core.Bool.{Bool, _||_}
 use mathlib.Core.List.{List, []}
-use Prim.Native.Nat.{ℕ, _≤_}
+use Prim.Native.Nat.{ℕ, _+_, _≤_}
 use lib.ListN.{length, take, drop}
 use Rattle.text.specs.Bytes.{isCapital, isLetter, isDigit}
 use Rattle.text.specs.Lists.{All}
@@ -13,10 +13,10 @@ isLetterOrDigit x = isLetter x || isDigit x
 
 -- "IBAN: two capitals, two digits, 1 to 30 ASCII letters or digits"
 pub record Iban (cs : List ℕ) : Type 0 where
-  pub lengths : (5 ≤ length cs) × (length cs ≤ 34)
+  pub lengths : (2 + 2 + 1 ≤ length cs) × (length cs ≤ 2 + 2 + 30)
   pub capitals : All isCapital (take 2 cs)
   pub digits : All isDigit (take 2 (drop 2 cs))
-  pub class : All isLetterOrDigit (drop 4 cs)
+  pub class : All isLetterOrDigit (drop (2 + 2) cs)
 
 -- "CCY: three capitals"
 pub record Ccy (cs : List ℕ) : Type 0 where

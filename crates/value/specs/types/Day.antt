@@ -2,6 +2,7 @@
 use mathlib.Core.Bool.{Bool, cond, _&&_, _||_, not}
 use mathlib.Core.List.{List, _∷_}
 use Prim.Native.Nat.{ℕ, _+_, _/_, _%_, _≤_}
+use Prim.Native.Char.{code}
 use lib.Dec.{leb, ltb, eqb}
 use Rattle.text.specs.Bytes.{inRange}
 
@@ -29,8 +30,8 @@ nextDay y m d = cond (ltb d (monthDays y m)) (y, m, d + 1) (cond (ltb m 12) (y, 
 
 -- the two digits of a number below 100, then t
 abbrev pub pair : ℕ → List ℕ → List ℕ
-pair n t = (48 + n / 10) ∷ (48 + n % 10) ∷ t
+pair n t = (code "0" + n / 10) ∷ (code "0" + n % 10) ∷ t
 
 -- "`YYYY-MM-DD`", then t
 abbrev pub dayText : ℕ → ℕ → ℕ → List ℕ → List ℕ
-dayText y m d t = pair (y / 100) (pair (y % 100) (45 ∷ pair m (45 ∷ pair d t)))
+dayText y m d t = pair (y / 100) (pair (y % 100) (code "-" ∷ pair m (code "-" ∷ pair d t)))

@@ -4,6 +4,7 @@ use mathlib.Core.Bool.{Bool, true, false}
 use mathlib.Core.Logic.{_⊎_}
 use mathlib.Core.List.{List, [], _∷_, _++_}
 use Prim.Native.Nat.{ℕ, _+_, _*_, _-_, _≤_}
+use Prim.Native.Char.{code}
 use lib.ListN.{length}
 use Rattle.text.specs.Bytes.{ascii, isBlank, isDigit}
 use Rattle.text.specs.Lists.{All}
@@ -23,7 +24,7 @@ SaysTruth t false = (t ≡ ascii "false") ⊎ (t ≡ ascii "0")
 -- the number that digits write after a
 unfoldable pub decimalFrom : ℕ → List ℕ → ℕ
 decimalFrom a [] = a
-decimalFrom a (x ∷ xs) = decimalFrom (a * 10 + (x - 48)) xs
+decimalFrom a (x ∷ xs) = decimalFrom (a * 10 + (x - code "0")) xs
 
 -- "NUM: 1 to 18 digits"
 pub record Num (t : List ℕ) (n : ℕ) : Type 0 where

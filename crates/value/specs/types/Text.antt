@@ -3,6 +3,7 @@ use mathlib.Core.Path.{_≡_}
 use mathlib.Core.Bool.{Bool, _||_}
 use mathlib.Core.List.{List, [], _∷_, _++_}
 use Prim.Native.Nat.{ℕ, _≤_}
+use Prim.Native.Char.{code}
 use lib.Dec.{eqb}
 use lib.ListN.{length}
 use Rattle.text.specs.Bytes.{inRange}
@@ -13,21 +14,21 @@ pub record Chars (isOne : ℕ → Bool) (k : ℕ) (cs : List ℕ) : Type 0 where
   pub some : 1 ≤ length cs
   pub most : length cs ≤ k
   pub class : All isOne cs
-  pub ink : All (eqb 32) cs → ⊥
+  pub ink : All (eqb (code " ")) cs → ⊥
 
 -- TXTk: "letters, digits, space, `- + / ? : ( ) . , ' & > < " | $ % ! = # ~ ; * { } [ ] @ \ _ ^`": 0x20 to 0x7E without the backtick;
 -- "and ä ö ü ß Ä Ö Ü € § °"
 unfoldable pub isTxt : ℕ → Bool
 isTxt x =
-    inRange 32 95 x || inRange 97 126 x || eqb x 0xA7 || eqb x 0xB0 || eqb x 0xC4 || eqb x 0xD6 || eqb x 0xDC || eqb x 0xDF || eqb x 0xE4 || eqb x 0xF6 || eqb x 0xFC || eqb x 0x20AC
+    inRange (code " ") (code "_") x || inRange (code "a") (code "~") x || eqb x (code "§") || eqb x (code "°") || eqb x (code "Ä") || eqb x (code "Ö") || eqb x (code "Ü") || eqb x (code "ß") || eqb x (code "ä") || eqb x (code "ö") || eqb x (code "ü") || eqb x (code "€")
 
 -- "letters, digits, space and `- + ? : ( ) . , ' /`"
 unfoldable pub isRef : ℕ → Bool
-isRef x = eqb x 32 || inRange 39 41 x || inRange 43 58 x || eqb x 63 || inRange 65 90 x || inRange 97 122 x
+isRef x = eqb x (code " ") || inRange (code "'") (code ")") x || inRange (code "+") (code ":") x || eqb x (code "?") || inRange (code "A") (code "Z") x || inRange (code "a") (code "z") x
 
 -- "REF: 1 to 35 of ..; no `/` first or last, no `//`"
 pub record Ref (cs : List ℕ) : Type 0 where
   pub chars : Chars isRef 35 cs
-  pub first : (t : List ℕ) → cs ≡ 47 ∷ t → ⊥
-  pub last : (t : List ℕ) → cs ≡ t ++ (47 ∷ []) → ⊥
-  pub twice : (t u : List ℕ) → cs ≡ t ++ (47 ∷ 47 ∷ u) → ⊥
+  pub first : (t : List ℕ) → cs ≡ code "/" ∷ t → ⊥
+  pub last : (t : List ℕ) → cs ≡ t ++ (code "/" ∷ []) → ⊥
+  pub twice : (t u : List ℕ) → cs ≡ t ++ (code "/" ∷ code "/" ∷ u) → ⊥

@@ -2,6 +2,7 @@
 use mathlib.Core.Bool.{Bool, true, false, cond, _&&_, _||_}
 use mathlib.Core.List.{List, [], _∷_, _++_}
 use Prim.Native.Nat.{ℕ, zero, suc}
+use Prim.Native.Char.{code}
 use lib.Dec.{leb, ltb, eqb}
 use Rattle.text.specs.Lists.{same}
 use Rattle.text.specs.Bytes.{ascii, inRange, isBlank, isNameStart, isNamePart}
@@ -23,41 +24,41 @@ toWord [] = all
 toWord (y ∷ q) = more (rest y q)
 
 abbrev pub asciiLead : ℕ → Read
-asciiLead x = cond (eqb x 38) (more ampersand) (cond (eqb x 60) bad (cond (leb 32 x || eqb x 9 || eqb x 10 || eqb x 13) all bad))
+asciiLead x = cond (eqb x (code "&")) (more ampersand) (cond (eqb x (code "<")) bad (cond (leb (code " ") x || eqb x (code "\t") || eqb x (code "\n") || eqb x (code "\r")) all bad))
 
 abbrev pub long : ℕ → Read
 long x =
-    cond (ltb x 194) bad
-    (cond (ltb x 224) (more one)
-    (cond (ltb x 225) (more e0)
-    (cond (ltb x 237) (more two)
-    (cond (ltb x 238) (more ed)
-    (cond (ltb x 239) (more two)
-    (cond (ltb x 240) (more ef)
-    (cond (ltb x 241) (more f0)
-    (cond (ltb x 244) (more three)
-    (cond (ltb x 245) (more f4) bad)))))))))
+    cond (ltb x 0xC2) bad
+    (cond (ltb x 0xE0) (more one)
+    (cond (ltb x 0xE1) (more e0)
+    (cond (ltb x 0xED) (more two)
+    (cond (ltb x 0xEE) (more ed)
+    (cond (ltb x 0xEF) (more two)
+    (cond (ltb x 0xF0) (more ef)
+    (cond (ltb x 0xF1) (more f0)
+    (cond (ltb x 0xF4) (more three)
+    (cond (ltb x 0xF5) (more f4) bad)))))))))
 
 -- by its first byte
 unfoldable pub lead : ℕ → Read
-lead x = cond (ltb x 128) (asciiLead x) (long x)
+lead x = cond (ltb x 0x80) (asciiLead x) (long x)
 
 abbrev pub go-on : Part → ℕ → Read
-go-on one y = cond (inRange 128 191 y) all bad
-go-on two y = cond (inRange 128 191 y) (more one) bad
-go-on three y = cond (inRange 128 191 y) (more two) bad
-go-on e0 y = cond (inRange 160 191 y) (more one) bad
-go-on ed y = cond (inRange 128 159 y) (more one) bad
-go-on ef y = cond (inRange 128 190 y) (more one) (cond (eqb y 191) (more efbf) bad)
-go-on efbf y = cond (inRange 128 189 y) all bad
-go-on f0 y = cond (inRange 144 191 y) (more two) bad
-go-on f4 y = cond (inRange 128 143 y) (more two) bad
+go-on one y = cond (inRange 0x80 0xBF y) all bad
+go-on two y = cond (inRange 0x80 0xBF y) (more one) bad
+go-on three y = cond (inRange 0x80 0xBF y) (more two) bad
+go-on e0 y = cond (inRange 0xA0 0xBF y) (more one) bad
+go-on ed y = cond (inRange 0x80 0x9F y) (more one) bad
+go-on ef y = cond (inRange 0x80 0xBE y) (more one) (cond (eqb y 0xBF) (more efbf) bad)
+go-on efbf y = cond (inRange 0x80 0xBD y) all bad
+go-on f0 y = cond (inRange 0x90 0xBF y) (more two) bad
+go-on f4 y = cond (inRange 0x80 0x8F y) (more two) bad
 go-on ampersand y =
-    cond (eqb y 97) (more ampersandA)
-    (cond (eqb y 108) (toWord (ascii "t;"))
-    (cond (eqb y 103) (toWord (ascii "t;"))
-    (cond (eqb y 113) (toWord (ascii "uot;")) bad)))
-go-on ampersandA y = cond (eqb y 109) (toWord (ascii "p;")) (cond (eqb y 112) (toWord (ascii "os;")) bad)
+    cond (eqb y (code "a")) (more ampersandA)
+    (cond (eqb y (code "l")) (toWord (ascii "t;"))
+    (cond (eqb y (code "g")) (toWord (ascii "t;"))
+    (cond (eqb y (code "q")) (toWord (ascii "uot;")) bad)))
+go-on ampersandA y = cond (eqb y (code "m")) (toWord (ascii "p;")) (cond (eqb y (code "p")) (toWord (ascii "os;")) bad)
 go-on (rest z q) y = cond (eqb y z) (toWord q) bad
 
 -- the bytes are just those that the piece still wants
@@ -74,12 +75,12 @@ pub data Mode : Type 0 where
   early colon late : Mode
 
 abbrev pub grows : Mode → ℕ → Bool
-grows early x = isNamePart x || eqb x 58
+grows early x = isNamePart x || eqb x (code ":")
 grows colon x = isNameStart x
 grows late x = isNamePart x
 
 abbrev pub goesTo : Mode → ℕ → Mode
-goesTo early x = cond (eqb x 58) colon early
+goesTo early x = cond (eqb x (code ":")) colon early
 goesTo colon x = late
 goesTo late x = late
 
@@ -120,7 +121,7 @@ after d [] = done
 after d (n ∷ ns) = content 0 d n ns
 
 abbrev pub endStep : ℕ → List ℕ → List (List ℕ) → ℕ → St
-endStep d n ns x = cond (eqb x 62) (at (content 0 d n ns)) (cond (eqb x 47) (at (slash d ns)) dead)
+endStep d n ns x = cond (eqb x (code ">")) (at (content 0 d n ns)) (cond (eqb x (code "/")) (at (slash d ns)) dead)
 
 abbrev pub tailStep : ℕ → List (List ℕ) → ℕ → List ℕ → List (List ℕ) → ℕ → St
 tailStep k ss d n ns x = cond (isBlank x) (at (gap k ss d n ns)) (endStep d n ns x)
@@ -130,7 +131,7 @@ gapStep zero ss d n ns x = dead
 gapStep (suc k) ss d n ns x = at (attr early (x ∷ []) k ss d n ns)
 
 abbrev pub equalsStep : ℕ → List (List ℕ) → ℕ → List ℕ → List (List ℕ) → ℕ → St
-equalsStep k ss d n ns x = cond (isBlank x) (at (equals k ss d n ns)) (cond (eqb x 61) (at (quote k ss d n ns)) dead)
+equalsStep k ss d n ns x = cond (isBlank x) (at (equals k ss d n ns)) (cond (eqb x (code "=")) (at (quote k ss d n ns)) dead)
 
 abbrev pub valueNext : Read → Quote → ℕ → List (List ℕ) → ℕ → List ℕ → List (List ℕ) → St
 valueNext bad q k ss d n ns = dead
@@ -147,21 +148,25 @@ push zero n ns x = dead
 push (suc d) n ns x = at (name d (x ∷ []) (n ∷ ns))
 
 abbrev pub closeStep : List ℕ → ℕ → List (List ℕ) → ℕ → St
-closeStep [] d ns x = cond (isBlank x) (at (close [] d ns)) (cond (eqb x 62) (at (after d ns)) dead)
+closeStep [] d ns x = cond (isBlank x) (at (close [] d ns)) (cond (eqb x (code ">")) (at (after d ns)) dead)
 closeStep (y ∷ q) d ns x = cond (eqb x y) (at (close q d ns)) dead
 
 abbrev pub declareNext : List ℕ → At
 declareNext [] = before
 declareNext (y ∷ q) = declare y q
 
+-- "Nesting is at most 16, the root being 1": levels below it
+abbrev pub belowRoot : ℕ
+belowRoot = 15
+
 unfoldable pub next : At → ℕ → St
 next done x = cond (isBlank x) (at done) dead
-next start x = cond (isBlank x) (at before) (cond (eqb x 60) (at first) dead)
+next start x = cond (isBlank x) (at before) (cond (eqb x (code "<")) (at first) dead)
 next first x =
-    cond (isNameStart x) (at (name 15 (x ∷ []) []))
-    (cond (eqb x 63) (at (declareNext (ascii "xml version=\"1.0\" encoding=\"UTF-8\"?>"))) dead)
-next before x = cond (isBlank x) (at before) (cond (eqb x 60) (at root) dead)
-next root x = cond (isNameStart x) (at (name 15 (x ∷ []) [])) dead
+    cond (isNameStart x) (at (name belowRoot (x ∷ []) []))
+    (cond (eqb x (code "?")) (at (declareNext (ascii "xml version=\"1.0\" encoding=\"UTF-8\"?>"))) dead)
+next before x = cond (isBlank x) (at before) (cond (eqb x (code "<")) (at root) dead)
+next root x = cond (isNameStart x) (at (name belowRoot (x ∷ []) [])) dead
 next (declare y q) x = cond (eqb x y) (at (declareNext q)) dead
 next (name d n ns) x = cond (isNamePart x) (at (name d (n ++ (x ∷ [])) ns)) (tailStep 4 [] d n ns x)
 next (tail k ss d n ns) x = tailStep k ss d n ns x
@@ -171,15 +176,15 @@ next (attr m b k ss d n ns) x =
 next (equals k ss d n ns) x = equalsStep k ss d n ns x
 next (quote k ss d n ns) x =
     cond (isBlank x) (at (quote k ss d n ns))
-    (cond (eqb x 39) (at (value singleQuote k ss d n ns)) (cond (eqb x 34) (at (value double k ss d n ns)) dead))
+    (cond (eqb x (code "'")) (at (value singleQuote k ss d n ns)) (cond (eqb x (code "\"")) (at (value double k ss d n ns)) dead))
 next (value q k ss d n ns) x = cond (eqb x (mark q)) (at (tail k ss d n ns)) (valueNext (lead x) q k ss d n ns)
 next (within p q k ss d n ns) x = valueNext (go-on p x) q k ss d n ns
-next (slash d ns) x = cond (eqb x 62) (at (after (suc d) ns)) dead
+next (slash d ns) x = cond (eqb x (code ">")) (at (after (suc d) ns)) dead
 next (content r d n ns) x =
-    cond (eqb x 60) (at (less d n ns))
-    (cond (eqb x 62 && leb 2 r) dead (contentNext (lead x) (cond (eqb x 93) (suc r) 0) d n ns))
+    cond (eqb x (code "<")) (at (less d n ns))
+    (cond (eqb x (code ">") && leb 2 r) dead (contentNext (lead x) (cond (eqb x (code "]")) (suc r) 0) d n ns))
 next (part p d n ns) x = contentNext (go-on p x) 0 d n ns
-next (less d n ns) x = cond (isNameStart x) (push d n ns x) (cond (eqb x 47) (at (close n (suc d) ns)) dead)
+next (less d n ns) x = cond (isNameStart x) (push d n ns x) (cond (eqb x (code "/")) (at (close n (suc d) ns)) dead)
 next (close q d ns) x = closeStep q d ns x
 
 unfoldable pub step : St → ℕ → St

@@ -39,7 +39,7 @@ ReadsThree s i low high r = (f : ℕ → Read) → Ranged s i low high f (more t
 
 -- the bytes that may follow the first of three or four: Unicode, table 3-7
 abbrev pub leastBehind : ℕ → ℕ
-leastBehind x = cond (eqb x 224) 160 (cond (eqb x 240) 144 128)
+leastBehind x = cond (eqb x 0xE0) 0xA0 (cond (eqb x 0xF0) 0x90 0x80)
 
 abbrev pub greatestBehind : ℕ → ℕ
-greatestBehind x = cond (eqb x 237) 159 (cond (eqb x 244) 143 191)
+greatestBehind x = cond (eqb x 0xED) 0x9F (cond (eqb x 0xF4) 0x8F 0xBF)

@@ -2,6 +2,7 @@
 use mathlib.Core.Bool.{Bool, cond, _&&_}
 use mathlib.Core.List.{List, [], _∷_}
 use Prim.Native.Nat.{ℕ, _+_, _-_, min}
+use Prim.Native.Char.{code}
 use lib.ListN.{drop}
 use Rattle.text.specs.Bytes.{isBlank}
 use Rattle.text.specs.Lists.{span}
@@ -49,7 +50,7 @@ rootFrom o l = o + span isBlank l
 
 -- it begins as a declaration does
 abbrev pub isDeclared : List ℕ → Bool
-isDeclared l = headIs less l && headIs 63 (drop 1 l)
+isDeclared l = headIs less l && headIs (code "?") (drop 1 l)
 
 unfoldable pub startOf : List ℕ → ℕ
 startOf l =
