@@ -18,6 +18,7 @@ ALLOWED = (
     ('base of decimal digits', r'[/%*<-]=? 10\b|\b10 ([\^*≤]|<=)|ltb n 10\b', '*'),
     ('base of two decimal digits', r'[/%*] 100\b|≤ 99\b|≤ 9\b', 'value/*'),
     ('base of bytes', r'[/%*<]=? 256\b|\b256 \*|ltb x 256\b', '*'),
+    ('words of four bytes, of eight, and of two times eight', r'(Loaded|at \+|j ≤) (4|8|12)\b|r < 4294967296\b', '*chunk*'),
     ('base of hexadecimal digits', r'[/%<] 16\b', 'program_line/*'),
     ('UTF-8 (RFC 3629), "XML 1.0 characters"', r'\b0x[0-9A-F]{1,6}\b|kept [34]\b', '*'),
     ('"Replace the inside by a lookup": words of 64 bits', r'\b0x[0-9A-F]{16}\b', 'value/specs/mirror/Pages.antt'),

@@ -3,8 +3,10 @@
 use independent::house::resolve;
 use independent::list::{Kind, STATEMENT};
 use independent::LIMIT;
+use std::sync::Arc;
 
 use crate::feed::Case;
+use crate::lane::{self, Topic};
 use crate::message::chosen::{EVERY_ROW, REPORT_EVERY_ROW};
 use crate::message::{damage, valid, Draft, Size, Style};
 use crate::random::Random;
@@ -40,10 +42,14 @@ pub enum Class {
     TidyTightRooms,
     TidyOfFaulty,
     TidyAtTheLimit,
+    /// A file for the lane, as it is; no seed gives one.
+    Lane(Topic),
+    /// Its twin, for the exact passes alone.
+    Exact(Topic),
 }
 
 impl Class {
-    /// All classes, each with how often it comes: the shares of checks, reads and picks add up to a thousand.
+    /// All classes that a seed gives, each with how often it comes: the shares of checks, reads and picks add up to a thousand.
     pub const ALL: [(Class, usize); 26] = [
         (Class::ValidMessage, 80),
         (Class::TightRoom, 60),
@@ -114,6 +120,16 @@ impl Class {
             Class::TidyTightRooms => "tidying of a message, tight rooms",
             Class::TidyOfFaulty => "tidying of a message with faults",
             Class::TidyAtTheLimit => "tidying at the size limit",
+            Class::Lane(Topic::Shape) => "good file in a shape that the lane takes",
+            Class::Lane(Topic::OneByteOff) => "file one byte away from a good one",
+            Class::Lane(Topic::OneElementOff) => "file one element away from a good one",
+            Class::Lane(Topic::Boundary) => "file with a value at a boundary of its type",
+            Class::Lane(Topic::End) => "text that ends where the file or the buffer does",
+            Class::Exact(Topic::Shape) => "good file, by the exact passes",
+            Class::Exact(Topic::OneByteOff) => "file one byte away from a good one, by the exact passes",
+            Class::Exact(Topic::OneElementOff) => "file one element away from a good one, by the exact passes",
+            Class::Exact(Topic::Boundary) => "file with a value at a boundary, by the exact passes",
+            Class::Exact(Topic::End) => "text at an end, by the exact passes",
         }
     }
 }
@@ -121,37 +137,55 @@ impl Class {
 /// Room for the image of any file that is not at the limit on purpose.
 const ROOMY: usize = LIMIT;
 
-/// Where cases come from: a seed, and the classes that ask for these ops alone.
+/// Where cases come from: a seed, and the classes that ask for these ops alone; or the fixed set for the lane.
 #[derive(Clone, Debug)]
-pub struct Source {
-    classes: Vec<(Class, usize)>,
-    seed: u64,
+pub enum Source {
+    Seed { classes: Vec<(Class, usize)>, seed: u64 },
+    Lane(Arc<Vec<(Class, Case)>>),
 }
 
 impl Source {
     pub fn new(ops: &[u8], seed: u64) -> Source {
         let asks_known = |(class, _): &(Class, usize)| class.ops().iter().all(|op| ops.contains(op));
-        Source { classes: Class::ALL.into_iter().filter(asks_known).collect(), seed }
+        Source::Seed { classes: Class::ALL.into_iter().filter(asks_known).collect(), seed }
+    }
+
+    pub fn lane() -> Source {
+        Source::Lane(lane::fixed_set().into())
+    }
+
+    /// How many cases there are, where that is known.
+    pub fn count(&self) -> Option<u64> {
+        match self {
+            Source::Seed { .. } => None,
+            Source::Lane(cases) => Some(cases.len() as u64),
+        }
     }
 
     /// The case of this number, from 0.
     pub fn case(&self, number: u64) -> (Class, Case) {
-        let mut random = Random::new(self.seed ^ number.wrapping_mul(0xd134_2543_de82_ef95));
-        let class = self.class(&mut random);
-        (class, make(class, &mut random))
-    }
-
-    fn class(&self, random: &mut Random) -> Class {
-        let total: usize = self.classes.iter().map(|(_, share)| share).sum();
-        let mut left = random.below(total);
-        for (class, share) in &self.classes {
-            if left < *share {
-                return *class;
+        match self {
+            Source::Seed { classes, seed } => {
+                let mut random = Random::new(seed ^ number.wrapping_mul(0xd134_2543_de82_ef95));
+                let class = drawn(classes, &mut random);
+                (class, make(class, &mut random))
             }
-            left -= share;
+            Source::Lane(cases) => cases[number as usize].clone(),
         }
-        unreachable!("the shares add up to the total")
     }
+}
+
+/// One of the classes, by their shares.
+fn drawn(classes: &[(Class, usize)], random: &mut Random) -> Class {
+    let total: usize = classes.iter().map(|(_, share)| share).sum();
+    let mut left = random.below(total);
+    for (class, share) in classes {
+        if left < *share {
+            return *class;
+        }
+        left -= share;
+    }
+    unreachable!("the shares add up to the total")
 }
 
 fn make(class: Class, random: &mut Random) -> Case {
@@ -208,6 +242,7 @@ fn make(class: Class, random: &mut Random) -> Case {
             Case::tidy(any_room(random), any_room(random), faulty(random, faults))
         }
         Class::TidyAtTheLimit => tidies::at_the_limit(file(random), random),
+        Class::Lane(_) | Class::Exact(_) => unreachable!("no seed gives one"),
     }
 }
 

@@ -15,12 +15,14 @@
 //! | [`writes`] | runs for the writer: every value, every code, files at the limit |
 //! | [`tidies`] | files for tidying: odd ones, both rooms, tidied forms at the limit |
 //! | [`statement`] | realistic statements, good or with one fault |
+//! | [`lane`] | files for the fast lane, each with a twin for the exact passes |
 //! | [`inputs`] | inputs for the programs over standard input |
 
 pub mod any;
 pub mod checks;
 pub mod feed;
 pub mod inputs;
+pub mod lane;
 pub mod message;
 pub mod random;
 pub mod runs;

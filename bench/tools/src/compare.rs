@@ -1,4 +1,4 @@
-//! The unit and the independent program over many cases of one seed.
+//! The unit and the independent program over many cases of one seed, or over those for the lane.
 
 use std::collections::{BTreeMap, BTreeSet};
 use std::fmt;
@@ -12,13 +12,37 @@ use independent::Code;
 use crate::difference::Difference;
 use crate::unit::Unit;
 
-/// What is compared: the cases of a seed that ask for these ops, from the first on, so many.
+/// What is compared, from the first case on, so many.
 #[derive(Clone, Debug)]
 pub struct Asked {
-    pub ops: Vec<u8>,
-    pub seed: u64,
+    pub what: What,
     pub first: u64,
     pub count: u64,
+}
+
+#[derive(Clone, PartialEq, Eq, Debug)]
+pub enum What {
+    /// The cases of a seed that ask for these ops.
+    Seed { ops: Vec<u8>, seed: u64 },
+    /// The fixed set of files for the lane and for the exact passes.
+    Lane,
+}
+
+impl What {
+    fn source(&self) -> Source {
+        match self {
+            What::Seed { ops, seed } => Source::new(ops, *seed),
+            What::Lane => Source::lane(),
+        }
+    }
+
+    /// The codes that can be the answer. No file for the lane is too long.
+    fn codes(&self) -> BTreeSet<u8> {
+        match self {
+            What::Seed { ops, .. } => ops.iter().flat_map(|op| codes(*op)).copied().collect(),
+            What::Lane => codes(0).iter().copied().filter(|code| *code != 1).collect(),
+        }
+    }
 }
 
 /// What a comparison found.
@@ -34,9 +58,10 @@ pub struct Comparison {
 
 /// Compares case by case, and stops at the first difference.
 pub fn compare(unit: &Unit, asked: &Asked) -> io::Result<Comparison> {
-    let Asked { first, count, .. } = *asked;
-    let mut found = Comparison::new(asked);
+    let mut found = Comparison::new(&asked.what);
     let source = found.source.clone();
+    let first = asked.first;
+    let count = source.count().map_or(asked.count, |most| asked.count.min(most.saturating_sub(first)));
     unit.answer(
         count,
         |number| source.case(first + number).1,
@@ -56,13 +81,12 @@ pub fn compare(unit: &Unit, asked: &Asked) -> io::Result<Comparison> {
 }
 
 impl Comparison {
-    fn new(asked: &Asked) -> Comparison {
-        let expected: BTreeSet<u8> = asked.ops.iter().flat_map(|op| codes(*op)).copied().collect();
+    fn new(what: &What) -> Comparison {
         Comparison {
-            source: Source::new(&asked.ops, asked.seed),
+            source: what.source(),
             compared: 0,
             difference: None,
-            codes: expected.into_iter().map(|code| (code, 0)).collect(),
+            codes: what.codes().into_iter().map(|code| (code, 0)).collect(),
             classes: BTreeMap::new(),
         }
     }
@@ -89,7 +113,7 @@ impl Comparison {
         Difference { number, class: class.name(), case, unit, independent }
     }
 
-    /// The codes that the ops can answer with and that were never the answer.
+    /// The codes that can be the answer and never were.
     pub fn unreached(&self) -> Vec<u8> {
         self.codes.iter().filter(|(_, count)| **count == 0).map(|(code, _)| *code).collect()
     }
@@ -115,7 +139,7 @@ mod tests {
     use cases::feed::ALL_OPS;
 
     fn asked(count: u64) -> Asked {
-        Asked { ops: ALL_OPS.to_vec(), seed: 1, first: 0, count }
+        Asked { what: What::Seed { ops: ALL_OPS.to_vec(), seed: 1 }, first: 0, count }
     }
 
     #[test]
@@ -127,8 +151,19 @@ mod tests {
     }
 
     #[test]
+    fn the_cases_for_the_lane_end_and_reach_every_code() {
+        let all = Asked { what: What::Lane, first: 0, count: u64::MAX };
+        let found = compare(&Unit::Independent, &all).unwrap();
+        assert_eq!(Some(found.compared), found.source.count());
+        assert!(found.difference.is_none() && found.unreached().is_empty(), "{:?}", found.unreached());
+        let last = compare(&Unit::Independent, &Asked { first: found.compared - 2, ..all.clone() }).unwrap();
+        let behind = compare(&Unit::Independent, &Asked { first: found.compared + 1, ..all }).unwrap();
+        assert_eq!((last.compared, behind.compared), (2, 0));
+    }
+
+    #[test]
     fn another_line_is_a_difference() {
-        let mut found = Comparison::new(&asked(6));
+        let mut found = Comparison::new(&asked(6).what);
         let right = found.source.case(5).1.line();
         assert!(found.take(5, right.clone()).is_continue());
         assert!(found.take(5, right + "00").is_break());

@@ -8,7 +8,7 @@ use std::process::Command;
 use std::sync::Mutex;
 
 use cases::feed::ALL_OPS;
-use tools::compare::{compare, Asked};
+use tools::compare::{compare, Asked, What};
 use tools::unit::Unit;
 
 /// How many cases the gate compares.
@@ -271,7 +271,7 @@ fn every_fault_is_found() {
 fn find(index: usize, label: &str) {
     let fault = FAULTS[index];
     let replay = build_with(fault, label);
-    let asked = Asked { ops: ops(fault), seed: 1, first: 0, count: CASES };
+    let asked = Asked { what: What::Seed { ops: ops(fault), seed: 1 }, first: 0, count: CASES };
     let found = compare(&Unit::Replay(replay), &asked).expect("replay runs");
     let difference = found.difference.unwrap_or_else(|| panic!("not found in {CASES} cases: {fault:?}"));
     println!("found after {} cases: {} in {}\n{difference}", found.compared, fault.2, fault.0);

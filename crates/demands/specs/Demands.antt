@@ -15,7 +15,7 @@
 --   Front l h                      how an image begins, of version 1 or 2                                image/specs/Place
 --   HouseReads, HousePicks         what `read` answers; what `pick` answers and `picked` hands back      image_reading/specs/Reads
 --   Next h a h′                    what `next` of the reader that holds its run answers, and its place   image_hold/specs/Held
--- These are what the public calls promise: `unit::check`, `unit::read`, `unit::pick`, `unit::picked`, `file_measure::measure`, `image_hold::next`.
+-- These are what the public calls promise: `unit::check`, `unit::read`, `unit::pick`, `unit::picked`, `file_lane::measure`, `image_hold::next`.
 use mathlib.Core.Path.{_≡_}
 use mathlib.Core.Logic.{_⊎_, _↔_}
 use mathlib.Core.List.{List, [], _∷_, _++_}

@@ -54,7 +54,7 @@ value-few l v (money {w = u} {k = k} {c = c} a b) h = omega (arith, amount-long 
 value-few l v (dated {y = y} {m = m} {d = d} a) h = omega (arith, day-long y m d)
 value-few l v (timed {y = y} {mo = mo} {d = d} {h = ho} {mi = mi} {s = s} {u = u} {z = z} a) h = omega (arith, moment-long y mo d ho mi s u z)
 
-gives-few : (kind k : ℕ) (cur s bs : List ℕ) → Gives kind k cur s bs → length bs ≤ 65537
+pub gives-few : (kind k : ℕ) (cur s bs : List ℕ) → Gives kind k cur s bs → length bs ≤ 65537
 gives-few kind k cur s bs (giving.some v t c e) = omega (arith, ap length e, value-few (t .leaf) v (t .spelt .is) c)
 gives-few kind k cur s bs (giving.none f e) = omega (arith, ap length e)
 

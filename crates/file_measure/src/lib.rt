@@ -13,7 +13,6 @@ use text_characters::utf8::utf8_end;
 use xml_scan::Scanned;
 use xml_scan::scan;
 ghost use mathlib.Core.Path.{_≡_};
-ghost use Rattle.file.specs.Checks.{Finds};
 ghost use Rattle.file.specs.File.{Whole};
 ghost use Rattle.file_measure.specs.Measures.{Measures};
 ghost use Rattle.file_measure.specs.mirror.Choice.{toldOf, Chooses};
@@ -78,11 +77,4 @@ pub fn measured(input: &[u8]) -> Finding
         Scanned::Stops(n) => told(Answer::not_house_xml(n), 0),
         Scanned::Whole => message(input),
     }
-}
-
-// The answer alone.
-pub fn measure(input: &[u8]) -> Answer
-    ensures { λ r. ⌜ Finds (now (input .entry)) r ⌝ }
-{
-    measured(input).answer
 }

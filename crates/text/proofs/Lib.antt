@@ -15,3 +15,7 @@ pub mod Numbers
 pub mod Puts
 -- decimal digits, one by one
 pub mod Digits
+-- bytes as a number, the first the least
+pub mod Littles
+-- the zeros at a number's end, by bytes
+pub mod Zeros

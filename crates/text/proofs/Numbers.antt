@@ -8,14 +8,12 @@ use native.Mathlib.Omega.{arith}
 use lib.ListN.{length, getD, take, drop, length-append, length-take, length-drop, drop-of-length-le}
 use lib.Seq.{slice, take-suc, take-all, length-take-le, drop-cons, getD-take, getD-drop, take-at, drop-at}
 use Rattle.text.specs.Lists.{Each}
+pub use Rattle.text.specs.Little.{Byte}
 use Rattle.text.specs.Numbers.{bigEndian, numberFrom, number}
 use Rattle.text.specs.Pasting.{pasted}
 use Rattle.text.proofs.Parts.{part-length}
 use Rattle.text.proofs.Pasting.{rest-pasted}
 use Rattle.text.proofs.Lasts.{Made}
-
-abbrev pub Byte : ℕ → Type 0
-Byte x = x < 256
 
 -- ---- a list by its last element
 

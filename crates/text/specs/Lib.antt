@@ -5,6 +5,8 @@ pub mod Bytes
 pub mod Lists
 -- big-endian numbers
 pub mod Numbers
+-- bytes as a number, the first the least
+pub mod Little
 -- a word at the front of a text
 pub mod Words
 -- a list written into another

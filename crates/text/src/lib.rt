@@ -2,5 +2,6 @@
 // `text_bytes` and `text_digits`; what is said and proved of them stands here.
 pub mod class; // class.rt: bytes by class
 pub mod span; // span.rt: how far a class reaches
+pub mod chunk; // chunk.rt: bytes as one number
 pub mod part; // part.rt: parts of slices, compared
 pub mod width; // width.rt: how many bytes a number has

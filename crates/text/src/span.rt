@@ -1,43 +1,41 @@
 // How far a class reaches from a place. A place past the end is its own answer.
 
+use crate::chunk::load8;
 use crate::class::is_blank;
+use crate::width::WIDTH_64;
 ghost use mathlib.Core.Path.{_≡_};
 ghost use Prim.Native.Nat.{_+_};
 ghost use lib.ListN.{drop};
 ghost use Rattle.text.specs.Lists.{span};
 ghost use Rattle.text.specs.Bytes.{isBlank};
 
-// Runs are passed four bytes a turn: so many, and those of them after the first.
+// Other runs are passed four bytes a turn, by those who use these: so many, and those of them after the first.
 pub const TURN: usize = 4;
 
 pub const TURN_REST: usize = TURN - 1;
 
-// The end of the spaces from a place on, four a turn. It may stop early near the end of the bytes: what is left of the blanks is the same.
+// How many bits a byte has.
+const BITS: u32 = 8;
+
+// Eight spaces, loaded.
+const SPACES: u64 = 0x2020202020202020;
+
+// The end of the spaces from a place on, eight a turn: the zeros at the end of what eight bytes are more than spaces say how many of them are
+// spaces. It may stop early near the end of the bytes: what is left of the blanks is the same.
 fn spaces_end(s: &[u8], at: usize) -> usize
     ensures { λ r. ⌜ r + span isBlank (drop r (now (s .entry))) ≡ at + span isBlank (drop at (now (s .entry))) ⌝ }
 {
-    if s.len() < TURN {
+    if s.len() < WIDTH_64 {
         return at;
     }
-    let last = s.len() - TURN_REST;
+    let last = s.len() - WIDTH_64 + 1;
     let mut i = at;
     while i < last {
-        let j = i + 1;
-        let k = j + 1;
-        let l = k + 1;
-        if s[i] != b' ' {
-            return i;
+        let d = std::num::wrapping_sub_u64(load8(s, i), SPACES);
+        if d != 0 {
+            return i + (u64::trailing_zeros(d) / BITS) as usize;
         }
-        if s[j] != b' ' {
-            return j;
-        }
-        if s[k] != b' ' {
-            return k;
-        }
-        if s[l] != b' ' {
-            return l;
-        }
-        i = l + 1;
+        i += WIDTH_64;
     }
     i
 }

@@ -1,6 +1,6 @@
 // The entry for a file without a buffer: how many bytes its image has, or why it has none.
 use answer::Answer;
-use file_measure::measure;
+use file_lane::measure;
 ghost use Rattle.file.specs.Checks.{Finds};
 ghost use Rattle.unit.specs.Exports.{handed};
 

@@ -8,7 +8,7 @@ use std::process::ExitCode;
 use std::time::{Instant, SystemTime, UNIX_EPOCH};
 
 use cases::feed::ALL_OPS;
-use tools::compare::{compare, Asked};
+use tools::compare::{compare, Asked, What};
 use tools::output::{self, named};
 use tools::unit::{Unit, KNOWN_OPS};
 
@@ -19,8 +19,9 @@ struct Options {
 }
 
 const USAGE: &str =
-    "usage: compare [--seed S] [--cases N] [--first I] [--ops LIST] [--keep FILE] [--replay PATH | --independent]
+    "usage: compare [--seed S | --lane] [--cases N] [--first I] [--ops LIST] [--keep FILE] [--replay PATH | --independent]
   --seed S       the seed of the cases (a fresh one without it)
+  --lane         in their place the files for the lane, each also for the exact passes alone: all, or N of them
   --cases N      how many (20000)
   --first I      the number of the first case (0)
   --ops LIST     the ops that are asked for, as 0,1,2 (those that the unit knows): 0 check, 1 read, 2 pick, 3 write
@@ -31,21 +32,27 @@ const USAGE: &str =
 fn options() -> Option<Options> {
     let fresh = SystemTime::now().duration_since(UNIX_EPOCH).map_or(1, |time| time.as_nanos() as u64 % 1_000_000_000);
     let path = std::env::var("REPLAY").unwrap_or("target/bin/replay".to_string());
-    let asked = Asked { ops: KNOWN_OPS.to_vec(), seed: fresh, first: 0, count: 20_000 };
+    let (mut known, mut seed, mut lane, mut count) = (KNOWN_OPS.to_vec(), fresh, false, None);
+    let asked = Asked { what: What::Lane, first: 0, count: 0 };
     let mut options = Options { asked, keep: None, unit: Unit::Replay(path.into()) };
     let mut words = std::env::args().skip(1);
     while let Some(word) = words.next() {
         match word.as_str() {
-            "--seed" => options.asked.seed = words.next()?.parse().ok()?,
-            "--cases" => options.asked.count = words.next()?.parse().ok()?,
+            "--seed" => seed = words.next()?.parse().ok()?,
+            "--lane" => lane = true,
+            "--cases" => count = Some(words.next()?.parse().ok()?),
             "--first" => options.asked.first = words.next()?.parse().ok()?,
-            "--ops" => options.asked.ops = ops(&words.next()?)?,
+            "--ops" => known = ops(&words.next()?)?,
             "--keep" => options.keep = Some(words.next()?.into()),
             "--replay" => options.unit = Unit::Replay(words.next()?.into()),
             "--independent" => options.unit = Unit::Independent,
             _ => return None,
         }
     }
+    if !lane {
+        options.asked.what = What::Seed { ops: known, seed };
+    }
+    options.asked.count = count.unwrap_or(if lane { u64::MAX } else { 20_000 });
     Some(options)
 }
 
@@ -67,7 +74,10 @@ fn compare_all(Options { asked, keep, unit }: &Options, out: &mut dyn Write) -> 
         Unit::Replay(path) => path.display().to_string(),
         Unit::Independent => "the independent program itself".to_string(),
     };
-    writeln!(out, "seed {}, {} cases, asked: {who}", asked.seed, asked.count)?;
+    match &asked.what {
+        What::Seed { seed, .. } => writeln!(out, "seed {seed}, {} cases, asked: {who}", asked.count)?,
+        What::Lane => writeln!(out, "the files for the lane, asked: {who}")?,
+    }
     out.flush()?;
     let start = Instant::now();
     let found = compare(unit, asked)?;
@@ -93,10 +103,12 @@ fn compare_all(Options { asked, keep, unit }: &Options, out: &mut dyn Write) -> 
 
 /// The words that ask for one case again.
 fn again(asked: &Asked, number: u64) -> String {
-    let mut words = format!("--seed {} --first {number} --cases 1", asked.seed);
-    if asked.ops != KNOWN_OPS {
-        let ops: Vec<String> = asked.ops.iter().map(u8::to_string).collect();
-        words += &format!(" --ops {}", ops.join(","));
+    match &asked.what {
+        What::Lane => format!("--lane --first {number} --cases 1"),
+        What::Seed { ops, seed } if ops == KNOWN_OPS => format!("--seed {seed} --first {number} --cases 1"),
+        What::Seed { ops, seed } => {
+            let ops: Vec<String> = ops.iter().map(u8::to_string).collect();
+            format!("--seed {seed} --first {number} --cases 1 --ops {}", ops.join(","))
+        }
     }
-    words
 }

@@ -16,17 +16,19 @@ use Rattle.image.proofs.content.Derive.{After, Rest, root, more, Takes,
 use Rattle.image.proofs.content.Levels.{Chain, chain-children, children-chain}
 use Rattle.image.proofs.content.Live.{live}
 
-module _ (vs : Values) (lw : Lawful vs) (l : Listing) (wf : WellFormed l) where
-  abbrev w : Well l
-  w = well l wf
-
-  of-after : (c : Content (vs .Value)) (p q : ℕ) → After vs l p q c → Chain l p q (rows c) × Good (vs .Is) l c
+module _ (vs : Values) (l : Listing) (wf : WellFormed l) where
+  -- what follows in order keeps to the list
+  pub of-after : (c : Content (vs .Value)) (p q : ℕ) → After vs l p q c → Chain l p q (rows c) × Good (vs .Is) l c
   of-after end p q a = (a, tt)
   of-after (value r v k) p q a = let o = of-after k p r (a .2) in ((a .0, o .0), (a .1, o .1))
   of-after (node r i k) p q a =
       let o = of-after k p r (a .3) in
       let n = of-after i r 0 (a .2) in
       ((a .0, o .0), ((a .1, chain-children l wf r (rows i) (n .0)), n .1, o .1))
+
+module _ (vs : Values) (lw : Lawful vs) (l : Listing) (wf : WellFormed l) where
+  abbrev w : Well l
+  w = well l wf
 
   pub after-of : (c : Content (vs .Value)) (p q : ℕ) → Chain l p q (rows c) → Good (vs .Is) l c → After vs l p q c
   after-of end p q h m = h
@@ -68,7 +70,7 @@ module _ (vs : Values) (lw : Lawful vs) (l : Listing) (wf : WellFormed l) where
   pub unrooted : (t : List (Item vs)) → Takes vs l 1 t → Made ((1, none) ∷ t)
   unrooted t (after k r) = absurd (clash root-group k)
   unrooted t (inside n i a u e r) =
-      let o = of-after i 1 0 a in
+      let o = of-after vs l wf i 1 0 a in
       record {
         content = node 1 i end;
         meets = record { root = refl; good = ((n, chain-children l wf 1 (rows i) (o .0)), o .1, tt) };

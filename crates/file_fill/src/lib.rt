@@ -1,0 +1,34 @@
+// The image of a file that the lane knows to be good, written by the lane's nodes at the start of a lent buffer.
+mod puts; // puts.rt: the value of a leaf
+mod fill; // fill.rt: the pass that writes
+
+use file_lane::lane;
+use file_nodes::by_byte::nodes_of;
+use fill::fill;
+ghost use mathlib.Core.Logic.{_≢_};
+ghost use Prim.Native.Nat.{_≤_};
+ghost use Rattle.value.specs.Judged.{Exactly};
+ghost use Rattle.file_fill.specs.Laned.{Laned};
+
+// Whether something is told, and a buffer of this length has room for it: one test, so that the passes keep their registers.
+fn is_written(size: usize, len: usize) -> bool
+    ensures { λ r. ⌜ Exactly r ((size ≢ 0) × (size ≤ len)) ⌝ }
+{
+    (size != 0) & (size <= len)
+}
+
+// The length of a file's image, 0 where the lane does not know it, and the image at the start of a buffer that has room for it; else the buffer stays as it
+// was. The nodes are bound here, once, and lent.
+pub fn laned(s: &[u8], out: &mut [u8]) -> usize
+    ensures { λ r. ⌜ Laned (now (s .entry)) (now (out .entry)) r (now (out .exit)) ⌝ }
+{
+    let seen = lane(s);
+    let size = seen.size;
+    if !is_written(size, out.len()) {
+        return size;
+    }
+    let kind = seen.kind;
+    let nodes = nodes_of(kind);
+    fill(&nodes, s, seen.from, kind as u8, out);
+    size
+}

@@ -1,0 +1,58 @@
+// From the place after the root's tag to the end of the file, one tag after the other.
+
+use crate::tag::find;
+use crate::turn::passed;
+use file_chunks::eight;
+use file_chunks::eight_after;
+use file_nodes::fields::INFO;
+use file_nodes::fields::NEXT;
+use file_nodes::fields::WIDTH;
+use text::span::blanks_end;
+use value_levels::table::Levels;
+ghost use mathlib.Core.Logic.{_≢_};
+ghost use Prim.Native.Nat.{_≤_};
+ghost use Prim.Native.Nat.{ℕ};
+ghost use lib.ListN.{length};
+ghost use Rattle.answer.specs.Table.{limit};
+ghost use Rattle.file.specs.Instance.{houseKinds};
+ghost use Rattle.value_levels.specs.mirror.Levels.{Leveled};
+ghost use Rattle.file_nodes.specs.Run.{Node};
+ghost use Rattle.file_nodes.specs.mirror.Kept.{In, Tabled, Lent};
+ghost use Rattle.file_lane.specs.mirror.Leads.{Comes};
+
+// The node after the root's tag; the header and the root's row byte.
+const START: usize = 1;
+
+const HEAD: usize = 7;
+
+// How many bytes the image has of a file that goes on so from a place after its root's tag; 0 where that is not known here. No sum overflows: each turn
+// goes on in a text of at most 1,048,576 bytes, and an item has at most 65,538.
+pub(crate) fn length_from(levels: &Levels, nodes: &[u64], s: &[u8], from: usize) -> usize
+    requires { ⌜ Leveled (now levels) × Lent (now nodes) × In (now nodes) 1 × (length (now s) ≤ limit) ⌝ }
+    ensures { λ r. ⌜ (r ≢ 0 → (at : ℕ → Node) → Tabled (now (nodes .entry)) at → Comes houseKinds at (now (s .entry)) 1 from r) ⌝ }
+{
+    let mut n = START;
+    let mut at = from;
+    let mut total = HEAD;
+    loop {
+        let less = blanks_end(s, at);
+        if s.len() <= less {
+            return 0;
+        }
+        let found = find(nodes, n, eight(s, less), eight_after(s, less));
+        if found == 0 {
+            return 0;
+        }
+        let past = passed(levels, nodes, found, s, less);
+        let after = past.at;
+        if after == 0 {
+            return 0;
+        }
+        total += past.size;
+        at = after;
+        n = (nodes[WIDTH * found + INFO] / NEXT % 256) as usize;
+        if n == 0 {
+            return total;
+        }
+    }
+}

@@ -1,0 +1,3 @@
+-- The laws of `value_lane`.
+-- account numbers, amounts and days that are just what spells the value
+pub mod Firms

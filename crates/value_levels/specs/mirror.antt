@@ -1,0 +1,3 @@
+-- Of `value_levels`: mirrors, which say how the code goes.
+-- a mirror: classes of bytes as levels
+pub mod Levels

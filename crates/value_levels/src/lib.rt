@@ -1,0 +1,3 @@
+// The levels of bytes: the classes that a leaf's text is of, each within the one below it, and how far bytes of one reach.
+pub mod table; // table.rt: the level of each byte
+pub mod class; // class.rt: over the bytes of a level
