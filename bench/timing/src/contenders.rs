@@ -8,6 +8,8 @@ use crate::files::File;
 pub enum Input {
     File,
     Foreign,
+    Faulty,
+    Broken,
     Image,
 }
 
@@ -25,6 +27,8 @@ impl Contender {
         match self.takes {
             Input::File => &file.text,
             Input::Foreign => &file.foreign,
+            Input::Faulty => &file.faulty,
+            Input::Broken => &file.broken,
             Input::Image => &file.image,
         }
     }
@@ -70,13 +74,15 @@ pub fn all(schema: &str) -> Result<Vec<Contender>, String> {
 }
 
 /// The unit, and one that was built before where there is one. A foreign root is code 4, which is found after codes 1 to 3 over the whole
-/// file and before anything else.
+/// file and before anything else. A bad value in the last text is code 12, a byte after the root 3: each is found only at the end.
 pub fn units() -> Vec<Contender> {
     use unit::{code, reads};
     #[rustfmt::skip]
     let units = vec![
         Contender { name: "unit check", takes: Input::File, is_unit: true, counts: <[u8]>::len, judge: |text| code(unit::kto_check, text) == 0 },
         Contender { name: "unit UTF-8 and scan", takes: Input::Foreign, is_unit: true, counts: <[u8]>::len, judge: |text| code(unit::kto_check, text) == 4 },
+        Contender { name: "unit refuses a value", takes: Input::Faulty, is_unit: true, counts: <[u8]>::len, judge: |text| code(unit::kto_check, text) == 12 },
+        Contender { name: "unit refuses an end", takes: Input::Broken, is_unit: true, counts: <[u8]>::len, judge: |text| code(unit::kto_check, text) == 3 },
         Contender { name: "unit read", takes: Input::Image, is_unit: true, counts: <[u8]>::len, judge: |image| reads(unit::kto_read, image) },
         Contender { name: "unit write", takes: Input::Image, is_unit: true, counts: unit::written, judge: unit::write },
         Contender { name: "unit tidy", takes: Input::File, is_unit: true, counts: <[u8]>::len, judge: unit::tidy },
@@ -84,6 +90,10 @@ pub fn units() -> Vec<Contender> {
         Contender { name: "before check", takes: Input::File, is_unit: true, counts: <[u8]>::len, judge: |text| code(unit::before_check, text) == 0 },
         #[cfg(before)]
         Contender { name: "before UTF-8 and scan", takes: Input::Foreign, is_unit: true, counts: <[u8]>::len, judge: |text| code(unit::before_check, text) == 4 },
+        #[cfg(before)]
+        Contender { name: "before refuses a value", takes: Input::Faulty, is_unit: true, counts: <[u8]>::len, judge: |text| code(unit::before_check, text) == 12 },
+        #[cfg(before)]
+        Contender { name: "before refuses an end", takes: Input::Broken, is_unit: true, counts: <[u8]>::len, judge: |text| code(unit::before_check, text) == 3 },
         #[cfg(before)]
         Contender { name: "before read", takes: Input::Image, is_unit: true, counts: <[u8]>::len, judge: |image| reads(unit::before_read, image) },
     ];

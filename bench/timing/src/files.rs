@@ -13,6 +13,9 @@ pub struct File {
     pub text: Vec<u8>,
     /// The same file with another name of the root.
     pub foreign: Vec<u8>,
+    /// The same file with a byte in its last text that no text has, and with one after its root.
+    pub faulty: Vec<u8>,
+    pub broken: Vec<u8>,
     pub image: Vec<u8>,
 }
 
@@ -91,12 +94,15 @@ fn file(name: String, style: Style, size: usize) -> File {
         }
     }
     let foreign = text.replace("Document", "Fragment").into_bytes();
+    let last = text.rfind("</Ustrd>").expect("a last text");
+    let faulty = [&text[..last], "`", &text[last..]].concat().into_bytes();
+    let broken = [text.trim_end(), "x"].concat().into_bytes();
     let text = text.into_bytes();
     let mut image = vec![0; independent::LIMIT];
     let answer = independent::check(&text, &mut image);
     assert_eq!(answer.code.number(), 0, "the made file {name} is refused: {answer:?}");
     image.truncate(answer.place);
-    File { name, text, foreign, image }
+    File { name, text, foreign, faulty, broken, image }
 }
 
 fn entries_with_room(style: Style, entries: usize, size: usize, length: usize) -> usize {

@@ -27,11 +27,16 @@ pub enum Topic {
 /// Room for any image of these files.
 const ROOM: usize = LIMIT;
 
+/// The good files in every shape that the lane takes.
+pub fn shapes() -> Vec<Vec<u8>> {
+    shapes::files()
+}
+
 /// All of them, each followed by its twin where it has one. The same each time.
 pub fn fixed_set() -> Vec<(Class, Case)> {
     let roomy = |file: Vec<u8>| Case::check(ROOM, file);
     let topics: [(Topic, Vec<Case>); 5] = [
-        (Topic::Shape, shapes::files().into_iter().map(roomy).collect()),
+        (Topic::Shape, shapes().into_iter().map(roomy).collect()),
         (Topic::OneByteOff, near::by_a_byte().into_iter().map(roomy).collect()),
         (Topic::OneElementOff, near::by_an_element().into_iter().map(roomy).collect()),
         (Topic::Boundary, boundaries::files().into_iter().map(roomy).collect()),

@@ -16,7 +16,7 @@ pub fn by_a_byte() -> Vec<Vec<u8>> {
     let hinted = HINTED.map(|hints| WHOLE.replacen("\">", &format!("\"{hints}>"), 1));
     let roots = hinted.iter().flat_map(|file| {
         let end = file.find("<BkTo").expect("a root");
-        changed(file[..end].as_bytes(), TELLING)
+        changed(&file.as_bytes()[..end], TELLING)
             .into_iter()
             .map(move |front| [&front, &file.as_bytes()[end..]].concat())
     });
