@@ -53,6 +53,14 @@ fn as_kind(s: &[u8], less: usize, kind: usize) -> Glimpse
     }
     let nodes = nodes_of(kind);
     let levels = levels();
+    // At two places: at one alone the compiler would put the pass in here, where too few registers are left for its loop.
+    if kind == STATEMENT {
+        return Glimpse {
+            size: length_from(&levels, &nodes, s, from),
+            kind,
+            from,
+        };
+    }
     Glimpse {
         size: length_from(&levels, &nodes, s, from),
         kind,

@@ -10,12 +10,12 @@ use lib.Dec.{leb, eqb}
 use lib.ListN.{length, getD, take, drop, take-append-drop, List·getD-eq-default}
 use lib.Seq.{drop-drop, length-take-le}
 use mir.Val.{boolByte}
-use borrow.Author.Tests.{eqb-true, eqb-false, leb-true, le-leb, not-true}
+use borrow.Author.Tests.{eqb-true, eqb-false, leb-true, le-leb, lt-leb, not-true}
 use Rattle.text.specs.Lists.{All, span}
 use Rattle.text.specs.Bytes.{isLetter, isDigit}
 use Rattle.text.proofs.Classes.{digit, and-is, every}
 use Rattle.text.proofs.Classes as classes
-use Rattle.text.proofs.Spans.{span-le, span-go}
+use Rattle.text.proofs.Spans.{span-le, span-stop, span-go}
 use Rattle.text_characters.specs.Pieces.{greater}
 use Rattle.value.specs.types.Code.{isLetterOrDigit}
 use Rattle.value.specs.types.Text.{isTxt, isRef}
@@ -95,6 +95,9 @@ leveled t l e = record { is = λ x. go x (decLt x 256) }
 pub looked : (t : List ℕ) → Leveled t → (m w x : ℕ) → w ≡ x → m ≤ getD t w 0 → m ≤ levelOf x
 looked t l m w x e h = subst (λ (y : ℕ). m ≤ levelOf y) e (subst (λ (y : ℕ). m ≤ y) (l .is w) h)
 
+pub looked-below : (t : List ℕ) → Leveled t → (m w x : ℕ) → w ≡ x → getD t w 0 < m → levelOf x < m
+looked-below t l m w x e h = subst (λ (y : ℕ). levelOf y < m) e (subst (λ (y : ℕ). y < m) (l .is w) h)
+
 pub all-map : (p q : ℕ → Bool) → ((x : ℕ) → p x ≡ true → q x ≡ true) → (l : List ℕ) → All p l → All q l
 all-map p q f [] h = tt
 all-map p q f (x ∷ l) h = (f x (h .0), all-map p q f l (h .1))
@@ -110,11 +113,25 @@ ran-start m s at = let q : at ≡ at + 0 = omega arith in subst (Ran m s at) q (
 pub ran-then : (m : ℕ) (s : List ℕ) (i j k : ℕ) → Ran m s i j → Ran m s j k → Ran m s i k
 ran-then m s i j k a b = record { from = omega (arith, a .from, b .from); rest = b .rest ∙ a .rest }
 
+pub ran-on : (m : ℕ) (s : List ℕ) (at i : ℕ) → Ran m s at i → i < length s → m ≤ levelOf (getD s i 0) → Ran m s at (i + 1)
+ran-on m s at i a h l =
+    let g = span-go (reaches m) s i h (le-leb m (levelOf (getD s i 0)) l) in
+    record { from = omega (arith, a .from); rest = omega (arith, a .rest, g) }
+
 pub ran-more : (m : ℕ) (s : List ℕ) (at j : ℕ) → Ran m s at (at + j) → at + j < length s → m ≤ levelOf (getD s (at + j) 0) → Ran m s at (at + (j + 1))
 ran-more m s at j a h l =
-    let g = span-go (reaches m) s (at + j) h (le-leb m (levelOf (getD s (at + j) 0)) l) in
     let q : at + j + 1 ≡ at + (j + 1) = omega arith in
-    subst (Ran m s at) q (record { from = omega (arith, a .from); rest = omega (arith, a .rest, g) })
+    subst (Ran m s at) q (ran-on m s at (at + j) a h l)
+
+-- a run ends at a byte below its level; all of a run, from any place of it
+pub ran-out : (m : ℕ) (s : List ℕ) (i : ℕ) → i < length s → levelOf (getD s i 0) < m → span (reaches m) (drop i s) ≡ 0
+ran-out m s i h l = span-stop (reaches m) s i h (lt-leb m (levelOf (getD s i 0)) l)
+
+pub ran-end : (m : ℕ) (s : List ℕ) (i j : ℕ) → Ran m s i j → span (reaches m) (drop j s) ≡ 0 → j ≡ i + span (reaches m) (drop i s)
+ran-end m s i j a e = omega (arith, a .rest, e)
+
+pub ran-whole : (m : ℕ) (s : List ℕ) (i j k : ℕ) → Ran m s i j → k ≡ j + span (reaches m) (drop j s) → k ≡ i + span (reaches m) (drop i s)
+ran-whole m s i j k a e = e ∙ a .rest
 
 -- sixteen bytes, compared at once: n of j are of level m, and they are passed where n is j
 pub record Counted (m : ℕ) (s : List ℕ) (at j n : ℕ) : Type 0 where

@@ -4,8 +4,9 @@ use crate::table::Levels;
 ghost use mathlib.Core.Path.{_≡_};
 ghost use mathlib.Core.Logic.{_≢_};
 ghost use Prim.Native.Nat.{_+_, _≤_, _<_};
-ghost use lib.ListN.{length};
-ghost use Rattle.value_levels.specs.mirror.Levels.{turn, block, levelOf, Leveled, Ran};
+ghost use lib.ListN.{length, drop};
+ghost use Rattle.text.specs.Lists.{span};
+ghost use Rattle.value_levels.specs.mirror.Levels.{turn, block, levelOf, reaches, Leveled, Ran};
 
 // The bytes of a text that stand for themselves, but for `>`.
 pub const TEXT: u8 = 1;
@@ -40,7 +41,8 @@ fn wide(x: u8) -> usize
 // How many of the four bytes at a place are of a level or above it, one after the other. The compiler makes four tests of the loop.
 fn four(levels: &Levels, s: &[u8], at: usize, least: u8) -> usize
     requires { ⌜ at + turn ≤ length (now s) ⌝ }
-    ensures { λ r. ⌜ (r ≤ turn) × (Leveled (now (levels .entry)) → Ran least (now (s .entry)) at (at + r)) ⌝ }
+    ensures { λ r. ⌜ (r ≤ turn) × (Leveled (now (levels .entry)) → Ran least (now (s .entry)) at (at + r))
+        × (Leveled (now (levels .entry)) → r ≢ turn → span (reaches least) (drop (at + r) (now (s .entry))) ≡ 0) ⌝ }
 {
     let mut j: usize = 0;
     while j < TURN {
@@ -52,12 +54,28 @@ fn four(levels: &Levels, s: &[u8], at: usize, least: u8) -> usize
     j
 }
 
-// Over bytes of a level or above it, four a turn. It may stop early near the end of the bytes, where no text of a good file ends.
+// Over bytes of a level or above it, one a turn: near the end of the bytes, where no text of a good file ends.
+fn last_run(levels: &Levels, s: &[u8], at: usize, least: u8) -> usize
+    ensures { λ r. ⌜ (at ≤ r) × (Leveled (now (levels .entry)) → Ran least (now (s .entry)) at r)
+        × (Leveled (now (levels .entry)) → r ≡ at + span (reaches least) (drop at (now (s .entry)))) ⌝ }
+{
+    let mut i = at;
+    while i < s.len() {
+        if levels[wide(s[i])] < least {
+            return i;
+        }
+        i += 1;
+    }
+    i
+}
+
+// The same, four a turn where so many are left.
 pub fn run(levels: &Levels, s: &[u8], at: usize, least: u8) -> usize
-    ensures { λ r. ⌜ (at ≤ r) × (Leveled (now (levels .entry)) → Ran least (now (s .entry)) at r) ⌝ }
+    ensures { λ r. ⌜ (at ≤ r) × (Leveled (now (levels .entry)) → Ran least (now (s .entry)) at r)
+        × (Leveled (now (levels .entry)) → r ≡ at + span (reaches least) (drop at (now (s .entry)))) ⌝ }
 {
     if s.len() < TURN {
-        return at;
+        return last_run(levels, s, at, least);
     }
     let last = s.len() - SHORT_TURN;
     let mut i = at;
@@ -68,7 +86,7 @@ pub fn run(levels: &Levels, s: &[u8], at: usize, least: u8) -> usize
         }
         i += TURN;
     }
-    i
+    last_run(levels, s, i, least)
 }
 
 // 1 of a byte of TEXT, else 0. No look-up and nothing to jump by, so that the compiler does sixteen of them at once.
@@ -94,7 +112,8 @@ fn quiets(s: &[u8], at: usize) -> u8
 
 // As `run` of TEXT, sixteen bytes a turn.
 pub fn long_run(levels: &Levels, s: &[u8], at: usize) -> usize
-    ensures { λ r. ⌜ (at ≤ r) × (Leveled (now (levels .entry)) → Ran 1 (now (s .entry)) at r) ⌝ }
+    ensures { λ r. ⌜ (at ≤ r) × (Leveled (now (levels .entry)) → Ran 1 (now (s .entry)) at r)
+        × (Leveled (now (levels .entry)) → r ≡ at + span (reaches 1) (drop at (now (s .entry)))) ⌝ }
 {
     if s.len() < BLOCK {
         return run(levels, s, at, TEXT);

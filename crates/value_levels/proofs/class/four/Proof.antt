@@ -3,7 +3,7 @@ use Prim.Native.Nat.{_+_, _-_, _≤_}
 use native.Mathlib.Omega.{arith}
 use borrow.Author.Needs.{needs}
 use Rattle.value_levels.specs.mirror.Levels.{Leveled, Ran}
-use Rattle.value_levels.proofs.Levels.{ran-start, ran-more, looked}
+use Rattle.value_levels.proofs.Levels.{ran-start, ran-more, ran-out, looked, looked-below}
 use Rattle.value_levels.proofs.class.four.Statement.{statement}
 use Rattle.value_levels.proofs.class.four.Tie as tie
 
@@ -30,8 +30,14 @@ element-copy-out-if1 c = search needs
 
 returns : tie.Need-returns Inv-loop μ-loop
 returns c =
-    let at-loop-test = c .before .before .before .before in
-    (omega (arith, at-loop-test .loop-test .taken), at-loop-test .before .loop .inv .1)
+    let at-wide = c .before .before in
+    let at-loop-test = at-wide .before .before in
+    let at-loop = at-loop-test .before in
+    let start = at-loop .before .before in (
+      omega (arith, at-loop-test .loop-test .taken),
+      at-loop .loop .inv .1,
+      λ l n. ran-out (start .args .least) (start .args .s .now) (start .args .at + at-loop .loop .j) (omega (arith, start .pre, at-loop-test .loop-test .taken)) (looked-below _ l _ _ _ (at-wide .wide .ensures .0) (c .if1 .taken)),
+    )
 
 add-j : tie.Need-add-j Inv-loop μ-loop
 add-j c = search needs
@@ -48,7 +54,8 @@ loop-again c =
     (omega (arith, at-loop-test .loop-test .taken), λ l. ran-more (start .args .least) _ _ _ (at-loop .loop .inv .1 l) (omega (arith, start .pre, at-loop-test .loop-test .taken)) (looked _ l _ _ _ (at-wide .wide .ensures .0) (c .if1 .left)))
 
 returns-2 : tie.Need-returns-2 Inv-loop μ-loop
-returns-2 c = (omega (arith, c .before .loop .inv .0), c .before .loop .inv .1)
+returns-2 c =
+    (omega (arith, c .before .loop .inv .0), c .before .loop .inv .1, λ l n. absurd (n (omega (arith, c .before .loop .inv .0, c .loop-test .left))))
 
 pub four-spec : {M : Type 1} → statement M
 four-spec =

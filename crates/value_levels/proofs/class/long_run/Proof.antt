@@ -5,7 +5,7 @@ use native.Mathlib.Omega.{arith}
 use lib.ListN.{length}
 use borrow.Author.Needs.{needs}
 use Rattle.value_levels.specs.mirror.Levels.{Leveled, Ran}
-use Rattle.value_levels.proofs.Levels.{ran-none, ran-then}
+use Rattle.value_levels.proofs.Levels.{ran-none, ran-then, ran-whole}
 use Rattle.value_levels.proofs.class.long_run.Statement.{statement}
 use Rattle.value_levels.proofs.class.long_run.Tie as tie
 
@@ -34,7 +34,12 @@ run-requires-2 : tie.Need-run-requires-2 Inv-loop μ-loop
 run-requires-2 c κs = search needs
 
 returns-2 : tie.Need-returns-2 Inv-loop μ-loop
-returns-2 c = (omega (arith, c .before .before .before .before .loop .inv .1, c .run2 .ensures .0), λ l. ran-then _ _ _ _ _ (c .before .before .before .before .loop .inv .2 l) (c .run2 .ensures .1 l))
+returns-2 c =
+    let at-loop = c .before .before .before .before in (
+      omega (arith, at-loop .loop .inv .1, c .run2 .ensures .0),
+      λ l. ran-then _ _ _ _ _ (at-loop .loop .inv .2 l) (c .run2 .ensures .1 l),
+      λ l. ran-whole 1 _ _ _ _ (at-loop .loop .inv .2 l) (c .run2 .ensures .2 l),
+    )
 
 add-i : tie.Need-add-i Inv-loop μ-loop
 add-i c = search needs
@@ -49,7 +54,12 @@ run-requires-3 : tie.Need-run-requires-3 Inv-loop μ-loop
 run-requires-3 c κs = search needs
 
 returns-3 : tie.Need-returns-3 Inv-loop μ-loop
-returns-3 c = (omega (arith, c .before .before .loop .inv .1, c .run3 .ensures .0), λ l. ran-then _ _ _ _ _ (c .before .before .loop .inv .2 l) (c .run3 .ensures .1 l))
+returns-3 c =
+    let at-loop = c .before .before in (
+      omega (arith, at-loop .loop .inv .1, c .run3 .ensures .0),
+      λ l. ran-then _ _ _ _ _ (at-loop .loop .inv .2 l) (c .run3 .ensures .1 l),
+      λ l. ran-whole 1 _ _ _ _ (at-loop .loop .inv .2 l) (c .run3 .ensures .2 l),
+    )
 
 pub long-run-spec : {M : Type 1} → statement M
 long-run-spec =
