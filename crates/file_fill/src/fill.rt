@@ -24,7 +24,7 @@ ghost use lib.ListN.{length, drop};
 ghost use Rattle.text.specs.Bytes.{isBlank};
 ghost use Rattle.text.specs.Lists.{span};
 ghost use Rattle.value.specs.Judged.{Exactly};
-ghost use Rattle.file_nodes.specs.mirror.Fields.{width, info, far};
+ghost use Rattle.file_nodes.specs.mirror.Fields.{width, info, tooFar};
 ghost use Rattle.file_lane.specs.mirror.Turn.{Matches};
 ghost use Rattle.file_fill.specs.mirror.Fills.{StandsAt, Meets, TurnAsked, Went, Fillable, Fills};
 
@@ -49,7 +49,7 @@ fn is_tag(nodes: &[u64], n: usize, x: u64, y: u64) -> bool
 
 // The node whose tag stands at a place, from a node on: one of them does.
 fn seek(nodes: &[u64], from: usize, s: &[u8], at: usize) -> usize
-    requires { ⌜ ((bs : List ℕ) × StandsAt (now nodes) (now s) from at bs) × (span isBlank (drop at (now s)) ≡ 0) × (at ≤ far) ⌝ }
+    requires { ⌜ ((bs : List ℕ) × StandsAt (now nodes) (now s) from at bs) × (span isBlank (drop at (now s)) ≡ 0) × (at ≤ tooFar) ⌝ }
     ensures { λ r. ⌜ ((bs : List ℕ) → StandsAt (now (nodes .entry)) (now (s .entry)) from at bs → Meets (now (nodes .entry)) (now (s .entry)) r at bs) ⌝ }
 {
     if nodes[WIDTH * from + INFO] / OTHER % 256 == 0 {

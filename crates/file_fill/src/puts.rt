@@ -15,6 +15,7 @@ use value::judged::Judged;
 use value_dates::day::day;
 use value_dates_stored::to_bytes::write_day;
 use value_kinds::write::write;
+use value_leaf::slow::text_end;
 use value_shared::place::place;
 ghost use mathlib.Core.Path.{_≡_};
 ghost use mathlib.Core.Bool.{true};
@@ -23,8 +24,7 @@ ghost use lib.ListN.{length, drop};
 ghost use Rattle.text.specs.Lists.{span};
 ghost use Rattle.list.specs.Listing.{date};
 ghost use Rattle.value.specs.Kind.{code};
-ghost use Rattle.value_leaf.specs.Leafed.{isInside};
-ghost use Rattle.file_nodes.specs.mirror.Fields.{width, letters, far};
+ghost use Rattle.file_nodes.specs.mirror.Fields.{width, letters, tooFar};
 ghost use Rattle.text.specs.Little.{Loaded};
 ghost use Rattle.file_fill.specs.mirror.Copying.{isPlain, block, Over, TextAsked, TextLaid};
 ghost use Rattle.file_fill.specs.mirror.Fills.{wordIn, LeafAsked, LeafLaid, OtherLaid};
@@ -120,23 +120,9 @@ pub(crate) fn put_text(s: &[u8], at: usize, out: &mut [u8], to: usize) -> Put
     }
 }
 
-// The end of a text that goes on from a place: the next `<`.
-fn text_end(s: &[u8], at: usize) -> usize
-    ensures { λ r. ⌜ r ≡ at + span isInside (drop at (now (s .entry))) ⌝ }
-{
-    let mut i = at;
-    while i < s.len() {
-        if s[i] == b'<' {
-            return i;
-        }
-        i += 1;
-    }
-    i
-}
-
 // What is no text, by its checker: the currency of an amount goes from c on.
 fn put_other(kind: u8, s: &[u8], c: usize, at: usize, out: &mut [u8], to: usize) -> Put
-    requires { ⌜ (c ≤ far) × (to ≤ length (now out)) ⌝ }
+    requires { ⌜ (c ≤ tooFar) × (to ≤ length (now out)) ⌝ }
     ensures { λ r. ⌜ OtherLaid kind (now (s .entry)) c at (now (out .entry)) to (r .at) (r .end) (now (out .exit)) ⌝ }
 {
     let end = text_end(s, at);
@@ -153,7 +139,7 @@ const DAY_AND_END: usize = DAY + 1;
 
 // A day, mostly ten bytes and then `<`.
 fn put_day(s: &[u8], at: usize, out: &mut [u8], to: usize) -> Put
-    requires { ⌜ (at ≤ far) × (to ≤ length (now out)) ⌝ }
+    requires { ⌜ (at ≤ tooFar) × (to ≤ length (now out)) ⌝ }
     ensures { λ r. ⌜ OtherLaid (code date) (now (s .entry)) at at (now (out .entry)) to (r .at) (r .end) (now (out .exit)) ⌝ }
 {
     if s.len() < at + DAY_AND_END {
@@ -179,7 +165,7 @@ const FOURTH: u8 = 4;
 
 // The place of a word of four letters among those of a node.
 fn word(nodes: &[u64], k: usize, s: &[u8], at: usize) -> u8
-    requires { ⌜ (k + width ≤ length (now nodes)) × (at ≤ far) ⌝ }
+    requires { ⌜ (k + width ≤ length (now nodes)) × (at ≤ tooFar) ⌝ }
     ensures { λ r. ⌜ ((x : ℕ) × Loaded letters (now (s .entry)) at x × (r ≡ wordIn (now (nodes .entry)) k x)) ⌝ }
 {
     let x = four(s, at);

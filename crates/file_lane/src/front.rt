@@ -10,7 +10,7 @@ ghost use mathlib.Core.Logic.{_≢_};
 ghost use Prim.Native.Nat.{_+_, _≤_};
 ghost use lib.ListN.{length, drop};
 ghost use Rattle.answer.specs.Table.{limit};
-ghost use Rattle.file_nodes.specs.mirror.Fields.{far};
+ghost use Rattle.file_nodes.specs.mirror.Fields.{tooFar};
 ghost use Rattle.file_nodes.specs.mirror.Clear.{Clear};
 ghost use Rattle.file_lane.specs.mirror.Front.{longestWord, Fronted, Spaced, Cleared, Quotes, Hinted, Rooted};
 
@@ -29,7 +29,7 @@ pub(crate) fn root_at(s: &[u8]) -> usize
 
 // The place after a word and another, 0 where they do not stand at a place.
 fn after(s: &[u8], at: usize, word: &[u8], next: &[u8]) -> usize
-    requires { ⌜ at + length (now word) + length (now next) ≤ far ⌝ }
+    requires { ⌜ at + length (now word) + length (now next) ≤ tooFar ⌝ }
     ensures { λ r. ⌜ (r ≢ 0 → drop at (now (s .entry)) ≡ now (word .entry) ++ (now (next .entry) ++ drop r (now (s .entry)))) × (r ≤ at + length (now (word .entry)) + length (now (next .entry))) ⌝ }
 {
     if !begins(s, at, word) {
@@ -48,7 +48,7 @@ const BEFORE_SPACE: usize = 17;
 // The place after the closing quote of the root's namespace, 0 where it is not this one.
 fn space_end(s: &[u8], less: usize, space: &[u8]) -> usize
     requires { ⌜ (less ≤ limit) × (length (now space) ≤ longestWord) ⌝ }
-    ensures { λ r. ⌜ (r ≢ 0 → Spaced (now (space .entry)) (now (s .entry)) less r) × (r ≤ far) ⌝ }
+    ensures { λ r. ⌜ (r ≢ 0 → Spaced (now (space .entry)) (now (s .entry)) less r) × (r ≤ tooFar) ⌝ }
 {
     if begins(s, less, b"<Document xmlns=\"") {
         return after(s, less + BEFORE_SPACE, space, b"\"");

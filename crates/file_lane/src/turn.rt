@@ -33,7 +33,7 @@ ghost use Rattle.list.specs.Listing.{amt};
 ghost use Rattle.xml.specs.House.{singleQuote, double, mark};
 ghost use Rattle.value.specs.Kind.{code};
 ghost use Rattle.value_levels.specs.mirror.Levels.{Leveled};
-ghost use Rattle.file_nodes.specs.mirror.Fields.{width, coinedLong, single, ending, far};
+ghost use Rattle.file_nodes.specs.mirror.Fields.{width, coinedLong, single, ending, tooFar};
 ghost use Rattle.file_nodes.specs.mirror.Kept.{In};
 ghost use Rattle.file_lane.specs.mirror.Turn.{longestItem, fieldsAt, Closed, Listed, Coined, Goes, Turns};
 
@@ -45,7 +45,7 @@ pub(crate) struct Past {
 
 // Whether four letters at a place are one of the words of a node.
 fn listed(nodes: &[u64], k: usize, s: &[u8], at: usize) -> bool
-    requires { ⌜ (k + width ≤ length (now nodes)) × (at ≤ far) ⌝ }
+    requires { ⌜ (k + width ≤ length (now nodes)) × (at ≤ tooFar) ⌝ }
     ensures { λ r. ⌜ (r ≡ true → Listed (now (nodes .entry)) k (now (s .entry)) at) ⌝ }
 {
     let x = four(s, at);
@@ -59,7 +59,7 @@ const GREATER: usize = CURRENCY + 1;
 
 // Whether three capitals, this quote and `>` stand at a place.
 fn coined(s: &[u8], at: usize, q: u8) -> bool
-    requires { ⌜ at ≤ far ⌝ }
+    requires { ⌜ at ≤ tooFar ⌝ }
     ensures { λ r. ⌜ (r ≡ true → Coined q (now (s .entry)) at) ⌝ }
 {
     if s.len() < at + COINED {
@@ -111,7 +111,7 @@ fn skip(kind: u8) -> usize
 
 // Whether an amount does not go on with its currency.
 fn is_bare(s: &[u8], at: usize, kind: u8) -> bool
-    requires { ⌜ at ≤ far ⌝ }
+    requires { ⌜ at ≤ tooFar ⌝ }
     ensures { λ r. ⌜ (r ≡ false → (kind ≡ code amt → Coined (mark double) (now (s .entry)) at) × (kind ≡ single → Coined (mark singleQuote) (now (s .entry)) at)) ⌝ }
 {
     if kind == AMT {
@@ -127,7 +127,7 @@ fn is_bare(s: &[u8], at: usize, kind: u8) -> bool
 // nothing is told, and how many bytes of the image the tag has with it. `leaf` is asked at one place, so that the compiler has it in the loop.
 fn told(levels: &Levels, nodes: &[u64], k: usize, info: u64, kind: u8, s: &[u8], at: usize) -> Found
     requires { ⌜ Leveled (now levels) × (k + width ≤ length (now nodes)) × (info ≡ fieldsAt (now nodes) k) × (kind ≡ info / 256 % 256) × (at ≤ limit) × (length (now s) ≤ limit) × (kind ≢ 0) × (kind ≢ ending) ⌝ }
-    ensures { λ r. ⌜ (r .end ≢ 0 → Goes (now (nodes .entry)) k info (now (s .entry)) at (r .end) (r .size)) × (r .size ≤ longestItem) × (r .end ≤ far) ⌝ }
+    ensures { λ r. ⌜ (r .end ≢ 0 → Goes (now (nodes .entry)) k info (now (s .entry)) at (r .end) (r .size)) × (r .size ≤ longestItem) × (r .end ≤ tooFar) ⌝ }
 {
     let from = at + (info % 256) as usize;
     if kind == LONG {
@@ -167,7 +167,7 @@ fn told(levels: &Levels, nodes: &[u64], k: usize, info: u64, kind: u8, s: &[u8],
 
 // The rest of a tag, or a leaf's closing tag, at a place.
 fn closed(nodes: &[u64], k: usize, info: u64, s: &[u8], end: usize, size: usize) -> Past
-    requires { ⌜ (k + width ≤ length (now nodes)) × (end ≤ far) ⌝ }
+    requires { ⌜ (k + width ≤ length (now nodes)) × (end ≤ tooFar) ⌝ }
     ensures { λ r. ⌜ (r .at ≢ 0 → Closed (now (nodes .entry)) k info (now (s .entry)) end (r .at) × (r .size ≡ size)) × (r .size ≤ size) ⌝ }
 {
     if !is_tag(nodes, k + END, eight(s, end), eight_after(s, end)) {

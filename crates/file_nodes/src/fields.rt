@@ -35,9 +35,6 @@ pub const UPPER: u64 = 4294967296;
 
 pub const LETTERS: usize = 4;
 
-// Of a tag the bytes that are compared at once.
-pub const CHUNK: usize = 16;
-
 // The letters of a currency; with its closing quote and `>`, what stands between a node's bytes and an amount.
 pub const CURRENCY: usize = 3;
 

@@ -9,10 +9,11 @@ use lib.Dec.{ltb, eqb}
 use lib.ListN.{length, getD, take, drop}
 use lib.Seq.{drop-cons}
 use borrow.Author.Tests.{lt-ltb, le-ltb, ltb-false, eq-eqb, ne-eqb}
+use Rattle.text.specs.Little.{little}
 use Rattle.answer.specs.Table.{limit}
 use Rattle.program_feed.specs.declared.case.Case.{Case}
 use Rattle.program_feed.specs.declared.case.Case.the-variants.{Check, Read, Pick, Write, Count, Tidy, Broken}
-use Rattle.program_feed.specs.Cases.{little, numberAt, longest, opBy, caseBy, caseOf, sizeOf, caseIn}
+use Rattle.program_feed.specs.Cases.{numberAt, longest, opBy, caseBy, caseOf, sizeOf, caseIn}
 
 -- ---- four bytes
 

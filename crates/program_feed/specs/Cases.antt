@@ -1,17 +1,13 @@
 -- A case's head: "one byte op (0 check, 1 read, 2 pick, 3 write, 6 count, 8 tidy), then three 32-bit little-endian numbers". Assumes nothing.
 use mathlib.Core.Bool.{Bool, true, false, cond}
-use mathlib.Core.List.{List, [], _∷_}
-use Prim.Native.Nat.{ℕ, _+_, _*_, min}
+use mathlib.Core.List.{List}
+use Prim.Native.Nat.{ℕ, _+_, min}
 use lib.Dec.{ltb, eqb}
 use lib.ListN.{length, getD, take, drop}
+use Rattle.text.specs.Little.{little}
 use Rattle.answer.specs.Table.{limit}
 use Rattle.program_feed.specs.declared.case.Case.{Case}
 use Rattle.program_feed.specs.declared.case.Case.the-variants.{Check, Read, Pick, Write, Count, Tidy, Broken}
-
--- the number that bytes write, the least significant first
-unfoldable pub little : List ℕ → ℕ
-little [] = 0
-little (x ∷ xs) = x + 256 * little xs
 
 -- the one of 32 bits at a place
 abbrev pub numberAt : ℕ → List ℕ → ℕ

@@ -5,8 +5,9 @@ use text::width::WIDTH_32;
 ghost use mathlib.Core.Path.{_≡_};
 ghost use Prim.Native.Nat.{_+_, _≤_, _<_, _^_, min};
 ghost use lib.ListN.{length, getD, take, drop};
+ghost use Rattle.text.specs.Little.{little};
 ghost use Rattle.answer.specs.Table.{limit};
-ghost use Rattle.program_feed.specs.Cases.{little, numberAt, opBy, caseOf, sizeOf, caseIn, goesOn, headSize, secondAt};
+ghost use Rattle.program_feed.specs.Cases.{numberAt, opBy, caseOf, sizeOf, caseIn, goesOn, headSize, secondAt};
 
 pub enum Case {
     // A file of `size` bytes, for a buffer of `room`.

@@ -15,7 +15,7 @@ ghost use Rattle.value.specs.Kind.{code};
 ghost use Rattle.value_leaf.specs.Leafed.{isInside, Leafed, CutTold};
 
 // Where the text that goes on from a place ends: at the next `<`, or with the file.
-fn text_end(s: &[u8], at: usize) -> usize
+pub fn text_end(s: &[u8], at: usize) -> usize
     ensures { λ r. ⌜ r ≡ at + span isInside (drop at (now (s .entry))) ⌝ }
 {
     let mut i = at;

@@ -76,6 +76,6 @@ single = 12
 abbrev pub ending : ℕ
 ending = 13
 
--- no place is as far, so that none is added to beyond what a number holds
-abbrev pub far : ℕ
-far = 10000000
+-- no place that a pass meets is so far, so that none is added to beyond what a number holds
+abbrev pub tooFar : ℕ
+tooFar = 10000000
