@@ -9,7 +9,6 @@ use Rattle.answer.specs.declared.Answer.{Answer}
 use Rattle.answer.specs.Table.{accepted, noRoom}
 use Rattle.text.specs.Pasting.{pasted}
 use Rattle.text.proofs.Pasting.{pasted-yes}
-use Rattle.text.proofs.Puts.{puts-pasted, puts-as}
 use Rattle.list.specs.Listing.{Listing}
 use Rattle.list.specs.Within.{Among}
 use Rattle.list.specs.tables.Table.{listOf}
@@ -19,8 +18,6 @@ use Rattle.list_house.specs.mirror.HouseTable.{housePool}
 use Rattle.list_house.specs.mirror.Rows.{askedRows}
 use Rattle.list_house.proofs.Lists.{asked-well}
 use Rattle.value.specs.Value.{Value}
-use Rattle.image.specs.Image.{header}
-use Rattle.image.proofs.answers.Heads.{header-bytes}
 use Rattle.file.specs.Instance.{houseKinds}
 use Rattle.file.specs.File.{File, imageOf}
 use Rattle.file.specs.Checks.{Answers, Checks, Filed, Finds, long, badBytes, markup, violation, room, imaged}
@@ -30,14 +27,7 @@ use Rattle.file_measure.specs.declared.Finding.{Finding}
 use Rattle.file_measure.specs.Measured.{Faultless}
 use Rattle.file_measure.specs.Measures.{Measures, measured, faulty}
 use Rattle.file_measure.proofs.Finds.{list-is, ready}
-use Rattle.file_check.specs.Fill.{HeadPut, Fillable, FilledIn}
-
--- the first bytes of an image, written at the start of a buffer
-pub head-put : (n : ℕ) (d d′ : List ℕ) → d′ ≡ pasted d 0 (75 ∷ 84 ∷ 79 ∷ 0 ∷ 2 ∷ n ∷ 1 ∷ []) → HeadPut n d 7 d′
-head-put n d d′ e l b =
-    puts-as d 0 (75 ∷ 84 ∷ 79 ∷ 0 ∷ 2 ∷ n ∷ 1 ∷ []) (header l ++ (1 ∷ [])) 7 d′
-    (sym (ap (λ (h : List ℕ). h ++ (1 ∷ [])) (header-bytes l) ∙ ap (λ (z : ℕ). 75 ∷ 84 ∷ 79 ∷ 0 ∷ 2 ∷ z ∷ 1 ∷ []) b))
-    (puts-pasted d 0 (75 ∷ 84 ∷ 79 ∷ 0 ∷ 2 ∷ n ∷ 1 ∷ []) 7 d′ refl e)
+use Rattle.file_check.specs.Fill.{Fillable, FilledIn}
 
 -- a list written at the start of a buffer that it fits in
 start-pasted : (d vs : List ℕ) → length vs ≤ length d → pasted d 0 vs ≡ vs ++ drop (length vs) d

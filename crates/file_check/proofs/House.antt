@@ -28,7 +28,8 @@ use Rattle.file.specs.Instance.{houseKinds}
 use Rattle.file.proofs.answers.House.{spelling}
 use Rattle.file_check.specs.declared.fill.Spot.{Spot}
 use Rattle.file_measure.specs.Pass.{Shuts}
-use Rattle.file_check.specs.Fill.{HeadPut, spotAt, Comes, Fillable, FilledIn}
+use Rattle.image_head.specs.Head.{HeadPut}
+use Rattle.file_check.specs.Fill.{spotAt, Comes, Fillable, FilledIn}
 use Rattle.file_measure.proofs.Coin.{coins}
 use Rattle.file_measure.proofs.End.{filled-of}
 use Rattle.file_measure.proofs.House.{houseComputed}

@@ -2,27 +2,21 @@
 use mathlib.Core.Path.{_≡_}
 use mathlib.Core.Bool.{cond}
 use mathlib.Core.Logic.{_⊎_}
-use mathlib.Core.List.{List, [], _∷_, _++_}
+use mathlib.Core.List.{List}
 use Prim.Native.Nat.{ℕ, _≤_}
 use lib.Dec.{eqb}
 use lib.ListN.{length}
 use Rattle.text.specs.Pasting.{pasted}
-use Rattle.text.specs.Puts.{Puts}
 use Rattle.list.specs.Listing.{Listing, size, Child, child}
 use Rattle.list.specs.Content.{Content}
 use Rattle.list.specs.tables.Columns.{CHILD}
 use Rattle.list.specs.tables.Table.{cell, listOf}
 use Rattle.list.specs.tables.Sound.{Sound}
-use Rattle.image.specs.Image.{header}
 use Rattle.file.specs.Instance.{Kinds}
 use Rattle.file.specs.File.{imageOf}
 use Rattle.file_measure.specs.Measured.{Faultless, Message}
 use Rattle.file_measure.specs.Pass.{Ready}
 use Rattle.file_check.specs.declared.fill.Spot.{Spot}
-
--- the header of an image of a list with this kind byte, and the root's row byte, at the start of a buffer
-abbrev pub HeadPut : ℕ → List ℕ → ℕ → List ℕ → Type 0
-HeadPut n d r d′ = (l : Listing) → l .byte ≡ n → Puts d 0 (header l ++ (1 ∷ [])) r d′
 
 -- where the pass stands that writes
 abbrev pub spotAt : ℕ → ℕ → ℕ → Spot

@@ -1,6 +1,7 @@
 // The image of a message that is known to have no violation. No tag is tested again: a name says its row, and the table which row is around. Values are judged once more, by the writer.
 
 use file_root::begin::begin;
+use image_head::put_head;
 use list::kind::is_group;
 use list::lookup::cell;
 use list::lookup::is_name;
@@ -12,7 +13,6 @@ use list::table::PARENT;
 use list::table::SIBLING;
 use list::word::word_byte;
 use text::span::blanks_end;
-use text_bytes::number::copy;
 use value_kinds::write::write;
 use value_shared::place::place;
 use xml_skim::close_end;
@@ -29,18 +29,9 @@ ghost use Rattle.list.specs.tables.Table.{cell, wordsIn, listOf};
 ghost use Rattle.list.specs.tables.Numbers.{isGroupIn};
 ghost use Rattle.file.specs.Instance.{houseKinds};
 ghost use Rattle.file_measure.specs.Pass.{Worded, Valued, Shuts};
-ghost use Rattle.file_check.specs.Fill.{HeadPut, spotAt, roundIn, Comes, Fillable, FilledIn};
+ghost use Rattle.file_check.specs.Fill.{spotAt, roundIn, Comes, Fillable, FilledIn};
 ghost use Rattle.list.specs.tables.Columns.{KIND, DTM};
 ghost use Rattle.text.specs.Puts.{near};
-
-// `KTO`, version 2 in 16 bits, the kind byte, and the root's row byte.
-fn put_head(out: &mut [u8], kind: u8) -> usize
-    ensures { λ r. ⌜ HeadPut kind (now (out .entry)) r (now (out .exit)) ⌝ }
-{
-    let head = [b'K', b'T', b'O', 0, 2, kind, 1];
-    copy(&head, 0, head.len(), out, 0);
-    head.len()
-}
 
 // The place of an ENUM's word in its row's list, as one byte: how many bytes there are, 0 where it is no word of the list.
 fn put_word(

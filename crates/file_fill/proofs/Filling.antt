@@ -25,6 +25,7 @@ use Rattle.file_nodes.specs.Fitting.{coined, given}
 use Rattle.text.specs.Little.{Loaded}
 use Rattle.file_nodes.specs.mirror.Kept.{leafNumber, number, after, item, Plain, Kept, In}
 use Rattle.file_lane.specs.mirror.Turn.{Matches, otherIn}
+use Rattle.image_head.specs.Head.{headOf}
 use Rattle.file_fill.specs.mirror.Fills.{infoIn, kindIn, nextIn, Placed, Ways, StandsAt, Meets, LeafAt, LeafAsked, LeafLaid, TurnAsked, Went, Fillable, Fills}
 use Rattle.file_nodes.proofs.Inverting.{Tagged, no-blank, unblanked, passed, Met, ended, closed, opened, told, met}
 use Rattle.file_lane.proofs.Going.{after-blanks}
@@ -320,9 +321,6 @@ went-within t s n i d to bs r e d′ w = let x = w .stands in omega (arith, run-
 
 -- ---- the loop
 
-abbrev headOf : ℕ → List ℕ
-headOf kind = 75 ∷ 84 ∷ 79 ∷ 0 ∷ 2 ∷ kind ∷ 1 ∷ []
-
 -- of the run's bytes bs what is done stands in d, after the head, and what is left comes from node n and place i on
 pub record Filled (t s d₁ bs d : List ℕ) (n i to : ℕ) : Type 0 where
   pub done : List ℕ
@@ -334,8 +332,9 @@ pub record Filled (t s d₁ bs d : List ℕ) (n i to : ℕ) : Type 0 where
 pub record Filling (t s : List ℕ) (from : ℕ) (d₁ d : List ℕ) (n i to : ℕ) : Type 0 where
   pub go : (bs : List ℕ) → StandsAt t s 1 from bs → Filled t s d₁ bs d n i to
 
-pub fill-start : (t s : List ℕ) (from : ℕ) (d₁ : List ℕ) → Filling t s from d₁ d₁ 1 from 7
-fill-start t s from d₁ = record { go = λ bs w. record { done = []; left = bs; split = refl; puts = puts-none d₁ 7; stands = w } }
+pub fill-start : (t s : List ℕ) (from : ℕ) (d₁ : List ℕ) (to : ℕ) → to ≡ 7 → Filling t s from d₁ d₁ 1 from to
+fill-start t s from d₁ to e =
+    subst (λ (m : ℕ). Filling t s from d₁ d₁ 1 from m) (sym e) (record { go = λ bs w. record { done = []; left = bs; split = refl; puts = puts-none d₁ 7; stands = w } })
 
 module _ (t s : List ℕ) (from kind : ℕ) (d₀ d₁ : List ℕ) (pre : Fillable t s from d₀) (hd : d₁ ≡ pasted d₀ 0 (headOf kind)) (d : List ℕ) (n i to : ℕ) (inv : Filling t s from d₁ d n i to) (j : ℕ) (ej : j ≡ i + span isBlank (drop i s)) where
   mine : Filled t s d₁ (pre .bytes) d n i to

@@ -14,8 +14,8 @@ use file_nodes::fields::OVER;
 use file_nodes::fields::ROW;
 use file_nodes::fields::SECOND_MASK;
 use file_nodes::fields::WIDTH;
+use image_head::put_head;
 use text::span::blanks_end;
-use text_bytes::number::copy;
 use value_shared::place::place;
 ghost use mathlib.Core.Path.{_≡_};
 ghost use mathlib.Core.List.{List};
@@ -94,17 +94,12 @@ fn put(nodes: &[u64], n: usize, s: &[u8], at: usize, out: &mut [u8], to: usize) 
     }
 }
 
-// The header and the root's row byte.
-const HEAD: usize = 7;
-
 // Into a buffer that has room for it.
 pub(crate) fn fill(nodes: &[u64], s: &[u8], from: usize, kind: u8, out: &mut [u8])
     requires { ⌜ Fillable (now nodes) (now s) from (now out) ⌝ }
     ensures { λ _. ⌜ Fills (now (nodes .entry)) (now (s .entry)) from kind (now (out .entry)) (now (out .exit)) ⌝ }
 {
-    let head = [b'K', b'T', b'O', 0, 2, kind, 1];
-    copy(&head, 0, HEAD, out, 0);
-    let mut to = HEAD;
+    let mut to = put_head(out, kind);
     let mut at = from;
     let mut n: usize = 1;
     loop {

@@ -5,7 +5,6 @@ use mathlib.Core.Logic.{_≢_}
 use mathlib.Core.List.{List, [], _∷_, _++_}
 use mathlib.Core.Option.{Option, none}
 use Prim.Native.Nat.{ℕ, _+_, _*_, _/_, _%_, _≤_, _<_}
-use Prim.Native.Char.{code}
 use lib.Dec.{eqb}
 use lib.ListN.{length, getD, drop}
 use lib.Seq.{slice}
@@ -26,6 +25,7 @@ use Rattle.file_nodes.specs.Fitting.{coined, given}
 use Rattle.text.specs.Little.{little}
 use Rattle.file_nodes.specs.mirror.Fields.{width, info, wordsAt, moreWords, nextField, upper, letters, chunk, coinLong, ending}
 use Rattle.file_nodes.specs.mirror.Kept.{leafNumber, In, Tabled}
+use Rattle.image_head.specs.Head.{headOf}
 use Rattle.file_lane.specs.Seen.{headSize}
 
 -- the number of a node's parts, its kind, the node after it
@@ -137,4 +137,4 @@ pub record Fillable (t s : List ℕ) (from : ℕ) (d : List ℕ) : Type 0 where
 
 -- the header of an image of a list with this kind byte, the root's row byte and the run's bytes, at the start of a buffer
 abbrev pub Fills : List ℕ → List ℕ → ℕ → ℕ → List ℕ → List ℕ → Type 0
-Fills t s from kind d d′ = (bs : List ℕ) → StandsAt t s 1 from bs → Puts d 0 (code "K" ∷ code "T" ∷ code "O" ∷ 0 ∷ 2 ∷ kind ∷ 1 ∷ bs) (headSize + length bs) d′
+Fills t s from kind d d′ = (bs : List ℕ) → StandsAt t s 1 from bs → Puts d 0 (headOf kind ++ bs) (headSize + length bs) d′

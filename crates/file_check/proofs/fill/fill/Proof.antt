@@ -63,7 +63,7 @@ put-head-requires c κs =
 
 loop-holds : tie.Need-loop-holds Inv-loop μ-loop
 loop-holds c =
-    fill-first _ _ _ _ (c .before .before .before .before .before .before .before .before .before .before .pre) _ (c .before .before .before .before .before .begin .ensures) _ (c .before .before .before .before .stand .ensures) _ _ _ (c .before .before .put-head .ensures)
+    fill-first _ _ _ _ (c .before .before .before .before .before .before .before .before .before .before .pre) _ (c .before .before .before .before .before .begin .ensures) _ (c .before .before .before .before .stand .ensures) _ _ _ (c .before .before .put-head .ensures .1)
 
 blanks-end-requires : tie.Need-blanks-end-requires Inv-loop μ-loop
 blanks-end-requires c κs =
@@ -86,7 +86,7 @@ same-length c =
     let at-place = c .before .before in
     let at-blanks-end = at-place .before .before .before .before .before in
     let at-put-head = at-blanks-end .before .before .before .before in
-    kept _ _ _ _ (at-place .place .ensures) ∙ fill-room (turning at-blanks-end) _ (at-put-head .put-head .ensures)
+    kept _ _ _ _ (at-place .place .ensures) ∙ fill-room (turning at-blanks-end) _ (at-put-head .put-head .ensures .1)
 
 returns : tie.Need-returns Inv-loop μ-loop
 returns c =
@@ -96,7 +96,7 @@ returns c =
     let at-is-close = at-if1 .before in
     let at-blanks-end = at-is-close .before in
     let at-put-head = at-blanks-end .before .before .before .before in
-    fill-ends (turning at-blanks-end) _ (at-is-close .is-close .ensures) (at-if1 .if1 .taken) (at-if2 .if2 .taken) _ (at-put-head .put-head .ensures) _
+    fill-ends (turning at-blanks-end) _ (at-is-close .is-close .ensures) (at-if1 .if1 .taken) (at-if2 .if2 .taken) _ (at-put-head .put-head .ensures .1) _
     (at-place .place .ensures)
 
 cell-requires : tie.Need-cell-requires Inv-loop μ-loop

@@ -15,14 +15,11 @@ Inv-loop nodes s from kind out₀ to₀ at₀ n₀ out to at n = Filling nodes s
 abbrev μ-loop : tie.MeasureT-loop
 μ-loop nodes s from kind out₀ to₀ at₀ n₀ out to at n = length s - at
 
-slice-aggregate-copy : tie.Need-slice-aggregate-copy Inv-loop μ-loop
-slice-aggregate-copy c = search needs
-
-copy-requires : tie.Need-copy-requires Inv-loop μ-loop
-copy-requires c κs = search needs
+put-head-requires : tie.Need-put-head-requires Inv-loop μ-loop
+put-head-requires c κs = search needs
 
 loop-holds : tie.Need-loop-holds Inv-loop μ-loop
-loop-holds c = fill-start _ _ _ _
+loop-holds c = fill-start _ _ _ _ _ (c .before .before .put-head .ensures .0 .0)
 
 blanks-end-requires : tie.Need-blanks-end-requires Inv-loop μ-loop
 blanks-end-requires c κs = search needs
@@ -30,11 +27,11 @@ blanks-end-requires c κs = search needs
 seek-requires : tie.Need-seek-requires Inv-loop μ-loop
 seek-requires c κs =
     let at-loop = c .before in
-    let at-copy = at-loop .before .before .before in
-    let pre = at-copy .before .before .before .before .before .before .pre in (
-      fill-stands _ _ _ _ _ _ pre (at-copy .copy .ensures) _ _ _ _ (at-loop .loop .inv) _ (c .blanks-end .ensures),
-      fill-bare _ _ _ _ _ _ pre (at-copy .copy .ensures) _ _ _ _ (at-loop .loop .inv) _ (c .blanks-end .ensures),
-      law.fill-low _ _ _ _ _ _ pre (at-copy .copy .ensures) _ _ _ _ (at-loop .loop .inv) _ (c .blanks-end .ensures),
+    let at-head = at-loop .before .before .before in
+    let pre = at-head .before .before .before .before .before .pre in (
+      fill-stands _ _ _ _ _ _ pre (at-head .put-head .ensures .0 .1) _ _ _ _ (at-loop .loop .inv) _ (c .blanks-end .ensures),
+      fill-bare _ _ _ _ _ _ pre (at-head .put-head .ensures .0 .1) _ _ _ _ (at-loop .loop .inv) _ (c .blanks-end .ensures),
+      law.fill-low _ _ _ _ _ _ pre (at-head .put-head .ensures .0 .1) _ _ _ _ (at-loop .loop .inv) _ (c .blanks-end .ensures),
     )
 
 mul-info : tie.Need-mul-info Inv-loop μ-loop
@@ -42,9 +39,9 @@ mul-info c =
     let at-seek = c in
     let at-blanks = at-seek .before in
     let at-loop = at-blanks .before in
-    let at-copy = at-loop .before .before .before in
-    let start = at-copy .before .before .before .before .before .before in
-    let h = fill-in _ _ _ _ _ _ (start .pre) (at-copy .copy .ensures) _ _ _ _ (at-loop .loop .inv) _ (at-blanks .blanks-end .ensures) _ (at-seek .seek .ensures) .1 in
+    let at-head = at-loop .before .before .before in
+    let start = at-head .before .before .before .before .before in
+    let h = fill-in _ _ _ _ _ _ (start .pre) (at-head .put-head .ensures .0 .1) _ _ _ _ (at-loop .loop .inv) _ (at-blanks .blanks-end .ensures) _ (at-seek .seek .ensures) .1 in
     omega (arith, h, start .good .0 .0, start .good .0 .1)
 
 add-info : tie.Need-add-info Inv-loop μ-loop
@@ -52,9 +49,9 @@ add-info c =
     let at-seek = c in
     let at-blanks = at-seek .before in
     let at-loop = at-blanks .before in
-    let at-copy = at-loop .before .before .before in
-    let start = at-copy .before .before .before .before .before .before in
-    let h = fill-in _ _ _ _ _ _ (start .pre) (at-copy .copy .ensures) _ _ _ _ (at-loop .loop .inv) _ (at-blanks .blanks-end .ensures) _ (at-seek .seek .ensures) .1 in
+    let at-head = at-loop .before .before .before in
+    let start = at-head .before .before .before .before .before in
+    let h = fill-in _ _ _ _ _ _ (start .pre) (at-head .put-head .ensures .0 .1) _ _ _ _ (at-loop .loop .inv) _ (at-blanks .blanks-end .ensures) _ (at-seek .seek .ensures) .1 in
     omega (arith, h, start .good .0 .0, start .good .0 .1)
 
 mul-info-2 : tie.Need-mul-info-2 Inv-loop μ-loop
@@ -62,9 +59,9 @@ mul-info-2 c =
     let at-seek = c in
     let at-blanks = at-seek .before in
     let at-loop = at-blanks .before in
-    let at-copy = at-loop .before .before .before in
-    let start = at-copy .before .before .before .before .before .before in
-    let h = fill-in _ _ _ _ _ _ (start .pre) (at-copy .copy .ensures) _ _ _ _ (at-loop .loop .inv) _ (at-blanks .blanks-end .ensures) _ (at-seek .seek .ensures) .1 in
+    let at-head = at-loop .before .before .before in
+    let start = at-head .before .before .before .before .before in
+    let h = fill-in _ _ _ _ _ _ (start .pre) (at-head .put-head .ensures .0 .1) _ _ _ _ (at-loop .loop .inv) _ (at-blanks .blanks-end .ensures) _ (at-seek .seek .ensures) .1 in
     omega (arith, h, start .good .0 .0, start .good .0 .1)
 
 shared-slice-read-info : tie.Need-shared-slice-read-info Inv-loop μ-loop
@@ -72,9 +69,9 @@ shared-slice-read-info c =
     let at-seek = c .before in
     let at-blanks = at-seek .before in
     let at-loop = at-blanks .before in
-    let at-copy = at-loop .before .before .before in
-    let pre = at-copy .before .before .before .before .before .before .pre in
-    let h = fill-in _ _ _ _ _ _ pre (at-copy .copy .ensures) _ _ _ _ (at-loop .loop .inv) _ (at-blanks .blanks-end .ensures) _ (at-seek .seek .ensures) .1 in
+    let at-head = at-loop .before .before .before in
+    let pre = at-head .before .before .before .before .before .pre in
+    let h = fill-in _ _ _ _ _ _ pre (at-head .put-head .ensures .0 .1) _ _ _ _ (at-loop .loop .inv) _ (at-blanks .blanks-end .ensures) _ (at-seek .seek .ensures) .1 in
     search needs
 
 place-requires : tie.Need-place-requires Inv-loop μ-loop
@@ -87,9 +84,9 @@ same-length c =
     let at-seek = at-if1 .before .before in
     let at-blanks = at-seek .before in
     let at-loop = at-blanks .before in
-    let at-copy = at-loop .before .before .before in
-    let pre = at-copy .before .before .before .before .before .before .pre in
-    end-long _ _ _ _ _ _ pre (at-copy .copy .ensures) _ _ _ _ (at-loop .loop .inv) _ (at-blanks .blanks-end .ensures) _ (at-seek .seek .ensures) (at-if1 .if1 .taken) _ (at-place .place .ensures)
+    let at-head = at-loop .before .before .before in
+    let pre = at-head .before .before .before .before .before .pre in
+    end-long _ _ _ _ _ _ pre (at-head .put-head .ensures .0 .1) _ _ _ _ (at-loop .loop .inv) _ (at-blanks .blanks-end .ensures) _ (at-seek .seek .ensures) (at-if1 .if1 .taken) _ (at-place .place .ensures)
 
 returns : tie.Need-returns Inv-loop μ-loop
 returns c =
@@ -98,9 +95,9 @@ returns c =
     let at-seek = at-if1 .before .before in
     let at-blanks = at-seek .before in
     let at-loop = at-blanks .before in
-    let at-copy = at-loop .before .before .before in
-    let pre = at-copy .before .before .before .before .before .before .pre in
-    fill-ends _ _ _ _ _ _ pre (at-copy .copy .ensures) _ _ _ _ (at-loop .loop .inv) _ (at-blanks .blanks-end .ensures) _ (at-seek .seek .ensures) (at-if1 .if1 .taken) _ (at-place .place .ensures)
+    let at-head = at-loop .before .before .before in
+    let pre = at-head .before .before .before .before .before .pre in
+    fill-ends _ _ _ _ _ _ pre (at-head .put-head .ensures .0 .1) _ _ _ _ (at-loop .loop .inv) _ (at-blanks .blanks-end .ensures) _ (at-seek .seek .ensures) (at-if1 .if1 .taken) _ (at-place .place .ensures)
 
 put-requires : tie.Need-put-requires Inv-loop μ-loop
 put-requires c κs =
@@ -108,9 +105,9 @@ put-requires c κs =
     let at-seek = at-if1 .before .before in
     let at-blanks = at-seek .before in
     let at-loop = at-blanks .before in
-    let at-copy = at-loop .before .before .before in
-    let pre = at-copy .before .before .before .before .before .before .pre in
-    fill-asked _ _ _ _ _ _ pre (at-copy .copy .ensures) _ _ _ _ (at-loop .loop .inv) _ (at-blanks .blanks-end .ensures) _ (at-seek .seek .ensures) (at-if1 .if1 .left)
+    let at-head = at-loop .before .before .before in
+    let pre = at-head .before .before .before .before .before .pre in
+    fill-asked _ _ _ _ _ _ pre (at-head .put-head .ensures .0 .1) _ _ _ _ (at-loop .loop .inv) _ (at-blanks .blanks-end .ensures) _ (at-seek .seek .ensures) (at-if1 .if1 .left)
 
 loop-less : tie.Need-loop-less Inv-loop μ-loop
 loop-less c =
@@ -119,9 +116,9 @@ loop-less c =
     let at-seek = at-if1 .before .before in
     let at-blanks = at-seek .before in
     let at-loop = at-blanks .before in
-    let at-copy = at-loop .before .before .before in
-    let pre = at-copy .before .before .before .before .before .before .pre in
-    law.fill-less _ _ _ _ _ _ pre (at-copy .copy .ensures) _ _ _ _ (at-loop .loop .inv) _ (at-blanks .blanks-end .ensures) _ (at-seek .seek .ensures) (at-if1 .if1 .left) _ _ _ (at-put .put .ensures)
+    let at-head = at-loop .before .before .before in
+    let pre = at-head .before .before .before .before .before .pre in
+    law.fill-less _ _ _ _ _ _ pre (at-head .put-head .ensures .0 .1) _ _ _ _ (at-loop .loop .inv) _ (at-blanks .blanks-end .ensures) _ (at-seek .seek .ensures) (at-if1 .if1 .left) _ _ _ (at-put .put .ensures)
 
 loop-again : tie.Need-loop-again Inv-loop μ-loop
 loop-again c =
@@ -130,11 +127,11 @@ loop-again c =
     let at-seek = at-if1 .before .before in
     let at-blanks = at-seek .before in
     let at-loop = at-blanks .before in
-    let at-copy = at-loop .before .before .before in
-    let pre = at-copy .before .before .before .before .before .before .pre in
-    fill-again _ _ _ _ _ _ pre (at-copy .copy .ensures) _ _ _ _ (at-loop .loop .inv) _ (at-blanks .blanks-end .ensures) _ (at-seek .seek .ensures) (at-if1 .if1 .left) _ _ _ (at-put .put .ensures)
+    let at-head = at-loop .before .before .before in
+    let pre = at-head .before .before .before .before .before .pre in
+    fill-again _ _ _ _ _ _ pre (at-head .put-head .ensures .0 .1) _ _ _ _ (at-loop .loop .inv) _ (at-blanks .blanks-end .ensures) _ (at-seek .seek .ensures) (at-if1 .if1 .left) _ _ _ (at-put .put .ensures)
 
 pub fill-spec : {M : Type 1} → statement M
 fill-spec =
     tie.close
-    (tie.spec Inv-loop μ-loop slice-aggregate-copy copy-requires loop-holds blanks-end-requires seek-requires mul-info add-info mul-info-2 shared-slice-read-info place-requires same-length returns put-requires loop-less loop-again)
+    (tie.spec Inv-loop μ-loop put-head-requires loop-holds blanks-end-requires seek-requires mul-info add-info mul-info-2 shared-slice-read-info place-requires same-length returns put-requires loop-less loop-again)

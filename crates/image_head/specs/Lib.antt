@@ -1,0 +1,3 @@
+-- The definitions of `image_head`.
+-- the first bytes of an image
+pub mod Head

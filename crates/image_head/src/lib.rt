@@ -1,0 +1,16 @@
+// The first bytes of an image, as both passes that write one put them.
+use text_bytes::number::copy;
+ghost use mathlib.Core.Path.{_≡_};
+ghost use lib.ListN.{length};
+ghost use Rattle.text.specs.Pasting.{pasted};
+ghost use Rattle.image_head.specs.Head.{headOf, HeadPut};
+
+// `KTO`, version 2 in 16 bits, the kind byte, and the root's row byte.
+pub fn put_head(out: &mut [u8], kind: u8) -> usize
+    ensures is { λ r. ⌜ (r ≡ length (headOf kind)) × (now (out .exit) ≡ pasted (now (out .entry)) 0 (headOf kind)) ⌝ }
+    ensures means { λ r. ⌜ HeadPut kind (now (out .entry)) r (now (out .exit)) ⌝ }
+{
+    let head = [b'K', b'T', b'O', 0, 2, kind, 1];
+    copy(&head, 0, head.len(), out, 0);
+    head.len()
+}
