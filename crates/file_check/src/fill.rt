@@ -12,6 +12,7 @@ use list::table::MOST;
 use list::table::PARENT;
 use list::table::SIBLING;
 use list::word::word_byte;
+use text::part::part_of;
 use text::span::blanks_end;
 use value_kinds::write::write;
 use value_shared::place::place;
@@ -34,49 +35,37 @@ ghost use Rattle.list.specs.tables.Columns.{KIND, DTM};
 ghost use Rattle.text.specs.Puts.{near};
 
 // The place of an ENUM's word in its row's list, as one byte: how many bytes there are, 0 where it is no word of the list.
-fn put_word(
-    rows: &[u16],
-    pool: &[u8],
-    s: &[u8],
-    row: usize,
-    a: usize,
-    b: usize,
-    out: &mut [u8],
-    at: usize,
-) -> usize
-    ensures { λ n. ⌜ Worded (wordsIn (now (rows .entry)) (now (pool .entry)) row) (slice a b (now (s .entry))) (now (out .entry)) at n (now (out .exit)) ⌝ }
+fn put_word(rows: &[u16], pool: &[u8], row: usize, word: &[u8], out: &mut [u8], at: usize) -> usize
+    ensures { λ n. ⌜ Worded (wordsIn (now (rows .entry)) (now (pool .entry)) row) (now (word .entry)) (now (out .entry)) at n (now (out .exit)) ⌝ }
 {
-    let word = word_byte(rows, pool, row, s, a, b);
-    if word == 0 {
+    let byte = word_byte(rows, pool, row, word);
+    if byte == 0 {
         return 0;
     }
-    place(out, at, word);
+    place(out, at, byte);
     1
 }
 
-// The value of a leaf of this row and kind whose raw text is s from a to b, and whose currency, if it is an amount, is s from c to d: how
-// many bytes it has, 0 where the text spells none.
+// The value of a leaf of this row and kind with this raw text, and, if it is an amount, with this currency: how many bytes it has, 0
+// where the text spells none.
 fn put_value(
     rows: &[u16],
     pool: &[u8],
-    s: &[u8],
     kind: usize,
     row: usize,
-    a: usize,
-    b: usize,
-    c: usize,
-    d: usize,
+    t: &[u8],
+    ccy: &[u8],
     out: &mut [u8],
     at: usize,
 ) -> usize
     requires { ⌜ (kind ≡ cell (now rows) row KIND) × (kind ≤ DTM) ⌝ }
-    ensures { λ n. ⌜ Valued houseKinds (now (rows .entry)) (now (pool .entry)) row (slice c d (now (s .entry))) (slice a b (now (s .entry))) (now (out .entry)) at n (now (out .exit)) ⌝ }
+    ensures { λ n. ⌜ Valued houseKinds (now (rows .entry)) (now (pool .entry)) row (now (ccy .entry)) (now (t .entry)) (now (out .entry)) at n (now (out .exit)) ⌝ }
 {
     if kind == ENUM {
-        return put_word(rows, pool, s, row, a, b, out, at);
+        return put_word(rows, pool, row, t, out, at);
     }
     let most = cell(rows, row, MOST);
-    write(kind as u8, most, s, a, b, c, d, out, at)
+    write(kind as u8, most, t, ccy, out, at)
 }
 
 // The innermost open group, its last child (0: none yet), and the place after the last tag.
@@ -102,13 +91,13 @@ fn around(rows: &[u16], row: usize, r: usize) -> usize
     r
 }
 
-// The child of a group that is called s from a to b. There is one, so that the search, which begins at the last child, ends at it.
-fn row_of(rows: &[u16], pool: &[u8], row: usize, last: usize, s: &[u8], a: usize, b: usize) -> usize
-    requires { ⌜ Comes (now rows) (now pool) row last (slice a b (now s)) ⌝ }
-    ensures { λ r. ⌜ r ≡ child (listOf (now (rows .entry)) (now (pool .entry))) row (slice a b (now (s .entry))) ⌝ }
+// The child of a group that has this name. There is one, so that the search, which begins at the last child, ends at it.
+fn row_of(rows: &[u16], pool: &[u8], row: usize, last: usize, name: &[u8]) -> usize
+    requires { ⌜ Comes (now rows) (now pool) row last (now name) ⌝ }
+    ensures { λ r. ⌜ r ≡ child (listOf (now (rows .entry)) (now (pool .entry))) row (now (name .entry)) ⌝ }
 {
     let mut r = around(rows, row, last);
-    while !is_name(rows, pool, r, s, a, b) {
+    while !is_name(rows, pool, r, name) {
         r = around(rows, row, cell(rows, r, SIBLING));
     }
     r
@@ -130,10 +119,9 @@ fn put_leaf(
 {
     place(out, at, row as u8);
     let kind = cell(rows, row, KIND);
-    let a = tag.end;
-    let c = tag.value;
-    let d = tag.quote;
-    let n = put_value(rows, pool, s, kind, row, a, less, c, d, out, at + 1);
+    let t = part_of(s, tag.end, less);
+    let ccy = part_of(s, tag.value, tag.quote);
+    let n = put_value(rows, pool, kind, row, t, ccy, out, at + 1);
     if n == 0 {
         return 0;
     }
@@ -160,7 +148,7 @@ pub(crate) fn fill(rows: &[u16], pool: &[u8], s: &[u8], kind: u8, out: &mut [u8]
             here = stand(cell(rows, row, PARENT), row, close_end(s, name));
         } else {
             let tag = tag_at(s, less);
-            let r = row_of(rows, pool, row, here.last, s, name, tag.stop);
+            let r = row_of(rows, pool, row, here.last, part_of(s, name, tag.stop));
             if is_group(cell(rows, r, KIND)) {
                 place(out, at, r as u8);
                 at += 1;

@@ -8,6 +8,7 @@ use file_nodes::fields::MORE_WORDS;
 use file_nodes::fields::SINGLE;
 use file_nodes::fields::UPPER;
 use file_nodes::fields::WORDS;
+use text::part::part_of;
 use text_bytes::number::copy;
 use text_bytes::number::put16;
 use text_characters::piece::next_char;
@@ -126,7 +127,9 @@ fn put_other(kind: u8, s: &[u8], c: usize, at: usize, out: &mut [u8], to: usize)
     ensures { λ r. ⌜ OtherLaid kind (now (s .entry)) c at (now (out .entry)) to (r .at) (r .end) (now (out .exit)) ⌝ }
 {
     let end = text_end(s, at);
-    let n = write(kind, 0, s, at, end, c, c + CURRENCY, out, to);
+    let t = part_of(s, at, end);
+    let ccy = part_of(s, c, c + CURRENCY);
+    let n = write(kind, 0, t, ccy, out, to);
     Put { at: to + n, end }
 }
 

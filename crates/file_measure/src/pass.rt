@@ -12,6 +12,7 @@ use list::table::ENUM;
 use list::table::KIND;
 use list::table::MOST;
 use list::word::word_byte;
+use text::part::part_of;
 use value_kinds::write::size;
 ghost use mathlib.Core.Path.{_≡_};
 ghost use mathlib.Core.List.{[]};
@@ -37,32 +38,24 @@ fn group_end(rows: &[u16], row: usize, at: usize) -> usize
 }
 
 // How many bytes an ENUM's word has, which are the one of its place in its row's list; 0 where it is no word of the list.
-fn word_size(rows: &[u16], pool: &[u8], s: &[u8], row: usize, a: usize, b: usize) -> usize
-    ensures { λ n. ⌜ WordSize (wordsIn (now (rows .entry)) (now (pool .entry)) row) (slice a b (now (s .entry))) n ⌝ }
+fn word_size(rows: &[u16], pool: &[u8], row: usize, word: &[u8]) -> usize
+    ensures { λ n. ⌜ WordSize (wordsIn (now (rows .entry)) (now (pool .entry)) row) (now (word .entry)) n ⌝ }
 {
-    if word_byte(rows, pool, row, s, a, b) == 0 {
+    if word_byte(rows, pool, row, word) == 0 {
         return 0;
     }
     1
 }
 
-// How many bytes the value has of a leaf of this row and kind whose raw text is s from a to b; 0 where the text spells none.
-fn value_size(
-    rows: &[u16],
-    pool: &[u8],
-    s: &[u8],
-    kind: usize,
-    row: usize,
-    a: usize,
-    b: usize,
-) -> usize
+// How many bytes the value has of a leaf of this row and kind with this raw text; 0 where the text spells none.
+fn value_size(rows: &[u16], pool: &[u8], kind: usize, row: usize, t: &[u8]) -> usize
     requires { ⌜ (kind ≡ cell (now rows) row KIND) × (kind ≤ DTM) ⌝ }
-    ensures { λ n. ⌜ Sizes houseKinds (now (rows .entry)) (now (pool .entry)) row (slice a b (now (s .entry))) n ⌝ }
+    ensures { λ n. ⌜ Sizes houseKinds (now (rows .entry)) (now (pool .entry)) row (now (t .entry)) n ⌝ }
 {
     if kind == ENUM {
-        return word_size(rows, pool, s, row, a, b);
+        return word_size(rows, pool, row, t);
     }
-    size(kind as u8, cell(rows, row, MOST), s, a, b)
+    size(kind as u8, cell(rows, row, MOST), t)
 }
 
 // The place after the item of a leaf that ends at less, 0 where its text spells no value; of a group the same place.
@@ -75,7 +68,7 @@ fn leaf_end(rows: &[u16], pool: &[u8], s: &[u8], here: Here, less: usize, at: us
     if is_group(kind) {
         return at;
     }
-    let n = value_size(rows, pool, s, kind, row, here.at, less);
+    let n = value_size(rows, pool, kind, row, part_of(s, here.at, less));
     if n == 0 {
         return 0;
     }

@@ -8,22 +8,13 @@ use file_walk::step::Met;
 use file_walk::step::Turn;
 use file_walk::step::lost;
 use file_walk::step::refused;
-use list::lookup::cell;
-use list::table::NAME;
-use list::table::NAME_END;
-use text::part::same_part;
+use list::lookup::is_name;
+use text::part::part_of;
 use xml_cursor::token::opening;
 use xml_cursor::token::start;
 use xml_tags::token::Kind;
 ghost use mathlib.Core.Path.{_≡_};
-ghost use Rattle.file_walk.specs.mirror.Begin.{isFirstIn, isRootIn, rootedIn, hollowIn, beginIn};
-
-// Whether s from a to b is row 1's name.
-fn is_first(rows: &[u16], pool: &[u8], s: &[u8], a: usize, b: usize) -> bool
-    ensures { λ x. ⌜ x ≡ isFirstIn (now (rows .entry)) (now (pool .entry)) (now (s .entry)) a b ⌝ }
-{
-    same_part(pool, cell(rows, 1, NAME), cell(rows, 1, NAME_END), s, a, b)
-}
+ghost use Rattle.file_walk.specs.mirror.Begin.{isRootIn, rootedIn, hollowIn, beginIn};
 
 // Whether a tag with its `<` at less is the root's: row 1's name, and attributes that the root may carry.
 fn is_root(rows: &[u16], pool: &[u8], s: &[u8], less: usize, stop: usize, count: usize) -> bool
@@ -32,7 +23,7 @@ fn is_root(rows: &[u16], pool: &[u8], s: &[u8], less: usize, stop: usize, count:
     if s.len() <= less {
         return false;
     }
-    if !is_first(rows, pool, s, less + 1, stop) {
+    if !is_name(rows, pool, 1, part_of(s, less + 1, stop)) {
         return false;
     }
     root_attributes(rows, pool, s, stop, count)

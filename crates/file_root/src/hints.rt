@@ -2,13 +2,14 @@
 
 use file_walk::hints::Carried;
 use list::lookup::is_space;
-use text::part::same_part;
+use text::part::part_of;
+use text::part::same;
 use xml_cursor::attribute::attribute_at;
 use xml_tags::attribute::Attribute;
 ghost use mathlib.Core.Bool.{_&&_, not};
 ghost use mathlib.Core.Path.{_≡_};
 ghost use Rattle.text.specs.Bytes.{ascii};
-ghost use Rattle.file_walk.specs.mirror.Stride.{named};
+ghost use Rattle.text.specs.Lists.{same};
 ghost use Rattle.file_walk.specs.mirror.Begin.{spaceIn, notedIn, nothing, carriedIn, allowed};
 
 const XMLNS: [u8; 5] = *b"xmlns";
@@ -17,25 +18,25 @@ const PREFIX: [u8; 9] = *b"xmlns:xsi";
 
 const LOCATION: [u8; 18] = *b"xsi:schemaLocation";
 
-fn is_xmlns(s: &[u8], a: usize, b: usize) -> bool
-    ensures { λ r. ⌜ r ≡ named (ascii "xmlns") (now (s .entry)) a b ⌝ }
+fn is_xmlns(name: &[u8]) -> bool
+    ensures { λ r. ⌜ r ≡ same (ascii "xmlns") (now (name .entry)) ⌝ }
 {
     let word = XMLNS;
-    same_part(&word, 0, word.len(), s, a, b)
+    same(&word, name)
 }
 
-fn is_prefix(s: &[u8], a: usize, b: usize) -> bool
-    ensures { λ r. ⌜ r ≡ named (ascii "xmlns:xsi") (now (s .entry)) a b ⌝ }
+fn is_prefix(name: &[u8]) -> bool
+    ensures { λ r. ⌜ r ≡ same (ascii "xmlns:xsi") (now (name .entry)) ⌝ }
 {
     let word = PREFIX;
-    same_part(&word, 0, word.len(), s, a, b)
+    same(&word, name)
 }
 
-fn is_location(s: &[u8], a: usize, b: usize) -> bool
-    ensures { λ r. ⌜ r ≡ named (ascii "xsi:schemaLocation") (now (s .entry)) a b ⌝ }
+fn is_location(name: &[u8]) -> bool
+    ensures { λ r. ⌜ r ≡ same (ascii "xsi:schemaLocation") (now (name .entry)) ⌝ }
 {
     let word = LOCATION;
-    same_part(&word, 0, word.len(), s, a, b)
+    same(&word, name)
 }
 
 // Whether an attribute is xmlns with the list's namespace, where none was before it.
@@ -45,17 +46,18 @@ fn space(rows: &[u16], pool: &[u8], s: &[u8], known: bool, a: Attribute) -> bool
     if known {
         return false;
     }
-    if !is_xmlns(s, a.name, a.stop) {
+    if !is_xmlns(part_of(s, a.name, a.stop)) {
         return false;
     }
-    is_space(rows, pool, s, a.value, a.quote)
+    is_space(rows, pool, part_of(s, a.value, a.quote))
 }
 
 // One attribute more.
 fn noted(rows: &[u16], pool: &[u8], s: &[u8], seen: Carried, a: Attribute) -> Carried
     ensures { λ r. ⌜ r ≡ notedIn (now (rows .entry)) (now (pool .entry)) (now (s .entry)) seen a ⌝ }
 {
-    if is_prefix(s, a.name, a.stop) {
+    let name = part_of(s, a.name, a.stop);
+    if is_prefix(name) {
         return Carried {
             space: seen.space,
             prefix: true,
@@ -63,7 +65,7 @@ fn noted(rows: &[u16], pool: &[u8], s: &[u8], seen: Carried, a: Attribute) -> Ca
             other: seen.other,
         };
     }
-    if is_location(s, a.name, a.stop) {
+    if is_location(name) {
         return Carried {
             space: seen.space,
             prefix: seen.prefix,

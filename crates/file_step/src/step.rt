@@ -21,6 +21,7 @@ use list::lookup::cell;
 use list::lookup::child;
 use list::table::KIND;
 use list::table::MOST_LEVELS;
+use text::part::part_of;
 use text::span::blanks_end;
 use xml_cursor::token::next;
 use xml_tags::attribute::Attribute;
@@ -120,7 +121,7 @@ fn row_of(rows: &[u16], pool: &[u8], s: &[u8], lv: Level, less: usize, stop: usi
     ensures { λ r. ⌜ r ≡ rowIn (now (rows .entry)) (now (pool .entry)) (now (s .entry)) lv less stop ⌝ }
 {
     if less < s.len() {
-        return child(rows, pool, lv.row, lv.last, s, less + 1, stop);
+        return child(rows, pool, lv.row, lv.last, part_of(s, less + 1, stop));
     }
     0
 }

@@ -3,22 +3,23 @@
 use list::lookup::cell;
 use list::table::AMT;
 use list::table::KIND;
-use text::part::same_part;
+use text::part::part_of;
+use text::part::same;
 use value_codes::ccy::is_ccy;
-use value_shared::blanks::part_of;
 use xml_tags::attribute::Attribute;
 ghost use mathlib.Core.Path.{_≡_};
 ghost use Rattle.text.specs.Bytes.{ascii};
-ghost use Rattle.file_walk.specs.mirror.Stride.{named, ownIn};
+ghost use Rattle.text.specs.Lists.{same};
+ghost use Rattle.file_walk.specs.mirror.Stride.{ownIn};
 
 const CCY: [u8; 3] = *b"Ccy";
 
-// Whether s from a to b is the name `Ccy`.
-fn names_ccy(s: &[u8], a: usize, b: usize) -> bool
-    ensures { λ r. ⌜ r ≡ named (ascii "Ccy") (now (s .entry)) a b ⌝ }
+// Whether these bytes are the name `Ccy`.
+fn names_ccy(name: &[u8]) -> bool
+    ensures { λ r. ⌜ r ≡ same (ascii "Ccy") (now (name .entry)) ⌝ }
 {
     let word = CCY;
-    same_part(&word, 0, word.len(), s, a, b)
+    same(&word, name)
 }
 
 // Whether a tag's attributes are exactly those of row r's type.
@@ -31,7 +32,7 @@ pub fn own(rows: &[u16], s: &[u8], r: usize, count: usize, a: Attribute) -> bool
     if count != 1 {
         return false;
     }
-    if !names_ccy(s, a.name, a.stop) {
+    if !names_ccy(part_of(s, a.name, a.stop)) {
         return false;
     }
     is_ccy(part_of(s, a.value, a.quote))

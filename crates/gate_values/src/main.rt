@@ -8,6 +8,7 @@ use list::table::MOST_WORDS;
 use list::word::word_place;
 use list_house::by_byte::REPORT;
 use list_house::by_byte::rows_of;
+use text::part::part_of;
 use text::width::WIDTH_16;
 use text_bytes::number::get16;
 use value_kinds::write::write;
@@ -97,10 +98,10 @@ fn low(n: usize) -> u8 {
 }
 
 // The place of a word, which is its value.
-fn judge_word(parameter: u8, cases: &[u8], start: usize, end: usize) {
+fn judge_word(parameter: u8, word: &[u8]) {
     let rows = rows_of(words_list(parameter));
     let pool = list_house::tables::pool();
-    let n = word_place(&rows, &pool, words_row(parameter), cases, start, end);
+    let n = word_place(&rows, &pool, words_row(parameter), word);
     let byte = [low(n)];
     if n == 0 {
         write_answer(&byte, 0);
@@ -109,24 +110,13 @@ fn judge_word(parameter: u8, cases: &[u8], start: usize, end: usize) {
     }
 }
 
-// The text stands from start up to end, its currency from `from` up to start.
-fn judge(kind: u8, parameter: u8, cases: &[u8], from: usize, start: usize, end: usize) {
+fn judge(kind: u8, parameter: u8, ccy: &[u8], t: &[u8]) {
     if kind == ENUM_KIND {
-        judge_word(parameter, cases, start, end);
+        judge_word(parameter, t);
         return;
     }
     let mut value = io::buffer();
-    let n = write(
-        kind,
-        parameter as usize,
-        cases,
-        start,
-        end,
-        from,
-        start,
-        &mut value,
-        0,
-    );
+    let n = write(kind, parameter as usize, t, ccy, &mut value, 0);
     write_answer(&value, n);
 }
 
@@ -152,7 +142,9 @@ fn judge_all(cases: &[u8]) {
             return;
         }
         let end = start + n;
-        judge(cases[i], cases[i + 1], cases, from, start, end);
+        let ccy = part_of(cases, from, start);
+        let t = part_of(cases, start, end);
+        judge(cases[i], cases[i + 1], ccy, t);
         i = end;
     }
 }

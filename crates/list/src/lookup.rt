@@ -10,9 +10,9 @@ use crate::table::SIBLING;
 use crate::table::SPACE;
 use crate::table::SPACE_END;
 use crate::table::WORD_COUNT;
-use text::part::same_part;
+use text::part::part_of;
+use text::part::same;
 ghost use mathlib.Core.Path.{_≡_};
-ghost use lib.Seq.{slice};
 ghost use Rattle.text.specs.Lists.{same};
 ghost use Rattle.list.specs.tables.Table.{cell, nameIn, listOf};
 ghost use Rattle.list.specs.mirror.Lookup.{dueAfter, along, childAlong};
@@ -50,31 +50,30 @@ pub fn due_after(rows: &[u16], p: usize, q: usize) -> usize
     }
 }
 
-// Whether s from a to b is the list's namespace.
-pub fn is_space(rows: &[u16], pool: &[u8], s: &[u8], a: usize, b: usize) -> bool
-    ensures { λ r. ⌜ r ≡ same (listOf (now (rows .entry)) (now (pool .entry)) .space) (slice a b (now (s .entry))) ⌝ }
+// Whether these bytes are the list's namespace.
+pub fn is_space(rows: &[u16], pool: &[u8], s: &[u8]) -> bool
+    ensures { λ r. ⌜ r ≡ same (listOf (now (rows .entry)) (now (pool .entry)) .space) (now (s .entry)) ⌝ }
 {
-    same_part(
-        pool,
-        cell(rows, 0, SPACE),
-        cell(rows, 0, SPACE_END),
+    same(
+        part_of(pool, cell(rows, 0, SPACE), cell(rows, 0, SPACE_END)),
         s,
-        a,
-        b,
     )
 }
 
-// Whether s from a to b is row r's name.
-pub fn is_name(rows: &[u16], pool: &[u8], r: usize, s: &[u8], a: usize, b: usize) -> bool
-    ensures { λ x. ⌜ x ≡ same (nameIn (now (rows .entry)) (now (pool .entry)) r) (slice a b (now (s .entry))) ⌝ }
+// Whether these bytes are row r's name.
+pub fn is_name(rows: &[u16], pool: &[u8], r: usize, name: &[u8]) -> bool
+    ensures { λ x. ⌜ x ≡ same (nameIn (now (rows .entry)) (now (pool .entry)) r) (now (name .entry)) ⌝ }
 {
-    same_part(pool, cell(rows, r, NAME), cell(rows, r, NAME_END), s, a, b)
+    same(
+        part_of(pool, cell(rows, r, NAME), cell(rows, r, NAME_END)),
+        name,
+    )
 }
 
-// The first row called s from a to b, among `from` and the siblings after it; 0 where there is none. No list has more than 255 of them,
+// The first row of this name, among `from` and the siblings after it; 0 where there is none. No list has more than 255 of them,
 // and in a table whose siblings go in a circle the search ends all the same.
-fn named(rows: &[u16], pool: &[u8], from: usize, s: &[u8], a: usize, b: usize) -> usize
-    ensures { λ x. ⌜ x ≡ along (now (rows .entry)) (now (pool .entry)) (slice a b (now (s .entry))) 255 from ⌝ }
+fn named(rows: &[u16], pool: &[u8], from: usize, name: &[u8]) -> usize
+    ensures { λ x. ⌜ x ≡ along (now (rows .entry)) (now (pool .entry)) (now (name .entry)) 255 from ⌝ }
 {
     let mut r = from;
     let mut left: usize = MOST_ROWS;
@@ -82,7 +81,7 @@ fn named(rows: &[u16], pool: &[u8], from: usize, s: &[u8], a: usize, b: usize) -
         if r == 0 {
             return 0;
         }
-        if is_name(rows, pool, r, s, a, b) {
+        if is_name(rows, pool, r, name) {
             return r;
         }
         r = cell(rows, r, SIBLING);
@@ -91,23 +90,15 @@ fn named(rows: &[u16], pool: &[u8], from: usize, s: &[u8], a: usize, b: usize) -
     0
 }
 
-// The child of `p` called s from a to b; 0 where there is none. `last` is the child that came last, 0 at first: the next one mostly is the
+// The child of `p` of this name; 0 where there is none. `last` is the child that came last, 0 at first: the next one mostly is the
 // same row again or a sibling after it, so the search begins there.
-pub fn child(
-    rows: &[u16],
-    pool: &[u8],
-    p: usize,
-    last: usize,
-    s: &[u8],
-    a: usize,
-    b: usize,
-) -> usize
-    ensures is { λ r. ⌜ r ≡ childAlong (now (rows .entry)) (now (pool .entry)) p last (slice a b (now (s .entry))) ⌝ }
-    ensures means { λ r. ⌜ ChildCalled (now (rows .entry)) (now (pool .entry)) p last (slice a b (now (s .entry))) r ⌝ }
+pub fn child(rows: &[u16], pool: &[u8], p: usize, last: usize, name: &[u8]) -> usize
+    ensures is { λ r. ⌜ r ≡ childAlong (now (rows .entry)) (now (pool .entry)) p last (now (name .entry)) ⌝ }
+    ensures means { λ r. ⌜ ChildCalled (now (rows .entry)) (now (pool .entry)) p last (now (name .entry)) r ⌝ }
 {
-    let r = named(rows, pool, last, s, a, b);
+    let r = named(rows, pool, last, name);
     if 0 < r {
         return r;
     }
-    named(rows, pool, cell(rows, p, CHILD), s, a, b)
+    named(rows, pool, cell(rows, p, CHILD), name)
 }

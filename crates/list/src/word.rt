@@ -4,7 +4,8 @@ use crate::table::MOST_WORDS;
 use crate::table::WORDS;
 use crate::table::WORDS_END;
 use text::part::least;
-use text::part::same_part;
+use text::part::part_of;
+use text::part::same;
 ghost use mathlib.Core.Path.{_≡_};
 ghost use mathlib.Core.List.{[]};
 ghost use Prim.Native.Nat.{_+_, _≤_};
@@ -29,9 +30,9 @@ fn word_end(pool: &[u8], i: usize, end: usize) -> usize
     j
 }
 
-// The place, from 1, of s from a to b among the words of row r; 0 where it is none of them, as in a row without words.
-pub fn word_place(rows: &[u16], pool: &[u8], r: usize, s: &[u8], a: usize, b: usize) -> usize
-    ensures { λ x. ⌜ x ≡ placeIn (wordsIn (now (rows .entry)) (now (pool .entry)) r) (slice a b (now (s .entry))) ⌝ }
+// The place, from 1, of a word among the words of row r; 0 where it is none of them, as in a row without words.
+pub fn word_place(rows: &[u16], pool: &[u8], r: usize, word: &[u8]) -> usize
+    ensures { λ x. ⌜ x ≡ placeIn (wordsIn (now (rows .entry)) (now (pool .entry)) r) (now (word .entry)) ⌝ }
 {
     let end = least(cell(rows, r, WORDS_END), pool.len());
     let mut i = cell(rows, r, WORDS);
@@ -41,7 +42,7 @@ pub fn word_place(rows: &[u16], pool: &[u8], r: usize, s: &[u8], a: usize, b: us
     let mut place = 1;
     loop {
         let j = word_end(pool, i, end);
-        if same_part(pool, i, j, s, a, b) {
+        if same(part_of(pool, i, j), word) {
             return place;
         }
         if end <= j {
@@ -71,10 +72,10 @@ pub fn nth_word<'a>(rows: &[u16], pool: &'a [u8], r: usize, n: usize) -> &'a [u8
 }
 
 // The place of a word as the byte of an image; 0 also where no byte has it, which no well-formed list makes happen.
-pub fn word_byte(rows: &[u16], pool: &[u8], r: usize, s: &[u8], a: usize, b: usize) -> u8
-    ensures { λ x. ⌜ x ≡ byteOf (placeIn (wordsIn (now (rows .entry)) (now (pool .entry)) r) (slice a b (now (s .entry)))) ⌝ }
+pub fn word_byte(rows: &[u16], pool: &[u8], r: usize, word: &[u8]) -> u8
+    ensures { λ x. ⌜ x ≡ byteOf (placeIn (wordsIn (now (rows .entry)) (now (pool .entry)) r) (now (word .entry))) ⌝ }
 {
-    let place = word_place(rows, pool, r, s, a, b);
+    let place = word_place(rows, pool, r, word);
     if MOST_WORDS < place {
         return 0;
     }

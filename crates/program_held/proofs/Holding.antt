@@ -32,15 +32,13 @@ four-long : (n : ℕ) → length (bigEndian 4 n) ≡ 4
 unfolding bigEndian
 four-long n = refl
 
-last-four : (e : List ℕ) (n : ℕ) → e ≡ pasted (replicate 8 0) 0 (bigEndian 8 n) → slice 4 8 e ≡ bigEndian 4 n
-last-four e n f = ap (slice 4 8) f ∙ eight n
-
 -- the answer's line with the last four of the count's eight bytes is its line with the count
-module _ (a : Answer) (n : ℕ) (e : List ℕ) (f : e ≡ pasted (replicate 8 0) 0 (bigEndian 8 n)) where
-  pub counted : (d : List ℕ) (r : ℕ) (after : List ℕ) → Put (answerLine a (slice 4 8 e)) d r after → Put (answerLine a (bigEndian 4 n)) d r after
-  counted d r after = subst (λ (b : List ℕ). Put (answerLine a b) d r after) (last-four e n f)
+module _ (a : Answer) (n : ℕ) (e : List ℕ) (f : e ≡ pasted (replicate 8 0) 0 (bigEndian 8 n)) (b : List ℕ) (g : b ≡ slice 4 8 e) where
+  last-four : b ≡ bigEndian 4 n
+  last-four = g ∙ ap (slice 4 8) f ∙ eight n
 
-  pub counted-most : length (answerLine a (slice 4 8 e)) ≤ 64 + (length (slice 4 8 e) + length (slice 4 8 e)) → length (answerLine a (bigEndian 4 n)) ≤ 72
-  counted-most m =
-      let b = last-four e n f in
-      omega (arith, m, ap length b, four-long n, ap (λ (x : List ℕ). length (answerLine a x)) b)
+  pub counted : (d : List ℕ) (r : ℕ) (after : List ℕ) → Put (answerLine a b) d r after → Put (answerLine a (bigEndian 4 n)) d r after
+  counted d r after = subst (λ (x : List ℕ). Put (answerLine a x) d r after) last-four
+
+  pub counted-most : length (answerLine a b) ≤ 64 + (length b + length b) → length (answerLine a (bigEndian 4 n)) ≤ 72
+  counted-most m = omega (arith, m, ap length last-four, four-long n, ap (λ (x : List ℕ). length (answerLine a x)) last-four)

@@ -1,6 +1,7 @@
 // What a call's answer hands back, and the lines of answers that hand back no bytes of a buffer.
 use answer::Answer;
 use program_reply::put_answer;
+use text::part::part_of;
 use text::width::WIDTH_32;
 use text::width::WIDTH_64;
 use text_bytes::number::put64;
@@ -30,7 +31,7 @@ pub fn put_bare(a: Answer, out: &mut [u8]) -> usize
     ensures put { λ r. ⌜ Put (answerLine a []) (now (out .entry)) r (now (out .exit)) ⌝ }
     ensures most { λ _. ⌜ length (answerLine a []) ≤ longestAnswer ⌝ }
 {
-    put_answer(a, b" ", 0, 0, out)
+    put_answer(a, b"", out)
 }
 
 // Writes the line of an answer with a count in four bytes from the start of a buffer on, and answers how many bytes it is; 0 where it does
@@ -41,5 +42,5 @@ pub fn put_count(a: Answer, count: usize, out: &mut [u8]) -> usize
 {
     let mut bytes = [0u8; WIDTH_64];
     put64(&mut bytes, 0, count as u64);
-    put_answer(a, &bytes, LAST_HALF, WIDTH_64, out)
+    put_answer(a, part_of(&bytes, LAST_HALF, WIDTH_64), out)
 }

@@ -7,12 +7,11 @@ use native.Mathlib.Nat.{add-assoc}
 use native.Mathlib.Decide.{decLt}
 use native.Mathlib.Omega.{arith}
 use lib.ListN.{length, getD, drop, set, length-drop, length-set, drop-of-length-le}
-use lib.Seq.{slice, drop-cons}
+use lib.Seq.{drop-cons}
 use borrow.Author.Tests.{lt-ltb, le-ltb}
 use Rattle.text.specs.Lists.{Each}
 use Rattle.text.specs.Pasting.{pasted}
 use Rattle.text.proofs.Numbers.{Byte}
-use Rattle.text.proofs.Parts.{part-room, part-at}
 use Rattle.text.proofs.Pasting.{pasted-no, pasted-none, pasted-first}
 use Rattle.program_line.specs.Hex.{hexDigit, hexadecimal}
 
@@ -66,51 +65,47 @@ hex-one (x ∷ s) (y ∷ t) p q e =
     let f = tail-eq-of-cons-eq e in
     ap₂ (λ (z : ℕ) (l : List ℕ). z ∷ l) (byte-one x y (p .0) (q .0) (head-eq-of-cons-eq e) (head-eq-of-cons-eq f)) (hex-one s t (p .1) (q .1) (tail-eq-of-cons-eq f))
 
--- ---- a loop that has written the digits of k bytes of a part
+-- ---- a loop that has written the digits of k bytes
 
-pub record Spreading (src : List ℕ) (a b : ℕ) (d₀ : List ℕ) (at n : ℕ) (d : List ℕ) (k to : ℕ) : Type 0 where
-  pub part : n ≡ length (slice a b src)
+pub record Spreading (s d₀ : List ℕ) (at n : ℕ) (d : List ℕ) (k to : ℕ) : Type 0 where
+  pub whole : n ≡ length s
   pub upto : k ≤ n
   pub place : to ≡ at + (k + k)
   pub room : at + (n + n) ≤ length d
   pub long : length d ≡ length d₀
-  pub here : pasted d to (hexadecimal (drop k (slice a b src))) ≡ pasted d₀ at (hexadecimal (slice a b src))
+  pub here : pasted d to (hexadecimal (drop k s)) ≡ pasted d₀ at (hexadecimal s)
 
 pub hex-not : (d : List ℕ) (at : ℕ) (s : List ℕ) (n : ℕ) → n ≡ length s → length d < at + (n + n) → d ≡ pasted d at (hexadecimal s)
 hex-not d at s n e h = sym (pasted-no d at (hexadecimal s) (omega (arith, length-hex s)))
 
-module _ (src : List ℕ) (a b : ℕ) (d₀ : List ℕ) (at n : ℕ) where
-  pub hex-start : n ≡ length (slice a b src) → at + (n + n) ≤ length d₀ → Spreading src a b d₀ at n d₀ 0 at
-  hex-start e h = record { part = e; upto = zero-le; place = omega arith; room = h; long = refl; here = refl }
+module _ (s d₀ : List ℕ) (at n : ℕ) where
+  pub hex-start : n ≡ length s → at + (n + n) ≤ length d₀ → Spreading s d₀ at n d₀ 0 at
+  hex-start e h = record { whole = e; upto = zero-le; place = omega arith; room = h; long = refl; here = refl }
 
-  module _ (d : List ℕ) (k to : ℕ) (w : Spreading src a b d₀ at n d k to) where
-    pub hex-end : n ≤ k → d ≡ pasted d₀ at (hexadecimal (slice a b src))
+  module _ (d : List ℕ) (k to : ℕ) (w : Spreading s d₀ at n d k to) where
+    pub hex-end : n ≤ k → d ≡ pasted d₀ at (hexadecimal s)
     unfolding hexadecimal
     hex-end h =
-        let l : length (slice a b src) ≤ k = omega (arith, w .part) in
-        sym (pasted-none d to) ∙ ap (λ (u : List ℕ). pasted d to (hexadecimal u)) (sym (drop-of-length-le (slice a b src) l)) ∙ w .here
+        let l : length s ≤ k = omega (arith, w .whole) in
+        sym (pasted-none d to) ∙ ap (λ (u : List ℕ). pasted d to (hexadecimal u)) (sym (drop-of-length-le s l)) ∙ w .here
 
     module _ (h : k < n) where
-      inside : k < length (slice a b src)
-      inside = omega (arith, w .part)
-
-      pub hex-from : a + k < length src
-      hex-from = part-room a b k src inside
+      pub hex-from : k < length s
+      hex-from = omega (arith, w .whole)
 
       pub hex-to : to + 1 < length d
       hex-to = omega (arith, w .room, w .place)
 
-      pub hex-again : (u v : ℕ) → u ≡ hexDigit (getD src (a + k) 0 / 16) → v ≡ hexDigit (getD src (a + k) 0 % 16) →
-          Spreading src a b d₀ at n (set (set d to u) (to + 1) v) (k + 1) (to + 2)
+      pub hex-again : (u v : ℕ) → u ≡ hexDigit (getD s k 0 / 16) → v ≡ hexDigit (getD s k 0 % 16) → Spreading s d₀ at n (set (set d to u) (to + 1) v) (k + 1) (to + 2)
       hex-again u v eu ev =
-          let x : ℕ = getD (slice a b src) k 0 in
-          let t : List ℕ = drop (k + 1) (slice a b src) in
-          let e : drop k (slice a b src) ≡ x ∷ t = rw (add-one k) (drop-cons (slice a b src) k 0 inside) in
-          let l : length t ≡ n - (k + 1) = omega (arith, w .part, length-drop (k + 1) (slice a b src)) in
-          let f : hexadecimal (drop k (slice a b src)) ≡ u ∷ v ∷ hexadecimal t =
-          ap hexadecimal e ∙ hex-cons x t ∙ ap₂ (λ (p q : ℕ). p ∷ q ∷ hexadecimal t) (ap (λ (z : ℕ). hexDigit (z / 16)) (part-at a b k src inside) ∙ sym eu) (ap (λ (z : ℕ). hexDigit (z % 16)) (part-at a b k src inside) ∙ sym ev) in
+          let x : ℕ = getD s k 0 in
+          let t : List ℕ = drop (k + 1) s in
+          let e : drop k s ≡ x ∷ t = rw (add-one k) (drop-cons s k 0 hex-from) in
+          let l : length t ≡ n - (k + 1) = omega (arith, w .whole, length-drop (k + 1) s) in
+          let f : hexadecimal (drop k s) ≡ u ∷ v ∷ hexadecimal t =
+          ap hexadecimal e ∙ hex-cons x t ∙ ap₂ (λ (p q : ℕ). p ∷ q ∷ hexadecimal t) (sym eu) (sym ev) in
           record {
-            part = w .part;
+            whole = w .whole;
             upto = omega arith;
             place = omega (arith, w .place);
             room = omega (arith, w .room, length-set (set d to u) (to + 1) v, length-set d to u);

@@ -1,8 +1,6 @@
 // Bytes in lower-case hexadecimal, two digits each.
-use text::part::part_len;
 ghost use mathlib.Core.Path.{_≡_};
 ghost use Prim.Native.Nat.{_/_, _%_, _<_};
-ghost use lib.Seq.{slice};
 ghost use Rattle.text.specs.Pasting.{pasted};
 ghost use Rattle.program_line.specs.Hex.{hexDigit, hexadecimal};
 
@@ -33,12 +31,12 @@ fn low(x: u8) -> u8
     digit(x % BASE)
 }
 
-// Writes the part of src from a to b in hexadecimal at a place of out, or nothing where it does not fit. There are twice as
-// many digits as the part has bytes, which may be more than a number holds: so they are halved, not doubled, to see whether they fit.
-pub fn put(src: &[u8], a: usize, b: usize, out: &mut [u8], at: usize)
-    ensures { λ _. ⌜ now (out .exit) ≡ pasted (now (out .entry)) at (hexadecimal (slice a b (now (src .entry)))) ⌝ }
+// Writes bytes in hexadecimal at a place of out, or nothing where they do not fit. There are twice as many digits as bytes, which may be
+// more than a number holds: so the room is halved, and they are not doubled, to see whether they fit.
+pub fn put(bytes: &[u8], out: &mut [u8], at: usize)
+    ensures { λ _. ⌜ now (out .exit) ≡ pasted (now (out .entry)) at (hexadecimal (now (bytes .entry))) ⌝ }
 {
-    let n = part_len(src, a, b);
+    let n = bytes.len();
     if out.len() < at {
         return;
     }
@@ -48,8 +46,8 @@ pub fn put(src: &[u8], a: usize, b: usize, out: &mut [u8], at: usize)
     let mut k = 0;
     let mut to = at;
     while k < n {
-        out[to] = high(src[a + k]);
-        out[to + 1] = low(src[a + k]);
+        out[to] = high(bytes[k]);
+        out[to + 1] = low(bytes[k]);
         k += 1;
         to += 2;
     }

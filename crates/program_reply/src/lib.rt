@@ -3,13 +3,11 @@ use answer::Answer;
 use program_line::answer_line::ROOM;
 use program_line::answer_line::put_numbers;
 use program_line::hex;
-use text::part::part_len;
 use text_bytes::number::copy;
 use text_digits::decimal;
 ghost use mathlib.Core.Path.{_≡_};
 ghost use Prim.Native.Nat.{_+_, _≤_};
 ghost use lib.ListN.{length};
-ghost use lib.Seq.{slice};
 ghost use Rattle.text.specs.Pasting.{pasted};
 ghost use Rattle.program_reply.specs.Reply.{answerLine, pairLine, brokenLine, Put, longestAnswer, longestPair, longestBroken};
 
@@ -22,34 +20,33 @@ const BROKEN_LINE: usize = BROKEN.len() + decimal::MOST_DIGITS + 1;
 const PAIR_MARKS: usize = 3;
 
 // The line of an answer into a buffer that holds it; how many bytes it is.
-fn spread_answer(a: Answer, s: &[u8], from: usize, to: usize, out: &mut [u8]) -> usize
-    requires { ⌜ length (answerLine a (slice from to (now s))) ≤ length (now out) ⌝ }
-    ensures { λ r. ⌜ (r ≡ length (answerLine a (slice from to (now (s .entry))))) × (now (out .exit) ≡ pasted (now (out .entry)) 0 (answerLine a (slice from to (now (s .entry))))) ⌝ }
+fn spread_answer(a: Answer, s: &[u8], out: &mut [u8]) -> usize
+    requires { ⌜ length (answerLine a (now s)) ≤ length (now out) ⌝ }
+    ensures { λ r. ⌜ (r ≡ length (answerLine a (now (s .entry)))) × (now (out .exit) ≡ pasted (now (out .entry)) 0 (answerLine a (now (s .entry)))) ⌝ }
 {
     let n = put_numbers(out, 0, a);
     copy(b" ", 0, 1, out, n);
-    hex::put(s, from, to, out, n + 1);
-    let m = part_len(s, from, to);
-    let end = n + 1 + m + m;
+    hex::put(s, out, n + 1);
+    let end = n + 1 + s.len() + s.len();
     copy(b"\n", 0, 1, out, end);
     end + 1
 }
 
-// Writes `CODE ROW PLACE HEX` and LF from the start of a buffer on, HEX being the part of s between two places, and answers how many
-// bytes it is; 0 where it does not fit, and then nothing is changed. It is at most 64 bytes and two for each byte of the part.
-pub fn put_answer(a: Answer, s: &[u8], from: usize, to: usize, out: &mut [u8]) -> usize
-    ensures put { λ r. ⌜ Put (answerLine a (slice from to (now (s .entry)))) (now (out .entry)) r (now (out .exit)) ⌝ }
-    ensures most { λ _. ⌜ length (answerLine a (slice from to (now (s .entry)))) ≤ longestAnswer + (length (slice from to (now (s .entry))) + length (slice from to (now (s .entry)))) ⌝ }
+// Writes `CODE ROW PLACE HEX` and LF from the start of a buffer on, HEX being the bytes of s, and answers how many bytes it is; 0 where
+// it does not fit, and then nothing is changed. It is at most 64 bytes and two for each byte of s.
+pub fn put_answer(a: Answer, s: &[u8], out: &mut [u8]) -> usize
+    ensures put { λ r. ⌜ Put (answerLine a (now (s .entry))) (now (out .entry)) r (now (out .exit)) ⌝ }
+    ensures most { λ _. ⌜ length (answerLine a (now (s .entry))) ≤ longestAnswer + (length (now (s .entry)) + length (now (s .entry))) ⌝ }
 {
     let mut space = [0u8; ROOM];
     let n = put_numbers(&mut space, 0, a) + 2;
     if out.len() < n {
         return 0;
     }
-    if (out.len() - n) / 2 < part_len(s, from, to) {
+    if (out.len() - n) / 2 < s.len() {
         return 0;
     }
-    spread_answer(a, s, from, to, out)
+    spread_answer(a, s, out)
 }
 
 // The line of an answer with two parts into a buffer that holds it; how many bytes it is.
@@ -59,10 +56,10 @@ fn spread_pair(a: Answer, s: &[u8], t: &[u8], out: &mut [u8]) -> usize
 {
     let blank = put_numbers(out, 0, a);
     copy(b" ", 0, 1, out, blank);
-    hex::put(s, 0, s.len(), out, blank + 1);
+    hex::put(s, out, blank + 1);
     let mark = blank + 1 + s.len() + s.len();
     copy(b"/", 0, 1, out, mark);
-    hex::put(t, 0, t.len(), out, mark + 1);
+    hex::put(t, out, mark + 1);
     let end = mark + 1 + t.len() + t.len();
     copy(b"\n", 0, 1, out, end);
     end + 1

@@ -9,6 +9,7 @@ use program_held::put_count;
 use program_reply::put_answer;
 use program_reply::put_broken;
 use program_reply::put_pair;
+use text::part::part_of;
 use unit::check::check;
 use unit::pick::pick;
 use unit::pick::picked;
@@ -26,13 +27,13 @@ ghost use Rattle.program_reply.specs.Reply.{answerLine, longestAnswer};
 ghost use Rattle.replay.specs.Replies.{heldBy, ImageHeld, Checked, Measured, Tallied, Picked, Written, Tidied, Replies, lineRoom, pairRoom};
 ghost use Rattle.answer.specs.Table.{limit};
 
-// The line of an answer and the first n bytes of s, put to the start of a buffer that holds any such; how many bytes it is.
-fn put_line(a: Answer, s: &[u8], n: usize, line: &mut [u8]) -> usize
+// The line of an answer and some bytes, put to the start of a buffer that holds it; how many bytes it is.
+fn put_line(a: Answer, s: &[u8], line: &mut [u8]) -> usize
     requires { ⌜ longestAnswer + (length (now s) + length (now s)) ≤ length (now line) ⌝ }
-    ensures is { λ r. ⌜ take r (now (line .exit)) ≡ answerLine a (take n (now (s .entry))) ⌝ }
+    ensures is { λ r. ⌜ take r (now (line .exit)) ≡ answerLine a (now (s .entry)) ⌝ }
     ensures within { λ r. ⌜ Counts r (now (line .exit)) ⌝ }
 {
-    put_answer(a, s, 0, n, line)
+    put_answer(a, s, line)
 }
 
 // The line of a call's answer, with what it then holds in the buffer that it was lent.
@@ -41,7 +42,7 @@ fn put_filled(a: Answer, buffer: &[u8], line: &mut [u8]) -> usize
     ensures is { λ r. ⌜ take r (now (line .exit)) ≡ answerLine a (heldBy a (now (buffer .entry))) ⌝ }
     ensures within { λ r. ⌜ Counts r (now (line .exit)) ⌝ }
 {
-    put_line(a, buffer, held(a), line)
+    put_line(a, part_of(buffer, 0, held(a)), line)
 }
 
 // A check, for a buffer with the case's room.
@@ -115,7 +116,7 @@ fn part_picked(run: &[u8], row: usize, nth: usize, line: &mut [u8]) -> usize
 {
     let a = pick(run, row, nth);
     let part = picked(run, row, nth);
-    put_line(a, part, part.len(), line)
+    put_line(a, part, line)
 }
 
 // A case's bytes after its head.

@@ -9,7 +9,7 @@ use native.Mathlib.Numerals.{add-one}
 use native.Mathlib.Omega.{arith}
 use lib.Dec.{eqb}
 use lib.ListN.{length, getD, take, drop, drop-of-length-le, take-append-drop, length-drop, length-take, length-append}
-use lib.Seq.{slice, drop-cons, take-nil, take-length, take-append-seam, getD-drop, getD-take}
+use lib.Seq.{slice, drop-cons, take-nil, take-length, take-all, take-append-seam, getD-drop, getD-take}
 use borrow.Author.Tests.{eq-eqb, ne-eqb, eqb-true}
 use Rattle.text.specs.Lists.{same, LongestBeginning}
 use Rattle.text.specs.Words.{starts}
@@ -92,63 +92,70 @@ module _ (u v : List ℕ) (k : ℕ) where
     unfolding same
     same-stop e = rw (drop-cons u k 0, drop-cons v k 0, ne-eqb (getD u k 0) (getD v k 0) e)
 
--- ---- a loop that has compared k elements of two parts of one length
-
 pub part-room : (a b k : ℕ) (s : List ℕ) → k < length (slice a b s) → a + k < length s
 part-room a b k s h = omega (arith, part-length a b s)
 
-pub record Alike (s : List ℕ) (a b : ℕ) (t : List ℕ) (c d n k : ℕ) : Type 0 where
-  pub left : n ≡ length (slice a b s)
-  pub right : n ≡ length (slice c d t)
-  pub upto : k ≤ n
-  pub here : same (slice a b s) (slice c d t) ≡ same (drop k (slice a b s)) (drop k (slice c d t))
+-- ---- a loop that has compared k elements of two lists of one length
 
-module _ (s : List ℕ) (a b : ℕ) (t : List ℕ) (c d n : ℕ) where
-  pub alike-start : n ≡ length (slice a b s) → (m : ℕ) → m ≡ length (slice c d t) → n ≡ m → Alike s a b t c d n 0
-  alike-start e m f g = record { left = e; right = g ∙ f; upto = zero-le; here = refl }
+pub record Alike (s t : List ℕ) (n k : ℕ) : Type 0 where
+  pub left : n ≡ length s
+  pub right : n ≡ length t
+  pub here : same s t ≡ same (drop k s) (drop k t)
 
-  module _ (k : ℕ) (w : Alike s a b t c d n k) where
-    pub alike-end : n ≤ k → true ≡ same (slice a b s) (slice c d t)
-    alike-end h =
-        sym (w .here ∙ same-end (slice a b s) (slice c d t) k (omega (arith, w .left)) (omega (arith, w .right)))
+module _ (s t : List ℕ) (n : ℕ) where
+  pub alike-start : n ≡ length s → n ≡ length t → Alike s t n 0
+  alike-start e f = record { left = e; right = f; here = refl }
+
+  module _ (k : ℕ) (w : Alike s t n k) where
+    pub alike-end : n ≤ k → true ≡ same s t
+    alike-end h = sym (w .here ∙ same-end s t k (omega (arith, w .left)) (omega (arith, w .right)))
 
     module _ (h : k < n) where
-      in-left : k < length (slice a b s)
+      in-left : k < length s
       in-left = omega (arith, w .left)
 
-      in-right : k < length (slice c d t)
+      in-right : k < length t
       in-right = omega (arith, w .right)
 
-      pub alike-left : a + k < length s
-      alike-left = part-room a b k s in-left
+      pub alike-other : getD s k 0 ≢ getD t k 0 → false ≡ same s t
+      alike-other ne = sym (w .here ∙ same-stop s t k in-left in-right ne)
 
-      pub alike-right : c + k < length t
-      alike-right = part-room c d k t in-right
+      pub alike-again : getD s k 0 ≡ getD t k 0 → Alike s t n (k + 1)
+      alike-again e = record { left = w .left; right = w .right; here = w .here ∙ same-go s t k in-left in-right e }
 
-      pub alike-other : getD s (a + k) 0 ≢ getD t (c + k) 0 → false ≡ same (slice a b s) (slice c d t)
-      alike-other ne =
-          sym (w .here ∙ same-stop (slice a b s) (slice c d t) k in-left in-right (λ e. ne (sym (part-at a b k s in-left) ∙ e ∙ part-at c d k t in-right)))
+-- ---- a part cut out, as far as the list goes
 
-      pub alike-again : getD s (a + k) 0 ≡ getD t (c + k) 0 → Alike s a b t c d n (k + 1)
-      alike-again e =
-          record {
-            left = w .left;
-            right = w .right;
-            upto = omega arith;
-            here =
-                w .here
-                ∙ same-go (slice a b s) (slice c d t) k in-left in-right (part-at a b k s in-left ∙ e ∙ sym (part-at c d k t in-right));
-          }
+take-least : (b : ℕ) (s : List ℕ) (n : ℕ) → n ≡ min b (length s) → take n s ≡ take b s
+take-least b [] n e = take-nil n ∙ sym (take-nil b)
+take-least zero (x ∷ s) n e = let z : n ≡ 0 = omega (arith, e) in rw z
+take-least (suc b) (x ∷ s) n e =
+    let p : n ≡ suc (min b (length s)) = omega (arith, e) in
+    rw p (ap (λ (t : List ℕ). x ∷ t) (take-least b s (min b (length s)) refl))
 
--- ---- a word at a place, by the part that is as long
+module _ (a b n : ℕ) (s : List ℕ) (e : n ≡ min b (length s)) where
+  pub part-empty : n < a → [] ≡ slice a b s
+  part-empty h = sym (drop-of-length-le (take b s) {i = a} (omega (arith, length-take b s, e)))
 
-pub part-word : (w s : List ℕ) (i : ℕ) → same (slice 0 (length w) w) (slice i (i + length w) s) ≡ starts w (drop i s)
-unfolding starts
-part-word w s i = rw (take-length w, part-take i (length w) s)
+  pub part-cut : a ≤ n → take (n - a) (drop a s) ≡ slice a b s
+  part-cut h =
+      let f : a + (n - a) ≡ n = omega arith in
+      sym (part-take a (n - a) s) ∙ ap (λ (m : ℕ). slice a m s) f ∙ ap (drop a) (take-least b s n e)
 
-pub word-short : (w s : List ℕ) (i n : ℕ) → n ≡ length (slice i (length s) s) → n < length w → false ≡ starts w (drop i s)
-word-short w s i n e h =
-    sym (starts-short w (drop i s) (omega (arith, part-length i (length s) s, length-drop i s)))
+pub part-past : (a b : ℕ) (s : List ℕ) → length s ≤ b → slice a (length s) s ≡ slice a b s
+part-past a b s h = ap (drop a) (take-length s ∙ sym (take-all b s h))
+
+-- ---- a word at a place, by what there is from there on
+
+module _ (w s t : List ℕ) (i : ℕ) (e : t ≡ slice i (length s) s) where
+  rest-is : t ≡ drop i s
+  rest-is = e ∙ ap (drop i) (take-length s)
+
+  pub rest-word : same w (take (length w) t) ≡ starts w (drop i s)
+  unfolding starts
+  rest-word = ap (λ (u : List ℕ). same w (take (length w) u)) rest-is
+
+  pub rest-short : length t < length w → false ≡ starts w (drop i s)
+  rest-short h = sym (starts-short w (drop i s) (omega (arith, ap length rest-is)))
 
 -- ---- the longest beginning of a kind is one
 

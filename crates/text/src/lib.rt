@@ -3,5 +3,5 @@
 pub mod class; // class.rt: bytes by class
 pub mod span; // span.rt: how far a class reaches
 pub mod chunk; // chunk.rt: bytes as one number
-pub mod part; // part.rt: parts of slices, compared
+pub mod part; // part.rt: parts of slices, cut out and compared
 pub mod width; // width.rt: how many bytes a number has

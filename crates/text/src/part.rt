@@ -1,4 +1,4 @@
-// Parts of slices, compared. A part is what lies between two places, as far as the slice goes; past its end, or backwards, it is empty.
+// Parts of slices, cut out and compared. A part is what lies between two places, as far as the slice goes; past its end, or backwards, it is empty.
 
 ghost use mathlib.Core.Path.{_≡_};
 ghost use Prim.Native.Nat.{min};
@@ -27,17 +27,28 @@ pub fn part_len(s: &[u8], a: usize, b: usize) -> usize
     end - a
 }
 
-// Whether s from a to b is t from c to d.
-pub fn same_part(s: &[u8], a: usize, b: usize, t: &[u8], c: usize, d: usize) -> bool
-    ensures { λ r. ⌜ r ≡ same (slice a b (now (s .entry))) (slice c d (now (t .entry))) ⌝ }
+// The part of s from a up to b, as far as s reaches.
+pub fn part_of(s: &[u8], a: usize, b: usize) -> &[u8]
+    ensures { λ r. ⌜ now r ≡ slice a b (now (s .entry)) ⌝ }
 {
-    let n = part_len(s, a, b);
-    if n != part_len(t, c, d) {
+    let end = least(b, s.len());
+    if end < a {
+        return &s[0..0];
+    }
+    &s[a..end]
+}
+
+// Whether two slices have the same bytes.
+pub fn same(s: &[u8], t: &[u8]) -> bool
+    ensures { λ r. ⌜ r ≡ same (now (s .entry)) (now (t .entry)) ⌝ }
+{
+    let n = s.len();
+    if n != t.len() {
         return false;
     }
     let mut k = 0;
     while k < n {
-        if s[a + k] != t[c + k] {
+        if s[k] != t[k] {
             return false;
         }
         k += 1;
@@ -50,8 +61,9 @@ pub fn begins(s: &[u8], at: usize, word: &[u8]) -> bool
     ensures { λ r. ⌜ r ≡ starts (now (word .entry)) (drop at (now (s .entry))) ⌝ }
 {
     let n = word.len();
-    if part_len(s, at, s.len()) < n {
+    let rest = part_of(s, at, s.len());
+    if rest.len() < n {
         return false;
     }
-    same_part(word, 0, n, s, at, at + n)
+    same(word, part_of(rest, 0, n))
 }

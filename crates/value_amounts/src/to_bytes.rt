@@ -6,31 +6,21 @@ use value::packed::AMOUNT_SIZE;
 use value::packed::COEFFICIENT;
 use value::packed::SCALE;
 use value_codes::ccy::is_ccy;
-use value_shared::blanks::part_of;
 use value_shared::place::has_room;
 use value_shared::place::place;
-ghost use lib.Seq.{slice};
 ghost use Rattle.value.specs.given.Wrote.{AmountPut};
 
-// The currency is s from c up to d; nothing is written where it is none.
-pub fn write_amount(
-    s: &[u8],
-    c: usize,
-    d: usize,
-    out: &mut [u8],
-    at: usize,
-    coefficient: u64,
-    scale: u8,
-) -> usize
-    ensures { λ r. ⌜ AmountPut (slice c d (now (s .entry))) scale coefficient (now (out .entry)) at r (now (out .exit)) ⌝ }
+// The currency comes as a text; nothing is written where it is none.
+pub fn write_amount(ccy: &[u8], out: &mut [u8], at: usize, coefficient: u64, scale: u8) -> usize
+    ensures { λ r. ⌜ AmountPut (now (ccy .entry)) scale coefficient (now (out .entry)) at r (now (out .exit)) ⌝ }
 {
-    if !is_ccy(part_of(s, c, d)) {
+    if !is_ccy(ccy) {
         return 0;
     }
     if !has_room(out.len(), at, AMOUNT_SIZE) {
         return AMOUNT_SIZE;
     }
-    copy(s, c, d, out, at);
+    copy(ccy, 0, ccy.len(), out, at);
     place(out, at + SCALE, scale);
     put64(out, at + COEFFICIENT, coefficient);
     AMOUNT_SIZE

@@ -4,7 +4,6 @@ use text_bytes::number::copy;
 use text_bytes::number::put16;
 use text_characters::piece::next_char;
 use value::packed::MOST_BYTES;
-use value_shared::blanks::part_of;
 use value_shared::place::has_room;
 use value_shared::place::place;
 ghost use mathlib.Core.Path.{_≡_};
@@ -14,7 +13,6 @@ ghost use Rattle.text.specs.Lists.{span};
 ghost use Rattle.value.specs.mirror.Runs.{isOwn, Roomy, CharsPut};
 ghost use Rattle.value.specs.Value.{bytes};
 ghost use Rattle.value.specs.mirror.Puts.{textSize, Counts, TextPut};
-ghost use lib.Seq.{slice};
 
 // Where the next entity begins, or the end.
 fn run_end(t: &[u8], at: usize) -> usize
@@ -60,10 +58,10 @@ pub(crate) fn text_size(n: usize) -> usize
     2 + n
 }
 
-// The text that s spells from a up to b, whose characters have n bytes.
-pub(crate) fn write_text(s: &[u8], a: usize, b: usize, n: usize, out: &mut [u8], at: usize) -> usize
-    requires { ⌜ Counts (slice a b (now s)) n ⌝ }
-    ensures { λ r. ⌜ TextPut (slice a b (now (s .entry))) n (now (out .entry)) at r (now (out .exit)) ⌝ }
+// The text that t spells, whose characters have n bytes.
+pub(crate) fn write_text(t: &[u8], n: usize, out: &mut [u8], at: usize) -> usize
+    requires { ⌜ Counts (now t) n ⌝ }
+    ensures { λ r. ⌜ TextPut (now (t .entry)) n (now (out .entry)) at r (now (out .exit)) ⌝ }
 {
     let size = text_size(n);
     if size == 0 {
@@ -73,6 +71,6 @@ pub(crate) fn write_text(s: &[u8], a: usize, b: usize, n: usize, out: &mut [u8],
         return size;
     }
     put16(out, at, n as u16);
-    put_chars(part_of(s, a, b), out, at + 2);
+    put_chars(t, out, at + 2);
     size
 }

@@ -10,12 +10,10 @@ use value_dates::day::day;
 use value_dates::moment::moment;
 use value_numbers::from_text::natural;
 use value_numbers::from_text::truth;
-use value_shared::blanks::part_of;
 use value_shared::blanks::trimmed;
 use value_texts::from_text::spelled;
 ghost use mathlib.Core.Path.{_≡_};
 ghost use Rattle.value.specs.Judged.{codedOf, Checked};
-ghost use lib.Seq.{slice};
 
 // The numbers of the kinds, each a byte here.
 const REF: u8 = table::REF as u8;
@@ -46,11 +44,10 @@ fn coded(good: bool, n: usize) -> Judged
     Judged::Refused
 }
 
-// The raw text of s from a up to b, as a value of the kind with this number, but for ENUM, whose words its list knows; k is TXTk's.
-pub fn check(kind: u8, k: usize, s: &[u8], a: usize, b: usize) -> Judged
-    ensures { λ r. ⌜ Checked kind k (slice a b (now (s .entry))) r ⌝ }
+// A raw text, as a value of the kind with this number, but for ENUM, whose words its list knows; k is TXTk's.
+pub fn check(kind: u8, k: usize, t: &[u8]) -> Judged
+    ensures { λ r. ⌜ Checked kind k (now (t .entry)) r ⌝ }
 {
-    let t = part_of(s, a, b);
     match kind {
         REF => spelled(t, true, MOST_REF),
         TXT => spelled(t, false, k),

@@ -13,14 +13,13 @@ use value_dates_stored::to_bytes::write_day;
 use value_dates_stored::to_bytes::write_moment;
 use value_numbers::to_bytes::write_natural;
 use value_numbers::to_bytes::write_truth;
-ghost use lib.Seq.{slice};
 ghost use Rattle.value.specs.given.Giving.{Sized, Written};
 
-// How many bytes the value has that s spells from a up to b; 0 where it spells none. An amount has as many whatever its currency.
-pub fn size(kind: u8, k: usize, s: &[u8], a: usize, b: usize) -> usize
-    ensures { λ r. ⌜ Sized kind k (slice a b (now (s .entry))) r ⌝ }
+// How many bytes the value has that t spells; 0 where it spells none. An amount has as many whatever its currency.
+pub fn size(kind: u8, k: usize, t: &[u8]) -> usize
+    ensures { λ r. ⌜ Sized kind k (now (t .entry)) r ⌝ }
 {
-    match check(kind, k, s, a, b) {
+    match check(kind, k, t) {
         Judged::Refused => 0,
         Judged::Text(n) => text_size(n),
         Judged::Truth(_) => 1,
@@ -31,27 +30,17 @@ pub fn size(kind: u8, k: usize, s: &[u8], a: usize, b: usize) -> usize
     }
 }
 
-// Writes the value that s spells from a up to b, its currency from c up to d, at a place of the buffer, and answers how many bytes it
-// has; 0 where it spells none.
-pub fn write(
-    kind: u8,
-    k: usize,
-    s: &[u8],
-    a: usize,
-    b: usize,
-    c: usize,
-    d: usize,
-    out: &mut [u8],
-    at: usize,
-) -> usize
-    ensures { λ r. ⌜ Written kind k (slice c d (now (s .entry))) (slice a b (now (s .entry))) (now (out .entry)) at r (now (out .exit)) ⌝ }
+// Writes the value that t spells, an amount with this currency, at a place of the buffer, and answers how many bytes it has; 0 where it
+// spells none.
+pub fn write(kind: u8, k: usize, t: &[u8], ccy: &[u8], out: &mut [u8], at: usize) -> usize
+    ensures { λ r. ⌜ Written kind k (now (ccy .entry)) (now (t .entry)) (now (out .entry)) at r (now (out .exit)) ⌝ }
 {
-    match check(kind, k, s, a, b) {
+    match check(kind, k, t) {
         Judged::Refused => 0,
-        Judged::Text(n) => write_text(s, a, b, n, out, at),
+        Judged::Text(n) => write_text(t, n, out, at),
         Judged::Truth(yes) => write_truth(out, at, yes),
         Judged::Natural(n) => write_natural(out, at, n),
-        Judged::Amount(coefficient, scale) => write_amount(s, c, d, out, at, coefficient, scale),
+        Judged::Amount(coefficient, scale) => write_amount(ccy, out, at, coefficient, scale),
         Judged::Day(year, month, day) => write_day(out, at, year, month, day),
         Judged::Moment(moment) => write_moment(out, at, moment),
     }

@@ -75,10 +75,10 @@ passed-met t i p e =
 -- ---- what is told
 
 pub told : (kind k : ℕ) (s t : List ℕ) (at e n : ℕ) (b : Bool) (r : Found) → e ≡ at + span isInside (drop at s) → t ≡ slice at e s → CutTold t b → b ≡ false
-    → Sized kind k (slice at e s) n → r ≡ foundOf e n → Leafed kind k s at r
+    → Sized kind k t n → r ≡ foundOf e n → Leafed kind k s at r
 told kind k s t at e n b r d q c f z i =
     subst (Leafed kind k s at) (sym i)
-    (record { ends = d; weighs = record { whole = λ u. z; cut = λ u. absurd (u (subst Uncut q (c .no f))) } })
+    (record { ends = d; weighs = record { whole = λ u. subst (λ (w : List ℕ). Sized kind k w n) q z; cut = λ u. absurd (u (subst Uncut q (c .no f))) } })
 
 pub told-cut : (kind k : ℕ) (s t : List ℕ) (at e : ℕ) (b : Bool) (r : Found) → e ≡ at + span isInside (drop at s) → t ≡ slice at e s → CutTold t b → b ≡ true
     → r ≡ foundOf e 0 → Leafed kind k s at r

@@ -3,8 +3,8 @@
 use crate::found::Found;
 use crate::found::tell;
 use text::part::begins;
+use text::part::part_of;
 use value_kinds::write::size;
-use value_shared::blanks::part_of;
 ghost use mathlib.Core.Path.{_≡_};
 ghost use mathlib.Core.Logic.{_≢_};
 ghost use Prim.Native.Nat.{_+_};
@@ -47,10 +47,11 @@ pub fn slow(kind: u8, k: usize, s: &[u8], at: usize) -> Found
     ensures { λ r. ⌜ Leafed kind k (now (s .entry)) at r ⌝ }
 {
     let end = text_end(s, at);
-    if is_cut(part_of(s, at, end)) {
+    let t = part_of(s, at, end);
+    if is_cut(t) {
         return tell(end, 0);
     }
-    tell(end, size(kind, k, s, at, end))
+    tell(end, size(kind, k, t))
 }
 
 // A text of another kind: none of their values has `]` or `>`.
@@ -58,5 +59,5 @@ pub fn plain(kind: u8, k: usize, s: &[u8], at: usize) -> Found
     ensures { λ r. ⌜ (kind ≢ 2 → kind ≢ code (txt k) → Leafed kind k (now (s .entry)) at r) ⌝ }
 {
     let end = text_end(s, at);
-    tell(end, size(kind, k, s, at, end))
+    tell(end, size(kind, k, part_of(s, at, end)))
 }

@@ -1,28 +1,10 @@
-// A part of a text, and what is left of one that loses its blanks.
+// What is left of a text that loses its blanks.
 
 use text::class::is_blank;
 use text::span::blanks_end;
-ghost use mathlib.Core.Path.{_≡_};
 ghost use Prim.Native.Nat.{_-_, _<_, _≤_};
-ghost use lib.Seq.{slice};
 ghost use lib.ListN.{length};
 ghost use Rattle.value.specs.decided.Trim.{InkEnd, Trim};
-
-// The part of s from a up to b, as far as s reaches.
-pub fn part_of(s: &[u8], a: usize, b: usize) -> &[u8]
-    ensures { λ r. ⌜ now r ≡ slice a b (now (s .entry)) ⌝ }
-{
-    if s.len() < b {
-        if s.len() < a {
-            return &s[0..0];
-        }
-        return &s[a..];
-    }
-    if b < a {
-        return &s[0..0];
-    }
-    &s[a..b]
-}
 
 // Where the last character from `lo` on stands that is no blank: the place after it, `lo` where there is none.
 fn ink_end(s: &[u8], lo: usize) -> usize

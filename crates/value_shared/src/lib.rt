@@ -1,3 +1,3 @@
 // What the code of several types shares.
-pub mod blanks; // blanks.rt: a part of a text, and blanks at both ends
+pub mod blanks; // blanks.rt: blanks at both ends
 pub mod place; // place.rt: a byte of a slice, a byte into a lent buffer

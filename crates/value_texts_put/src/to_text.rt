@@ -1,16 +1,18 @@
 // The bytes of a text, `&`, `<` and `>` by entities: what stands between two of them is copied as it stands.
 
+use text::part::part_of;
 use text::span::TURN;
 use text::span::TURN_REST;
 use text_bytes::number::copy;
 use text_bytes::number::get16;
-use value_shared::blanks::part_of;
 ghost use mathlib.Core.Path.{_≡_};
 ghost use mathlib.Core.Bool.{true};
 ghost use Rattle.value.specs.script.Raw.{isPlain, escape, escaped, isMarked};
 ghost use Prim.Native.Nat.{_+_, _≤_};
-ghost use lib.ListN.{drop, length};
+ghost use lib.ListN.{drop, length, take};
+ghost use lib.Seq.{slice};
 ghost use Rattle.text.specs.Lists.{span};
+ghost use Rattle.text.specs.Numbers.{number};
 ghost use Rattle.text.specs.Pasting.{pasted};
 ghost use lib.Dec.{leb};
 ghost use Rattle.value.specs.mirror.Stored.{textRaw};
@@ -179,9 +181,22 @@ pub(crate) fn write_chars(t: &[u8], out: &mut [u8], at: usize) -> usize
     spread(t, out, at) - at
 }
 
+// The bytes of a text that stands at the start of b, as many as its first two bytes say, or as there are. Mostly they are there: this is
+// the branch to go by, since the least of two lengths costs the writer one instruction in a hundred.
+fn text_of(b: &[u8]) -> &[u8]
+    ensures is { λ r. ⌜ now r ≡ slice 2 (2 + number (take 2 (now (b .entry)))) (now (b .entry)) ⌝ }
+    ensures most { λ r. ⌜ length (now r) ≤ longestText ⌝ }
+{
+    let end = 2 + (get16(b, 0) as usize);
+    if b.len() < end {
+        return part_of(b, 2, b.len());
+    }
+    &b[2..end]
+}
+
 // REF, TXT, IBAN, CCY: as long as the first two bytes say.
 pub fn write_text(b: &[u8], out: &mut [u8], at: usize) -> usize
     ensures { λ r. ⌜ (r ≡ length (textRaw (now (b .entry)))) × ((r ≤ longestRaw) × (now (out .exit) ≡ pasted (now (out .entry)) at (textRaw (now (b .entry))))) ⌝ }
 {
-    write_chars(part_of(b, 2, 2 + (get16(b, 0) as usize)), out, at)
+    write_chars(text_of(b), out, at)
 }

@@ -1,6 +1,7 @@
 // An attribute, whose name is none of those before it.
 use text::class::is_name_start;
-use text::part::same_part;
+use text::part::part_of;
+use text::part::same;
 use text::span::blanks_end;
 use xml_pieces::Went;
 use xml_pieces::piece::piece;
@@ -9,7 +10,6 @@ use xml_pieces::run::run_end;
 ghost use mathlib.Core.Path.{_≡_};
 ghost use Prim.Native.Nat.{_≤_, _<_};
 ghost use lib.ListN.{length, getD};
-ghost use lib.Seq.{slice};
 ghost use mathlib.Core.Bool.{true};
 ghost use Rattle.text.specs.Bytes.{isNameStart};
 ghost use Rattle.xml.specs.mirror.Auto.{member};
@@ -63,24 +63,23 @@ fn equals(s: &[u8], at: usize) -> Went
     }
 }
 
-// Whether the name from a to e is one of the first n, which stand from from[k] to to[k].
+// Whether a name is one of the first n, which stand from from[k] to to[k].
 fn seen(
     s: &[u8],
     from: &[usize; MOST_ATTRIBUTES],
     to: &[usize; MOST_ATTRIBUTES],
     n: usize,
-    a: usize,
-    e: usize,
+    name: &[u8],
 ) -> bool
     requires { ⌜ n ≤ 4 ⌝ }
-    ensures { λ r. ⌜ r ≡ member (slice a e (now (s .entry))) (names (now (s .entry)) (now (from .entry)) (now (to .entry)) n) ⌝ }
+    ensures { λ r. ⌜ r ≡ member (now (name .entry)) (names (now (s .entry)) (now (from .entry)) (now (to .entry)) n) ⌝ }
 {
     let mut k = n;
     while 0 < k {
         k -= 1;
         let f = from[k];
         let t = to[k];
-        if same_part(s, a, e, s, f, t) {
+        if same(name, part_of(s, f, t)) {
             return true;
         }
     }
@@ -132,7 +131,7 @@ pub(crate) fn attribute(
     match full_name(s, at, classes) {
         Went::Stopped(p) => Went::Stopped(p),
         Went::On(e) => {
-            if seen(s, from, to, n, at, e) {
+            if seen(s, from, to, n, part_of(s, at, e)) {
                 return Went::Stopped(e);
             }
             from[n] = at;

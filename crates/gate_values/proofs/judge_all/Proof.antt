@@ -56,6 +56,12 @@ returns-3 c = search needs
 add-end : tie.Need-add-end Inv-loop μ-loop
 add-end c = search needs
 
+part-of-requires : tie.Need-part-of-requires Inv-loop μ-loop
+part-of-requires c κs = search needs
+
+part-of-requires-2 : tie.Need-part-of-requires-2 Inv-loop μ-loop
+part-of-requires-2 c κs = search needs
+
 shared-slice-read-judge : tie.Need-shared-slice-read-judge Inv-loop μ-loop
 shared-slice-read-judge c = search needs
 
@@ -98,6 +104,8 @@ judge-all-spec =
     sub-if3
     returns-3
     add-end
+    part-of-requires
+    part-of-requires-2
     shared-slice-read-judge
     add-judge
     shared-slice-read-judge-2

@@ -10,8 +10,11 @@ slice-aggregate-put64 c = search needs
 put64-requires : tie.Need-put64-requires
 put64-requires c κs = search needs
 
-slice-aggregate-put-answer : tie.Need-slice-aggregate-put-answer
-slice-aggregate-put-answer c = search needs
+slice-aggregate-part-of : tie.Need-slice-aggregate-part-of
+slice-aggregate-part-of c = search needs
+
+part-of-requires : tie.Need-part-of-requires
+part-of-requires c κs = search needs
 
 put-answer-requires : tie.Need-put-answer-requires
 put-answer-requires c κs = search needs
@@ -21,10 +24,14 @@ same-length c = search needs
 
 returns : tie.Need-returns
 returns c =
-    let at-put64 = c .before .before .before .before .before .before in
+    let at-put-answer = c .before .before in
+    let at-part-of = at-put-answer .before .before in
+    let at-put64 = at-part-of .before .before .before in
     let o = at-put64 .before .before .before in
-    let p = c .before .before .put-answer in
-    (counted (o .args .a) (o .args .count) _ (at-put64 .put64 .ensures) _ _ _ (p .ensures .0), counted-most (o .args .a) (o .args .count) _ (at-put64 .put64 .ensures) (p .ensures .1))
+    let p = at-put-answer .put-answer in
+    let f = at-put64 .put64 .ensures in
+    let q = at-part-of .part-of .ensures in
+    (counted (o .args .a) (o .args .count) _ f _ q _ _ _ (p .ensures .0), counted-most (o .args .a) (o .args .count) _ f _ q (p .ensures .1))
 
 pub put-count-spec : {M : Type 1} → statement M
 put-count-spec =
@@ -32,7 +39,8 @@ put-count-spec =
     (tie.spec
     slice-aggregate-put64
     put64-requires
-    slice-aggregate-put-answer
+    slice-aggregate-part-of
+    part-of-requires
     put-answer-requires
     same-length
     returns)

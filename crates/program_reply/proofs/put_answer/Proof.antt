@@ -1,7 +1,6 @@
 -- `program_reply::put_answer` meets its contract: the line whole, or nothing. Assumes nothing.
 use native.Mathlib.Omega.{arith}
 use lib.ListN.{length}
-use lib.Seq.{slice}
 use borrow.Author.Needs.{needs}
 use Rattle.program_reply.specs.Reply.{answerLine}
 use Rattle.program_reply.proofs.Replies.{length-answer, answer-most, put-whole, put-none}
@@ -20,37 +19,35 @@ add-n c = search needs
 returns : tie.Need-returns
 returns c =
     let o = c .before .before .before .before .before .before in
-    let p = slice (o .args .from) (o .args .to) (o .args .s .now) in
+    let p = o .args .s .now in
     (put-none (answerLine (o .args .a) p) (o .args .out .now) (omega (arith, c .before .before .put-numbers .ensures .0, length-answer (o .args .a) p)), answer-most (o .args .a) p (omega (arith, c .before .before .put-numbers .ensures .0, c .before .before .put-numbers .ensures .1 .0)))
 
 sub-if2 : tie.Need-sub-if2
 sub-if2 c = search needs
 
-part-len-requires : tie.Need-part-len-requires
-part-len-requires c κs = search needs
-
 returns-2 : tie.Need-returns-2
 returns-2 c =
-    let o = c .before .before .before .before .before .before .before .before in
-    let p = slice (o .args .from) (o .args .to) (o .args .s .now) in
-    (put-none (answerLine (o .args .a) p) (o .args .out .now) (omega (arith, c .before .before .before .before .put-numbers .ensures .0, c .before .part-len .ensures, length-answer (o .args .a) p)), answer-most (o .args .a) p (omega (arith, c .before .before .before .before .put-numbers .ensures .0, c .before .before .before .before .put-numbers .ensures .1 .0)))
+    let at-put-numbers = c .before .before .before in
+    let o = at-put-numbers .before .before .before .before in
+    let p = o .args .s .now in
+    (put-none (answerLine (o .args .a) p) (o .args .out .now) (omega (arith, at-put-numbers .put-numbers .ensures .0, length-answer (o .args .a) p)), answer-most (o .args .a) p (omega (arith, at-put-numbers .put-numbers .ensures .0, at-put-numbers .put-numbers .ensures .1 .0)))
 
 spread-answer-requires : tie.Need-spread-answer-requires
 spread-answer-requires c κs =
-    let o = c .before .before .before .before .before .before .before .before .before in
-    omega (arith, c .before .before .before .before .before .put-numbers .ensures .0, c .before .before .part-len .ensures, length-answer (o .args .a) (slice (o .args .from) (o .args .to) (o .args .s .now)))
+    let at-put-numbers = c .before .before .before .before in
+    let o = at-put-numbers .before .before .before .before in
+    omega (arith, at-put-numbers .put-numbers .ensures .0, length-answer (o .args .a) (o .args .s .now))
 
 same-length : tie.Need-same-length
 same-length c = search needs
 
 returns-3 : tie.Need-returns-3
 returns-3 c =
-    let o = c .before .before .before .before .before .before .before .before .before .before .before .before in
-    let p = slice (o .args .from) (o .args .to) (o .args .s .now) in
     let at-spread-answer = c .before .before in
-    let at-part-len = at-spread-answer .before .before .before in
-    let at-put-numbers = at-part-len .before .before .before in (
-      put-whole (answerLine (o .args .a) p) (o .args .out .now) (at-spread-answer .spread-answer .result) _ (omega (arith, at-put-numbers .put-numbers .ensures .0, at-part-len .part-len .ensures, length-answer (o .args .a) p)) (at-spread-answer .spread-answer .ensures .0) (at-spread-answer .spread-answer .ensures .1),
+    let at-put-numbers = at-spread-answer .before .before .before .before .before in
+    let o = at-put-numbers .before .before .before .before in
+    let p = o .args .s .now in (
+      put-whole (answerLine (o .args .a) p) (o .args .out .now) (at-spread-answer .spread-answer .result) _ (omega (arith, at-put-numbers .put-numbers .ensures .0, length-answer (o .args .a) p)) (at-spread-answer .spread-answer .ensures .0) (at-spread-answer .spread-answer .ensures .1),
       answer-most (o .args .a) p (omega (arith, at-put-numbers .put-numbers .ensures .0, at-put-numbers .put-numbers .ensures .1 .0)),
     )
 
@@ -63,7 +60,6 @@ put-answer-spec =
     add-n
     returns
     sub-if2
-    part-len-requires
     returns-2
     spread-answer-requires
     same-length

@@ -3,7 +3,6 @@ use mathlib.Core.Path.{refl}
 use Prim.Native.Nat.{_+_}
 use native.Mathlib.Omega.{arith}
 use lib.ListN.{length}
-use lib.Seq.{take-length}
 use borrow.Author.Needs.{needs}
 use Rattle.program_reply.proofs.Replies.{length-pair, paired}
 use Rattle.program_reply.proofs.spread_pair.Statement.{statement}
@@ -99,8 +98,6 @@ returns c =
             at-put .put .ensures,
             at-copy .copy .ensures,
             n .ensures .1 .1,
-            take-length s,
-            take-length t,
           )
           (paired (o .args .a) s t (o .args .out .now) (n .result) mark (mark + 1 + length t + length t) (n .ensures .0) refl refl
           (omega (arith, n .ensures .0, o .pre))),

@@ -42,10 +42,6 @@ room-past len at n h = (λ e. absurd (true≢false (sym e)), λ k. absurd (omega
 pub fits : {P : Type 0} (b : Bool) → Exactly b P → not b ≡ false → P
 fits b x f = x .0 (not-false b f)
 
--- what is said of a part is said of where it stands
-pub of-part : {r : Bool} {t u : List ℕ} → t ≡ u → Exactly r (Ccy t) → Exactly r (Ccy u)
-of-part {r} e x = subst (λ (l : List ℕ). Exactly r (Ccy l)) e x
-
 pub no-room : (d : List ℕ) (at n : ℕ) (b : Bool) → Exactly b (at + n ≤ length d) → (bs : List ℕ) → n ≡ length bs → not b ≡ true → Wrote d at bs n d
 no-room d at n b x bs e g =
     let h : at + n ≤ length d → ⊥ = λ k. true≢false (sym (x .1 k) ∙ not-true b g) in

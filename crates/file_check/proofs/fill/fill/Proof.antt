@@ -35,14 +35,14 @@ turning c = record {
 
 abbrev opening : tie.After-is-group Inv-loop μ-loop → AtOpening
 opening c = record {
-  turn = turning (c .before .before .before .before .before .before);
+  turn = turning (c .before .before .before .before .before .before .before);
   c = _;
-  closes = c .before .before .before .before .before .is-close .ensures;
-  opens = c .before .before .before .before .if1 .left;
+  closes = c .before .before .before .before .before .before .is-close .ensures;
+  opens = c .before .before .before .before .before .if1 .left;
   tag = _;
-  reads = c .before .before .before .tag-at .ensures;
+  reads = c .before .before .before .before .tag-at .ensures;
   r = _;
-  names = c .before .before .row-of .ensures;
+  names = rw (c .before .before .before .part-of .ensures) at (c .before .before .row-of .ensures);
   v = _;
   kind = c .before .cell2 .ensures;
   g = _;
@@ -129,9 +129,13 @@ tag-at-requires : tie.Need-tag-at-requires Inv-loop μ-loop
 tag-at-requires c κs =
     search needs
 
+part-of-requires : tie.Need-part-of-requires Inv-loop μ-loop
+part-of-requires c κs =
+    search needs
+
 row-of-requires : tie.Need-row-of-requires Inv-loop μ-loop
 row-of-requires c κs =
-    fill-comes (turning (c .before .before .before)) _ (c .before .before .is-close .ensures) (c .before .if1 .left) _ (c .tag-at .ensures)
+    rw (c .part-of .ensures) (fill-comes (turning (c .before .before .before .before)) _ (c .before .before .before .is-close .ensures) (c .before .before .if1 .left) _ (c .before .tag-at .ensures))
 
 cell-requires-2 : tie.Need-cell-requires-2 Inv-loop μ-loop
 cell-requires-2 c κs =
@@ -151,7 +155,7 @@ place-requires-2 c κs =
 
 add-at : tie.Need-add-at Inv-loop μ-loop
 add-at c =
-    omega (arith, fill-low (turning (c .before .before .before .before .before .before .before .before .before .before .before)))
+    omega (arith, fill-low (turning (c .before .before .before .before .before .before .before .before .before .before .before .before)))
 
 stand-requires-3 : tie.Need-stand-requires-3 Inv-loop μ-loop
 stand-requires-3 c κs =
@@ -221,6 +225,7 @@ fill-spec =
     loop-less
     loop-again
     tag-at-requires
+    part-of-requires
     row-of-requires
     cell-requires-2
     is-group-requires

@@ -18,19 +18,31 @@ place-requires c κs = search needs
 cell-requires : tie.Need-cell-requires
 cell-requires c κs = search needs
 
+part-of-requires : tie.Need-part-of-requires
+part-of-requires c κs = search needs
+
+part-of-requires-2 : tie.Need-part-of-requires-2
+part-of-requires-2 c κs = search needs
+
 add-put-value : tie.Need-add-put-value
 add-put-value c = search needs
 
 put-value-requires : tie.Need-put-value-requires
 put-value-requires c κs =
-    (c .before .cell .ensures, leaf-kind _ false (sym (ap isGroupIn (c .before .cell .ensures) ∙ c .before .before .before .before .before .before .before .before .before .before .pre .2)) refl)
+    (c .before .before .before .cell .ensures, leaf-kind _ false (sym (ap isGroupIn (c .before .before .before .cell .ensures) ∙ c .before .before .before .before .before .before .before .before .before .before .before .before .pre .2)) refl)
 
 same-length : tie.Need-same-length
 same-length c = search needs
 
 returns : tie.Need-returns
 returns c =
-    shuts-none _ _ _ refl false (sym (c .before .before .before .before .before .before .before .before .before .before .before .before .before .before .pre .2)) _ _ _ _ _ _ (λ l v. bytes-some v) refl _ refl _ (c .before .before .before .before .before .before .before .before .place .ensures) _ _ (c .before .before .before .put-value .ensures) (c .if1 .taken)
+    let at-put-value = c .before .before .before in
+    let at-part-of2 = at-put-value .before .before in
+    let at-part-of = at-part-of2 .before in
+    let at-place = at-part-of .before .before .before .before in
+    let start = at-place .before .before .before .before .before .before in
+    shuts-none _ _ _ refl false (sym (start .pre .2)) _ _ _ _ _ _ (λ l v. bytes-some v) refl _ refl _ (at-place .place .ensures) _ _
+    (rw (at-part-of .part-of .ensures, at-part-of2 .part-of2 .ensures) at (at-put-value .put-value .ensures)) (c .if1 .taken)
 
 add-result : tie.Need-add-result
 add-result c = search needs
@@ -43,7 +55,13 @@ same-length-2 c = search needs
 
 returns-2 : tie.Need-returns-2
 returns-2 c =
-    shuts-some _ _ _ refl false (sym (c .before .before .before .before .before .before .before .before .before .before .before .before .before .before .pre .2)) _ _ _ _ _ _ (λ l v. bytes-some v) refl _ refl _ (c .before .before .before .before .before .before .before .before .place .ensures) _ _ (c .before .before .before .put-value .ensures) (c .if1 .left)
+    let at-put-value = c .before .before .before in
+    let at-part-of2 = at-put-value .before .before in
+    let at-part-of = at-part-of2 .before in
+    let at-place = at-part-of .before .before .before .before in
+    let start = at-place .before .before .before .before .before .before in
+    shuts-some _ _ _ refl false (sym (start .pre .2)) _ _ _ _ _ _ (λ l v. bytes-some v) refl _ refl _ (at-place .place .ensures) _ _
+    (rw (at-part-of .part-of .ensures, at-part-of2 .part-of2 .ensures) at (at-put-value .put-value .ensures)) (c .if1 .left)
 
 pub put-leaf-spec : {M : Type 1} → statement M
 put-leaf-spec =
@@ -52,6 +70,8 @@ put-leaf-spec =
     cast-place
     place-requires
     cell-requires
+    part-of-requires
+    part-of-requires-2
     add-put-value
     put-value-requires
     same-length

@@ -12,7 +12,7 @@ same-length c = search needs
 
 returns : tie.Need-returns
 returns c =
-    valued-word _ _ _ _ (c .before .before .before .before .before .before .before .before .before .pre .0) _ _ _ _ _ _ (c .before .before .put-word .ensures) (c .before .before .before .before .if1 .taken)
+    valued-word _ _ _ _ (c .before .before .before .before .before .before .before .before .before .before .pre .0) _ _ _ _ _ _ (c .before .before .put-word .ensures) (c .before .before .before .before .if1 .taken)
 
 cell-requires : tie.Need-cell-requires
 cell-requires c κs = search needs
@@ -28,7 +28,7 @@ same-length-2 c = search needs
 
 returns-2 : tie.Need-returns-2
 returns-2 c =
-    valued-written _ _ _ _ (c .before .before .before .before .before .before .before .before .before .before .pre .0) _ _ _ _ (c .before .before .before .before .before .if1 .left) _ _ (c .before .before .before .before .cell .ensures) _ (c .before .before .write .ensures)
+    valued-written _ _ _ _ (c .before .before .before .before .before .before .before .before .before .before .before .pre .0) _ _ _ _ (c .before .before .before .before .before .if1 .left) _ _ (c .before .before .before .before .cell .ensures) _ (c .before .before .write .ensures)
 
 pub put-value-spec : {M : Type 1} → statement M
 put-value-spec =

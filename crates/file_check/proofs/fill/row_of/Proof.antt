@@ -2,16 +2,15 @@
 use Rattle.file_check.proofs.fill.row_of.Statement.{statement}
 use Rattle.file_check.proofs.fill.row_of.Tie as tie
 use borrow.Author.Needs.{needs}
-use lib.Seq.{slice}
 use Rattle.list.specs.Listing.{Child, child}
 use Rattle.list.specs.tables.Table.{listOf}
 use Rattle.file_check.proofs.Around.{way, row-first, row-found, row-again, row-nearer}
 
 abbrev Inv-loop : tie.InvT-loop
-Inv-loop rows pool row last s a b r₀ r = Child (listOf rows pool) row r
+Inv-loop rows pool row last name r₀ r = Child (listOf rows pool) row r
 
 abbrev μ-loop : tie.MeasureT-loop
-μ-loop rows pool row last s a b r₀ r = way (child (listOf rows pool) row (slice a b s)) r
+μ-loop rows pool row last name r₀ r = way (child (listOf rows pool) row name) r
 
 around-requires : tie.Need-around-requires Inv-loop μ-loop
 around-requires c κs =

@@ -20,24 +20,27 @@ returns : tie.Need-returns
 returns c =
     shuts-group _ _ _ (c .before .before .cell .ensures) _ (c .before .is-group .ensures) _ _ _ _ _ _ (c .if1 .taken)
 
+part-of-requires : tie.Need-part-of-requires
+part-of-requires c κs = search needs
+
 value-size-requires : tie.Need-value-size-requires
 value-size-requires c κs =
-    (c .before .before .cell .ensures, leaf-kind _ _ (c .before .is-group .ensures) (c .if1 .left))
+    (c .before .before .before .cell .ensures, leaf-kind _ _ (c .before .before .is-group .ensures) (c .before .if1 .left))
 
 returns-2 : tie.Need-returns-2
 returns-2 c =
-    shuts-none _ _ _ (c .before .before .before .before .cell .ensures) _ (c .before .before .before .is-group .ensures) _ _ _ _ _ _ (λ l v. bytes-some v) (c .before .before .if1 .left) _ refl _ (pasted-nowhere _ _) _ _ (c .before .value-size .ensures _ _) (c .if2 .taken)
+    shuts-none _ _ _ (c .before .before .before .before .before .cell .ensures) _ (c .before .before .before .before .is-group .ensures) _ _ _ _ _ _ (λ l v. bytes-some v) (c .before .before .before .if1 .left) _ refl _ (pasted-nowhere _ _) _ _ ((rw (c .before .before .part-of .ensures) at (c .before .value-size .ensures)) _ _) (c .if2 .taken)
 
 add-result : tie.Need-add-result
 add-result c = search needs
 
 add-result-2 : tie.Need-add-result-2
 add-result-2 c =
-    omega (arith, c .before .value-size .ensures [] 0 .most, c .before .before .before .before .before .before .before .before .pre)
+    omega (arith, c .before .value-size .ensures [] 0 .most, c .before .before .before .before .before .before .before .before .before .pre)
 
 returns-3 : tie.Need-returns-3
 returns-3 c =
-    shuts-some _ _ _ (c .before .before .before .before .cell .ensures) _ (c .before .before .before .is-group .ensures) _ _ _ _ _ _ (λ l v. bytes-some v) (c .before .before .if1 .left) _ refl _ (pasted-nowhere _ _) _ _ (c .before .value-size .ensures _ _) (c .if2 .left)
+    shuts-some _ _ _ (c .before .before .before .before .before .cell .ensures) _ (c .before .before .before .before .is-group .ensures) _ _ _ _ _ _ (λ l v. bytes-some v) (c .before .before .before .if1 .left) _ refl _ (pasted-nowhere _ _) _ _ ((rw (c .before .before .part-of .ensures) at (c .before .value-size .ensures)) _ _) (c .if2 .left)
 
 pub leaf-end-spec : {M : Type 1} → statement M
 leaf-end-spec =
@@ -46,6 +49,7 @@ leaf-end-spec =
     cell-requires
     is-group-requires
     returns
+    part-of-requires
     value-size-requires
     returns-2
     add-result

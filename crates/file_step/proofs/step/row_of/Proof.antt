@@ -5,19 +5,22 @@ use Rattle.file_step.proofs.step.row_of.Tie as tie
 use native.Mathlib.Omega.{arith}
 use Rattle.file_walk.proofs.calls.Step.{row-inside, row-outside}
 
-add-child : tie.Need-add-child
-add-child c = search needs
+add-part-of : tie.Need-add-part-of
+add-part-of c = search needs
+
+part-of-requires : tie.Need-part-of-requires
+part-of-requires c κs = search needs
 
 child-requires : tie.Need-child-requires
 child-requires c κs = search needs
 
 returns : tie.Need-returns
 returns c =
-    row-inside _ _ _ _ _ _ _ (c .before .if1 .taken) (c .child .ensures .0)
+    row-inside _ _ _ _ _ _ _ (c .before .before .if1 .taken) (rw (c .before .part-of .ensures) at (c .child .ensures .0))
 
 returns-2 : tie.Need-returns-2
 returns-2 c =
     row-outside _ _ _ _ _ _ (omega (arith, c .if1 .left))
 
 pub row-of-spec : {M : Type 1} → statement M
-row-of-spec = tie.close (tie.spec add-child child-requires returns returns-2)
+row-of-spec = tie.close (tie.spec add-part-of part-of-requires child-requires returns returns-2)

@@ -2,18 +2,15 @@
 use borrow.Author.Needs.{needs}
 use Rattle.file_tag.proofs.attributes.names_ccy.Statement.{statement}
 use Rattle.file_tag.proofs.attributes.names_ccy.Tie as tie
-use Rattle.file_walk.specs.mirror.Stride.{named}
 
-slice-aggregate-same-part : tie.Need-slice-aggregate-same-part
-slice-aggregate-same-part c = search needs
+slice-aggregate-same : tie.Need-slice-aggregate-same
+slice-aggregate-same c = search needs
 
-same-part-requires : tie.Need-same-part-requires
-same-part-requires c κs = search needs
+same-requires : tie.Need-same-requires
+same-requires c κs = search needs
 
 returns : tie.Need-returns
-unfolding named
-returns c =
-    c .same-part .ensures
+returns c = c .same .ensures
 
 pub names-ccy-spec : {M : Type 1} → statement M
-names-ccy-spec = tie.close (tie.spec slice-aggregate-same-part same-part-requires returns)
+names-ccy-spec = tie.close (tie.spec slice-aggregate-same same-requires returns)

@@ -1,7 +1,6 @@
 -- `lookup::named` meets its contract. Assumes nothing.
 use mathlib.Core.Path.{_≡_, refl, sym, _∙_}
 use native.Mathlib.Omega.{arith}
-use lib.Seq.{slice}
 use borrow.Author.Needs.{needs}
 use Rattle.list.specs.mirror.Lookup.{along}
 use Rattle.list.proofs.rows.Along.{stop-none, stop-here, stop-end, go-on}
@@ -9,10 +8,10 @@ use Rattle.list.proofs.lookup.named.Statement.{statement}
 use Rattle.list.proofs.lookup.named.Tie as tie
 
 abbrev Inv-loop : tie.InvT-loop
-Inv-loop rows pool from s a b r₀ left₀ r left = along rows pool (slice a b s) left r ≡ along rows pool (slice a b s) 255 from
+Inv-loop rows pool from name r₀ left₀ r left = along rows pool name left r ≡ along rows pool name 255 from
 
 abbrev μ-loop : tie.MeasureT-loop
-μ-loop rows pool from s a b r₀ left₀ r left = left
+μ-loop rows pool from name r₀ left₀ r left = left
 
 loop-holds : tie.Need-loop-holds Inv-loop μ-loop
 loop-holds c = refl

@@ -1,10 +1,6 @@
 -- `reply::part_picked` meets its contract: the answer and the part belong together. Assumes nothing.
-use mathlib.Core.Path.{_∙_, ap}
 use native.Mathlib.Omega.{arith}
-use lib.ListN.{length}
-use lib.Seq.{take-all}
 use borrow.Author.Needs.{needs}
-use Rattle.program_reply.specs.Reply.{answerLine}
 use Rattle.unit.proofs.Picking.{part-within, picks-both}
 use Rattle.replay.proofs.reply.part_picked.Statement.{statement}
 use Rattle.replay.proofs.reply.part_picked.Tie as tie
@@ -28,7 +24,7 @@ returns : tie.Need-returns
 returns c =
     let a = c .before .before .before .before .before .pick .result in
     let part = c .before .before .before .before .picked .result .now in
-    (record { answer = a; part = part; picks = picks-both _ _ _ _ _ (c .before .before .before .before .before .pick .ensures) (c .before .before .before .before .picked .ensures .hands); line = c .before .before .put-line .ensures .0 ∙ ap (answerLine a) (take-all (length part) part (omega arith)) }, c .before .before .put-line .ensures .1)
+    (record { answer = a; part = part; picks = picks-both _ _ _ _ _ (c .before .before .before .before .before .pick .ensures) (c .before .before .before .before .picked .ensures .hands); line = c .before .before .put-line .ensures .0 }, c .before .before .put-line .ensures .1)
 
 pub part-picked-spec : {M : Type 1} → statement M
 part-picked-spec =

@@ -2,28 +2,26 @@
 use mathlib.Core.Bool.{true≢false}
 use mathlib.Core.Path.{sym, _∙_}
 use native.Mathlib.Omega.{arith}
+use lib.Seq.{take-length}
 use borrow.Author.Needs.{needs}
 use borrow.Author.Tests.{not-true, not-false}
-use Rattle.value.proofs.given.Putting.{fits, of-part, amount-no-room, amount-put, amount-none}
+use Rattle.value.proofs.given.Putting.{fits, amount-no-room, amount-put, amount-none}
 use Rattle.value_amounts.proofs.to_bytes.write_amount.Statement.{statement}
 use Rattle.value_amounts.proofs.to_bytes.write_amount.Tie as tie
-
-part-of-requires : tie.Need-part-of-requires
-part-of-requires c κs = search needs
 
 is-ccy-requires : tie.Need-is-ccy-requires
 is-ccy-requires c κs = search needs
 
 returns : tie.Need-returns
 returns c =
-    amount-none _ _ _ _ _ (λ g. true≢false (sym (of-part (c .before .before .part-of .ensures) (c .before .is-ccy .ensures) .1 g) ∙ not-true _ (c .if1 .taken)))
+    amount-none _ _ _ _ _ (λ g. true≢false (sym (c .before .is-ccy .ensures .1 g) ∙ not-true _ (c .if1 .taken)))
 
 has-room-requires : tie.Need-has-room-requires
 has-room-requires c κs = search needs
 
 returns-2 : tie.Need-returns-2
 returns-2 c =
-    amount-no-room _ _ _ _ _ (of-part (c .before .before .before .before .part-of .ensures) (c .before .before .before .is-ccy .ensures) .0 (not-false _ (c .before .before .if1 .left))) _ (c .before .has-room .ensures) (c .if2 .taken)
+    amount-no-room _ _ _ _ _ (c .before .before .before .is-ccy .ensures .0 (not-false _ (c .before .before .if1 .left))) _ (c .before .has-room .ensures) (c .if2 .taken)
 
 copy-requires : tie.Need-copy-requires
 copy-requires c κs = search needs
@@ -54,15 +52,13 @@ returns-3 c =
     let at-has-room = at-if2 .before in
     let at-if1 = at-has-room .before in
     let at-is-ccy = at-if1 .before in
-    let at-part-of = at-is-ccy .before in
-    amount-put _ _ _ _ _ _ _ _ (of-part (at-part-of .part-of .ensures) (at-is-ccy .is-ccy .ensures) .0 (not-false _ (at-if1 .if1 .left)))
-    (fits _ (at-has-room .has-room .ensures) (at-if2 .if2 .left)) (at-copy .copy .ensures) (at-place .place .ensures) (at-put64 .put64 .ensures)
+    amount-put _ _ _ _ _ _ _ _ (at-is-ccy .is-ccy .ensures .0 (not-false _ (at-if1 .if1 .left)))
+    (fits _ (at-has-room .has-room .ensures) (at-if2 .if2 .left)) (rw (take-length (at-is-ccy .before .before .before .args .ccy .now)) at (at-copy .copy .ensures)) (at-place .place .ensures) (at-put64 .put64 .ensures)
 
 pub write-amount-spec : {M : Type 1} → statement M
 write-amount-spec =
     tie.close
     (tie.spec
-    part-of-requires
     is-ccy-requires
     returns
     has-room-requires

@@ -1,4 +1,5 @@
 -- `chars::write_text` meets its contract. Assumes nothing.
+use mathlib.Core.Path.{refl}
 use native.Mathlib.Omega.{arith}
 use borrow.Author.Needs.{needs}
 use Rattle.value.proofs.given.Putting.{fits, text-none, text-fits, text-no-room, text-room, text-put}
@@ -26,34 +27,31 @@ cast-put16 c =
 put16-requires : tie.Need-put16-requires
 put16-requires c κs = search needs
 
-part-of-requires : tie.Need-part-of-requires
-part-of-requires c κs = search needs
-
 add-put-chars : tie.Need-add-put-chars
 add-put-chars c =
     omega (
       arith,
-      fits _ (c .before .before .before .before .before .before .before .has-room .ensures) (c .before .before .before .before .before .before .if2 .left),
-      (let at-put16 = c .before .before .before .before in
+      fits _ (c .before .before .before .before .before .before .has-room .ensures) (c .before .before .before .before .before .if2 .left),
+      (let at-put16 = c .before .before .before in
           let at-if2 = at-put16 .before .before in
           let at-has-room = at-if2 .before in
           let at-if1 = at-has-room .before in
           let at-text-size = at-if1 .before in
           let start = at-text-size .before .before .before in
           text-room _ _ _ _ (start .pre) _ (at-text-size .text-size .ensures) (at-if1 .if1 .left) _
-          (fits _ (at-has-room .has-room .ensures) (at-if2 .if2 .left)) (at-put16 .put16 .ensures) _ (c .before .part-of .ensures) .room),
+          (fits _ (at-has-room .has-room .ensures) (at-if2 .if2 .left)) (at-put16 .put16 .ensures) _ refl .room),
     )
 
 put-chars-requires : tie.Need-put-chars-requires
 put-chars-requires c κs =
-    let at-put16 = c .before .before .before .before in
+    let at-put16 = c .before .before .before in
     let at-if2 = at-put16 .before .before in
     let at-has-room = at-if2 .before in
     let at-if1 = at-has-room .before in
     let at-text-size = at-if1 .before in
     let start = at-text-size .before .before .before in
     text-room _ _ _ _ (start .pre) _ (at-text-size .text-size .ensures) (at-if1 .if1 .left) _
-    (fits _ (at-has-room .has-room .ensures) (at-if2 .if2 .left)) (at-put16 .put16 .ensures) _ (c .before .part-of .ensures)
+    (fits _ (at-has-room .has-room .ensures) (at-if2 .if2 .left)) (at-put16 .put16 .ensures) _ refl
 
 same-length : tie.Need-same-length
 same-length c = search needs
@@ -61,15 +59,14 @@ same-length c = search needs
 returns-3 : tie.Need-returns-3
 returns-3 c =
     let at-put-chars = c .before .before in
-    let at-part-of = at-put-chars .before .before in
-    let at-put16 = at-part-of .before .before .before in
+    let at-put16 = at-put-chars .before .before .before .before in
     let at-if2 = at-put16 .before .before in
     let at-has-room = at-if2 .before in
     let at-if1 = at-has-room .before in
     let at-text-size = at-if1 .before in
     let start = at-text-size .before .before .before in
     text-put _ _ _ _ (start .pre) _ (at-text-size .text-size .ensures) (at-if1 .if1 .left) _ (fits _ (at-has-room .has-room .ensures) (at-if2 .if2 .left))
-    (at-put16 .put16 .ensures) _ (at-part-of .part-of .ensures) _ (at-put-chars .put-chars .ensures)
+    (at-put16 .put16 .ensures) _ refl _ (at-put-chars .put-chars .ensures)
 
 pub write-text-spec : {M : Type 1} → statement M
 write-text-spec =
@@ -81,7 +78,6 @@ write-text-spec =
     returns-2
     cast-put16
     put16-requires
-    part-of-requires
     add-put-chars
     put-chars-requires
     same-length

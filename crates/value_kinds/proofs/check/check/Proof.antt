@@ -6,9 +6,6 @@ use borrow.Author.Needs.{needs}
 use Rattle.value_kinds.proofs.check.check.Statement.{statement}
 use Rattle.value_kinds.proofs.check.check.Tie as tie
 
-part-of-requires : tie.Need-part-of-requires
-part-of-requires c κs = search needs
-
 spelled-requires : tie.Need-spelled-requires
 spelled-requires c κs = search needs
 
@@ -59,39 +56,39 @@ moment-requires c κs = search needs
 
 returns : tie.Need-returns
 returns c =
-    checked-by 2 _ _ _ _ _ (c .before .before .part-of .ensures) (c .before .match .keys1) (omega arith) refl (λ j ws g w cw. right-ref _ _ (c .spelled .ensures) w)
+    checked-by 2 _ _ _ _ _ refl (c .before .match .keys1) (omega arith) refl (λ j ws g w cw. right-ref _ _ (c .spelled .ensures) w)
 
 returns-2 : tie.Need-returns-2
 returns-2 c =
-    checked-by 3 _ _ _ _ _ (c .before .before .part-of .ensures) (c .before .match .keys2) (omega arith) refl (λ j ws g w cw. right-txt-of _ j g _ _ (c .spelled2 .ensures) w)
+    checked-by 3 _ _ _ _ _ refl (c .before .match .keys2) (omega arith) refl (λ j ws g w cw. right-txt-of _ j g _ _ (c .spelled2 .ensures) w)
 
 returns-3 : tie.Need-returns-3
 returns-3 c =
-    checked-by 4 _ _ _ _ _ (c .before .before .before .part-of .ensures) (c .before .before .match .keys3) (omega arith) refl (λ j ws g w cw. right-iban _ _ _ (c .before .is-iban .ensures) (c .coded .ensures) w)
+    checked-by 4 _ _ _ _ _ refl (c .before .before .match .keys3) (omega arith) refl (λ j ws g w cw. right-iban _ _ _ (c .before .is-iban .ensures) (c .coded .ensures) w)
 
 returns-4 : tie.Need-returns-4
 returns-4 c =
-    checked-by 5 _ _ _ _ _ (c .before .before .before .part-of .ensures) (c .before .before .match .keys4) (omega arith) refl (λ j ws g w cw. right-ccy _ _ _ (c .before .is-ccy .ensures) (c .coded2 .ensures) w)
+    checked-by 5 _ _ _ _ _ refl (c .before .before .match .keys4) (omega arith) refl (λ j ws g w cw. right-ccy _ _ _ (c .before .is-ccy .ensures) (c .coded2 .ensures) w)
 
 returns-5 : tie.Need-returns-5
 returns-5 c =
-    checked-by 7 _ _ _ _ _ (c .before .before .before .part-of .ensures) (c .before .before .match .keys5) (omega arith) refl (λ j ws g. right-bool _ _ _ (c .before .trimmed .ensures) (c .truth .ensures))
+    checked-by 7 _ _ _ _ _ refl (c .before .before .match .keys5) (omega arith) refl (λ j ws g. right-bool _ _ _ (c .before .trimmed .ensures) (c .truth .ensures))
 
 returns-6 : tie.Need-returns-6
 returns-6 c =
-    checked-by 8 _ _ _ _ _ (c .before .before .before .part-of .ensures) (c .before .before .match .keys6) (omega arith) refl (λ j ws g. right-num _ _ _ (c .before .trimmed2 .ensures) (c .natural .ensures))
+    checked-by 8 _ _ _ _ _ refl (c .before .before .match .keys6) (omega arith) refl (λ j ws g. right-num _ _ _ (c .before .trimmed2 .ensures) (c .natural .ensures))
 
 returns-7 : tie.Need-returns-7
 returns-7 c =
-    checked-by 9 _ _ _ _ _ (c .before .before .before .part-of .ensures) (c .before .before .match .keys7) (omega arith) refl (λ j ws g. right-amt _ _ _ (c .before .trimmed3 .ensures) (c .amount .ensures))
+    checked-by 9 _ _ _ _ _ refl (c .before .before .match .keys7) (omega arith) refl (λ j ws g. right-amt _ _ _ (c .before .trimmed3 .ensures) (c .amount .ensures))
 
 returns-8 : tie.Need-returns-8
 returns-8 c =
-    checked-by 10 _ _ _ _ _ (c .before .before .before .part-of .ensures) (c .before .before .match .keys8) (omega arith) refl (λ j ws g. right-date _ _ _ (c .before .trimmed4 .ensures) (c .day .ensures))
+    checked-by 10 _ _ _ _ _ refl (c .before .before .match .keys8) (omega arith) refl (λ j ws g. right-date _ _ _ (c .before .trimmed4 .ensures) (c .day .ensures))
 
 returns-9 : tie.Need-returns-9
 returns-9 c =
-    checked-by 11 _ _ _ _ _ (c .before .before .before .part-of .ensures) (c .before .before .match .keys9) (omega arith) refl (λ j ws g. right-dtm _ _ _ (c .before .trimmed5 .ensures) (c .moment .ensures))
+    checked-by 11 _ _ _ _ _ refl (c .before .before .match .keys9) (omega arith) refl (λ j ws g. right-dtm _ _ _ (c .before .trimmed5 .ensures) (c .moment .ensures))
 
 returns-10 : tie.Need-returns-10
 returns-10 c =
@@ -102,7 +99,6 @@ pub check-spec : {M : Type 1} → statement M
 check-spec =
     tie.close
     (tie.spec
-    part-of-requires
     spelled-requires
     spelled-requires-2
     is-iban-requires

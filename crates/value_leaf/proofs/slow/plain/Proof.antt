@@ -7,6 +7,9 @@ use Rattle.value_leaf.proofs.slow.plain.Tie as tie
 text-end-requires : tie.Need-text-end-requires
 text-end-requires c κs = search needs
 
+part-of-requires : tie.Need-part-of-requires
+part-of-requires c κs = search needs
+
 size-requires : tie.Need-size-requires
 size-requires c κs = search needs
 
@@ -15,7 +18,7 @@ tell-requires c κs = search needs
 
 returns : tie.Need-returns
 returns c =
-    λ a b. plain-told _ _ _ _ _ _ _ a b (c .before .before .text-end .ensures) (c .before .size .ensures) (c .tell .ensures)
+    λ a b. plain-told _ _ _ _ _ _ _ a b (c .before .before .before .text-end .ensures) (rw (c .before .before .part-of .ensures) at (c .before .size .ensures)) (c .tell .ensures)
 
 pub plain-spec : {M : Type 1} → statement M
-plain-spec = tie.close (tie.spec text-end-requires size-requires tell-requires returns)
+plain-spec = tie.close (tie.spec text-end-requires part-of-requires size-requires tell-requires returns)

@@ -20,15 +20,18 @@ enum-known-p c = search needs
 enum-known-e : tie.Need-enum-known-e
 enum-known-e c = search needs
 
+part-of-requires : tie.Need-part-of-requires
+part-of-requires c κs = search needs
+
 seen-requires : tie.Need-seen-requires
 seen-requires c κs = search needs
 
 returns-2 : tie.Need-returns-2
 returns-2 c =
-    attribute-seen _ _ _ _ _ (c .before .before .before .before .before .before .before .before .before .before .pre .0)
-    (c .before .before .before .before .before .before .before .before .before .before .pre .1) (omega arith)
-    (c .before .before .before .before .before .before .before .full-name .result) (c .before .before .before .before .before .before .before .full-name .ensures) _
-    (c .before .before .before .before .before .e .given .1) (sym (c .before .seen .ensures) ∙ c .if2 .taken)
+    attribute-seen _ _ _ _ _ (c .before .before .before .before .before .before .before .before .before .before .before .pre .0)
+    (c .before .before .before .before .before .before .before .before .before .before .before .pre .1) (omega arith)
+    (c .before .before .before .before .before .before .before .before .full-name .result) (c .before .before .before .before .before .before .before .before .full-name .ensures) _
+    (c .before .before .before .before .before .before .e .given .1) (sym (rw (c .before .before .part-of .ensures) at (c .before .seen .ensures)) ∙ c .if2 .taken)
 
 mul-from : tie.Need-mul-from
 mul-from c = search needs
@@ -44,8 +47,8 @@ element-write-to c = search needs
 
 equals-requires : tie.Need-equals-requires
 equals-requires c κs =
-    name-within _ _ (c .before .before .before .before .before .before .before .full-name .result) (c .before .before .before .before .before .before .before .full-name .ensures) _
-    (c .before .before .before .before .before .e .given .1)
+    name-within _ _ (c .before .before .before .before .before .before .before .before .full-name .result) (c .before .before .before .before .before .before .before .before .full-name .ensures) _
+    (c .before .before .before .before .before .before .e .given .1)
 
 returns-3 : tie.Need-returns-3
 returns-3 c =
@@ -54,11 +57,11 @@ returns-3 c =
 
 returns-4 : tie.Need-returns-4
 returns-4 c =
-    attribute-new _ _ _ _ _ (c .before .before .before .before .before .before .before .before .before .before .before .pre .0)
-    (c .before .before .before .before .before .before .before .before .before .before .before .pre .1) (omega arith)
-    (c .before .before .before .before .before .before .before .before .full-name .result) (c .before .before .before .before .before .before .before .before .full-name .ensures) _
-    (c .before .before .before .before .before .before .e .given .1) (c .before .before .before .before .before .before .before .before .before .before .before .pre .2)
-    (sym (c .before .before .seen .ensures) ∙ c .before .if2 .left) (c .equals .result) (c .equals .ensures)
+    attribute-new _ _ _ _ _ (c .before .before .before .before .before .before .before .before .before .before .before .before .pre .0)
+    (c .before .before .before .before .before .before .before .before .before .before .before .before .pre .1) (omega arith)
+    (c .before .before .before .before .before .before .before .before .before .full-name .result) (c .before .before .before .before .before .before .before .before .before .full-name .ensures) _
+    (c .before .before .before .before .before .before .before .e .given .1) (c .before .before .before .before .before .before .before .before .before .before .before .before .pre .2)
+    (sym (rw (c .before .before .before .part-of .ensures) at (c .before .before .seen .ensures)) ∙ c .before .if2 .left) (c .equals .result) (c .equals .ensures)
 
 pub attribute-spec : {M : Type 1} → statement M
 attribute-spec =
@@ -68,6 +71,7 @@ attribute-spec =
     full-name-requires
     enum-known-p
     enum-known-e
+    part-of-requires
     seen-requires
     returns-2
     mul-from

@@ -2,16 +2,15 @@
 use Rattle.xml_scan.proofs.attribute.seen.Statement.{statement}
 use Rattle.xml_scan.proofs.attribute.seen.Tie as tie
 use native.Mathlib.Omega.{arith}
-use lib.Seq.{slice}
 use mathlib.Core.Path.{sym, _∙_}
 use borrow.Author.Needs.{needs}
 use Rattle.xml_scan.proofs.names.Names.{Seeing, seeing-all, seen-none, seen-yes, seeing-less}
 
 abbrev Inv-loop : tie.InvT-loop
-Inv-loop s from to n a e k₀ k = Seeing (slice a e s) s from to n k
+Inv-loop s from to n name k₀ k = Seeing name s from to n k
 
 abbrev μ-loop : tie.MeasureT-loop
-μ-loop s from to n a e k₀ k = k
+μ-loop s from to n name k₀ k = k
 
 loop-holds : tie.Need-loop-holds Inv-loop μ-loop
 loop-holds c =
@@ -37,13 +36,17 @@ element-copy-out-t : tie.Need-element-copy-out-t Inv-loop μ-loop
 element-copy-out-t c =
     omega arith
 
-same-part-requires : tie.Need-same-part-requires Inv-loop μ-loop
-same-part-requires c κs =
+part-of-requires : tie.Need-part-of-requires Inv-loop μ-loop
+part-of-requires c κs =
+    search needs
+
+same-requires : tie.Need-same-requires Inv-loop μ-loop
+same-requires c κs =
     search needs
 
 returns : tie.Need-returns Inv-loop μ-loop
 returns c =
-    seen-yes _ _ _ _ _ (c .before .before .before .before .before .loop .k) (c .before .before .before .before .before .loop .inv) (c .before .before .before .before .loop-test .taken) (sym (c .before .same-part .ensures) ∙ c .if1 .taken)
+    seen-yes _ _ _ _ _ (c .before .before .before .before .before .before .loop .k) (c .before .before .before .before .before .before .loop .inv) (c .before .before .before .before .before .loop-test .taken) (sym (rw (c .before .before .part-of .ensures) at (c .before .same .ensures)) ∙ c .if1 .taken)
 
 loop-less : tie.Need-loop-less Inv-loop μ-loop
 loop-less c =
@@ -51,7 +54,7 @@ loop-less c =
 
 loop-again : tie.Need-loop-again Inv-loop μ-loop
 loop-again c =
-    seeing-less _ _ _ _ _ (c .before .before .before .before .before .loop .k) (c .before .before .before .before .before .loop .inv) (c .before .before .before .before .loop-test .taken) (sym (c .before .same-part .ensures) ∙ c .if1 .left)
+    seeing-less _ _ _ _ _ (c .before .before .before .before .before .before .loop .k) (c .before .before .before .before .before .before .loop .inv) (c .before .before .before .before .before .loop-test .taken) (sym (rw (c .before .before .part-of .ensures) at (c .before .same .ensures)) ∙ c .if1 .left)
 
 returns-2 : tie.Need-returns-2 Inv-loop μ-loop
 returns-2 c =
@@ -69,7 +72,8 @@ seen-spec =
     element-copy-out-f
     mul-t
     element-copy-out-t
-    same-part-requires
+    part-of-requires
+    same-requires
     returns
     loop-less
     loop-again
