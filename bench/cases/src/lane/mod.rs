@@ -7,12 +7,15 @@
 mod boundaries;
 mod ends;
 mod near;
+mod roots;
 mod shapes;
 
 use independent::LIMIT;
 
 use crate::any::Class;
 use crate::feed::{Case, Op};
+use crate::message::{valid, Size, Style};
+use crate::random::Random;
 
 /// What a file is for.
 #[derive(Clone, Copy, PartialEq, Eq, PartialOrd, Ord, Debug, Hash)]
@@ -24,12 +27,29 @@ pub enum Topic {
     End,
 }
 
+/// How many messages there are, and the seed that they are made from.
+const MESSAGES: usize = 4000;
+
+const MESSAGES_SEED: u64 = 25;
+
 /// Room for any image of these files.
 const ROOM: usize = LIMIT;
 
 /// The good files in every shape that the lane takes.
 pub fn shapes() -> Vec<Vec<u8>> {
     shapes::files()
+}
+
+/// Good messages from a seed, written without a blank inside a tag: with every row, type, optional element, count and hint.
+pub fn messages() -> Vec<Vec<u8>> {
+    let mut random = Random::new(MESSAGES_SEED);
+    let mut one = || {
+        let size = random.one_of(&[&Size::Small, &Size::Medium, &Size::Large]);
+        let draft = valid(&mut random, *size);
+        let style = Style { declaration: random.once_in(2), indented: random.once_in(3), odd: None };
+        style.write(&draft).into_bytes()
+    };
+    (0..MESSAGES).map(|_| one()).collect()
 }
 
 /// All of them, each followed by its twin where it has one. The same each time.
@@ -139,6 +159,18 @@ mod tests {
         );
         for (topic, (good, bad)) in topics {
             assert!(good > 50 && (bad > 50) == (topic != Topic::Shape), "{topic:?}: {good} good, {bad} bad");
+        }
+    }
+
+    /// They are good, and a quarter of them have hints.
+    #[test]
+    fn the_messages_are_good() {
+        let files = messages();
+        let hinted = files.iter().filter(|file| file.windows(9).any(|part| part == b"xmlns:xsi")).count();
+        assert!(hinted > MESSAGES / 5 && hinted < MESSAGES / 3, "{hinted}");
+        for file in files {
+            let case = Case::check(ROOM, file);
+            assert_eq!(case.answer().0.code.number(), 0, "{}", String::from_utf8_lossy(&case.bytes));
         }
     }
 

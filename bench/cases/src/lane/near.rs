@@ -1,5 +1,6 @@
-//! Files one byte away from a good one, and files one element away from it.
+//! Files one byte away from a good one, and files one element, or an attribute of the root, away from it.
 
+use crate::lane::roots;
 use crate::message::chosen::{EVERY_ROW, REPORT_EVERY_ROW, REPORT_LEAST, WHOLE};
 use crate::message::{Draft, Part, Style};
 
@@ -7,14 +8,17 @@ use crate::message::{Draft, Part, Style};
 /// bytes of characters beyond ASCII.
 const TELLING: &[u8] = b" \n\t<>&/\"'=`0A\x80\xc3\xe2";
 
-/// Schema hints in the order in which the lane takes them.
+/// Schema hints after the namespace, and before it.
 const HINTED: [&str; 2] =
     [" xmlns:xsi='http://www.w3.org/2001/XMLSchema-instance' xsi:schemaLocation=\"a b.xsd\"", " xmlns:xsi=\"\""];
 
+const HINTED_FIRST: &str = " xsi:schemaLocation='&amp;ß\"' xmlns:xsi=\"€'\"";
+
 /// Short files with each change at each byte, the hints on a root too; long ones, with every row, with two changes at each.
 pub fn by_a_byte() -> Vec<Vec<u8>> {
-    let hinted = HINTED.map(|hints| WHOLE.replacen("\">", &format!("\"{hints}>"), 1));
-    let roots = hinted.iter().flat_map(|file| {
+    let after = HINTED.map(|hints| WHOLE.replacen("\">", &format!("\"{hints}>"), 1));
+    let before = WHOLE.replacen(" xmlns", &format!("{HINTED_FIRST} xmlns"), 1);
+    let roots = after.iter().chain([&before]).flat_map(|file| {
         let end = file.find("<BkTo").expect("a root");
         changed(&file.as_bytes()[..end], TELLING)
             .into_iter()
@@ -43,11 +47,13 @@ fn changed(file: &[u8], telling: &[u8]) -> Vec<Vec<u8>> {
     files
 }
 
-/// Each element doubled, put before the one that it comes after, and with the name of the next one; and each run of neighbours left out.
+/// Each element doubled, put before the one that it comes after, and with the name of the next one; each run of neighbours left out; and
+/// roots with other attributes.
 pub fn by_an_element() -> Vec<Vec<u8>> {
     let drafts = [EVERY_ROW, REPORT_EVERY_ROW].map(Draft::from_text);
     let changed = drafts.iter().flat_map(|draft| [rearranged(draft), shortened(draft)].concat());
-    changed.map(|draft| Style::DENSE.write(&draft).into_bytes()).collect()
+    let elements = changed.map(|draft| Style::DENSE.write(&draft));
+    elements.chain(roots::bad()).map(String::into_bytes).collect()
 }
 
 /// Without some children of an element that stand one after the other, for each element.

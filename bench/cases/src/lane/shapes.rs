@@ -1,6 +1,7 @@
-//! Good files in every shape that the lane takes: with a declaration and without, any blanks between tags, both quotes, schema hints, every
-//! entity and every character beyond ASCII at every place of a chunk, texts of each length.
+//! Good files in every shape that the lane takes: with a declaration and without, any blanks between tags, both quotes, schema hints in any
+//! order, every entity and every character beyond ASCII at every place of a chunk, texts of each length.
 
+use crate::lane::roots;
 use crate::message::chosen::{EVERY_ROW, REPORT_EVERY_ROW, REPORT_LEAST, WHOLE};
 
 /// What stands for a character that is no plain byte of a text: the five entities, and the ten beyond ASCII.
@@ -8,7 +9,8 @@ pub const SPELLED: [&str; 15] =
     ["&amp;", "&lt;", "&gt;", "&quot;", "&apos;", "ä", "ö", "ü", "ß", "Ä", "Ö", "Ü", "€", "§", "°"];
 
 pub fn files() -> Vec<Vec<u8>> {
-    let all = [between_tags(), fronts(), quoted(), characters(), long_texts(), references(), accounts()].concat();
+    let all = [between_tags(), fronts(), roots::good(), quoted(), characters(), long_texts(), references(), accounts()]
+        .concat();
     all.into_iter().map(String::into_bytes).collect()
 }
 
@@ -34,7 +36,7 @@ fn between_tags() -> Vec<String> {
         .collect()
 }
 
-/// Up to the end of the root's tag: a declaration or none, blanks, either quote, and the hints in the order in which the lane takes them.
+/// Up to the end of the root's tag: a declaration or none, blanks, either quote, and hints after the namespace.
 fn fronts() -> Vec<String> {
     let hints = [
         "",

@@ -2,8 +2,8 @@
 //! each run writes the same bytes.
 //!
 //! A set is one input, DIR/stdin, and what must come out, DIR/stdout. Of a program that takes one input a time (kto, writes, tidies,
-//! images) these are the first of several, and each is there as DIR/NUMBER.in and DIR/NUMBER.out. Of shapes it is good files alone, for
-//! `bench/lane`: DIR/NUMBER.xml.
+//! images) these are the first of several, and each is there as DIR/NUMBER.in and DIR/NUMBER.out. Of shapes and messages it is good
+//! files alone, for `bench/lane`: DIR/NUMBER.xml.
 
 use std::fs;
 use std::io;
@@ -16,7 +16,7 @@ use independent::house;
 use tools::output::{self, named};
 use tools::unit::KNOWN_OPS;
 
-const USAGE: &str = "usage: sets xml|values|runs|checks|feed|kto|writes|tidies|images|shapes DIR";
+const USAGE: &str = "usage: sets xml|values|runs|checks|feed|kto|writes|tidies|images|shapes|messages DIR";
 
 /// A feed and the lines expected.
 #[derive(Default)]
@@ -63,7 +63,8 @@ fn write(kind: &str, folder: &Path) -> io::Result<Option<String>> {
         "writes" => return write_inputs(folder, inputs::writes()).map(Some).map_err(named(folder)),
         "tidies" => return write_inputs(folder, inputs::tidies()).map(Some).map_err(named(folder)),
         "images" => return write_inputs(folder, inputs::images()).map(Some).map_err(named(folder)),
-        "shapes" => return write_shapes(folder).map(Some).map_err(named(folder)),
+        "shapes" => return write_files(folder, cases::lane::shapes()).map(Some).map_err(named(folder)),
+        "messages" => return write_files(folder, cases::lane::messages()).map(Some).map_err(named(folder)),
         _ => return Ok(None),
     };
     write_pair(folder, ("stdin", &set.feed), ("stdout", set.lines.as_bytes())).map_err(named(folder))?;
@@ -81,10 +82,9 @@ fn write_inputs(folder: &Path, inputs: Vec<Said>) -> io::Result<String> {
     Ok(format!("{} inputs", inputs.len()))
 }
 
-/// The good files in every shape that the lane takes.
-fn write_shapes(folder: &Path) -> io::Result<String> {
+/// Good files, each as NUMBER.xml.
+fn write_files(folder: &Path, files: Vec<Vec<u8>>) -> io::Result<String> {
     fs::create_dir_all(folder)?;
-    let files = cases::lane::shapes();
     for (number, file) in files.iter().enumerate() {
         fs::write(folder.join(format!("{number}.xml")), file)?;
     }
