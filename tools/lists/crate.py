@@ -260,15 +260,15 @@ use Rattle.list_house.specs.mirror.HouseTable.{{{tabled}}}
     return text
 
 
-def constant(function, table, home='list_house', mirror='HouseTable'):
-    """proofs/tables/FUNCTION/Proof.antt: a function of a crate that hands back a constant."""
+def constant(function, table, home='list_house', mirror='HouseTable', module='tables'):
+    """proofs/MODULE/FUNCTION/Proof.antt: a function of a crate that hands back a constant."""
     return f'''\
--- `tables::{function}` meets its contract. Assumes nothing.
+-- `{module}::{function}` meets its contract. Assumes nothing.
 -- {MADE}
 use mathlib.Core.Path.{{refl}}
 use Rattle.{home}.specs.mirror.{mirror}.{{{table}}}
-use Rattle.{home}.proofs.tables.{function}.Statement.{{statement}}
-use Rattle.{home}.proofs.tables.{function}.Tie as tie
+use Rattle.{home}.proofs.{module}.{function}.Statement.{{statement}}
+use Rattle.{home}.proofs.{module}.{function}.Tie as tie
 
 returns : tie.Need-returns
 unfolding {table}

@@ -173,10 +173,11 @@ def table(lists):
 -- {MADE}
 use mathlib.Core.List.{{List, [], _∷_}}
 use Prim.Native.Nat.{{ℕ}}
-use Rattle.text.specs.Bytes.{{ascii}}
+
+-- how many nodes a table has; the first is none
+abbrev pub nodeCount : ℕ
+nodeCount = {len(rows(lists)[0][1])}
 '''
-    for found in lists:
-        text += f'\nunfoldable pub {found.name}Space : List ℕ\n{found.name}Space = ascii "{found.space}"\n'
     for name, cells in rows(lists):
         lines = ''.join('    ' + ' ∷ '.join(map(str, line)) + f' ∷  -- {name} {at}\n' for at, line in enumerate(cells))
         text += f'\nunfoldable pub {name}Table : List ℕ\n{name}Table =\n{lines}    []\n'
@@ -191,36 +192,64 @@ def mask(name, at, k, cell):
 def constants(lists):
     """src/tables.rt"""
     made = rows(lists)
-    mirrors = ', '.join(f'{name}Space, {name}Table' for name, _ in made)
-    if len({len(found.space) for found in lists}) > 1:
-        raise Fault('the lane has namespaces of one length')
+    mirrors = ', '.join(f'{name}Table' for name, _ in made)
     text = f'''\
 // The nodes of the lists as numbers, {WIDTH} a node.
 // {MADE}
+use crate::fields::WIDTH;
 ghost use mathlib.Core.Path.{{_≡_}};
 ghost use Rattle.file_nodes.specs.mirror.Tables.{{{mirrors}}};
 
-pub type Table = [u64; {sum(map(len, made[0][1]))}];
+// How many nodes a table has; the first is none.
+pub const NODES: usize = {len(made[0][1])};
 
-pub type Space = [u8; {len(lists[0].space)}];
+const NUMBERS: usize = WIDTH * NODES;
+
+pub type Table = [u64; NUMBERS];
 '''
     for name, cells in made:
         lines = ''.join(f'    // {name} {at}\n' + ''.join(f'    {cell},{mask(name, at, k, cell)}\n' for k, cell in enumerate(line)) for at, line in enumerate(cells))
         text += f'\nconst {name.upper()}: Table = [\n{lines}];\n'
-    for found in lists:
-        text += f'''
-pub(crate) fn {found.name}_space() -> Space
-    ensures {{ λ r. ⌜ r ≡ {found.name}Space ⌝ }}
-{{
-    *b"{found.space}"
-}}
-'''
     for name, _ in made:
         text += f'''
 pub(crate) fn {name}_table() -> Table
     ensures {{ λ r. ⌜ r ≡ {name}Table ⌝ }}
 {{
     {name.upper()}
+}}
+'''
+    return text
+
+
+def spaces(lists):
+    """specs/mirror/Spaces.antt of file_front"""
+    text = f'''\
+-- A mirror: the namespaces of the code's constants. Assumes nothing.
+-- {MADE}
+use mathlib.Core.List.{{List}}
+use Prim.Native.Nat.{{ℕ}}
+use Rattle.text.specs.Bytes.{{ascii}}
+'''
+    for found in lists:
+        text += f'\nunfoldable pub {found.name}Space : List ℕ\n{found.name}Space = ascii "{found.space}"\n'
+    return text
+
+
+def named(lists):
+    """src/spaces.rt of file_front"""
+    mirrors = ', '.join(f'{found.name}Space' for found in lists)
+    text = f'''\
+// The namespaces of the lists.
+// {MADE}
+ghost use mathlib.Core.Path.{{_≡_}};
+ghost use Rattle.file_front.specs.mirror.Spaces.{{{mirrors}}};
+'''
+    for found in lists:
+        text += f'''
+pub(crate) fn {found.name}_space() -> [u8; {len(found.space)}]
+    ensures {{ λ r. ⌜ r ≡ {found.name}Space ⌝ }}
+{{
+    *b"{found.space}"
 }}
 '''
     return text

@@ -33,7 +33,7 @@ use Rattle.file.proofs.answers.House.{one-content}
 use Rattle.file_nodes.specs.Entries.{nodeAt}
 use Rattle.file_nodes.specs.mirror.ByKind.{entriesOf, tableOf, nodesOf}
 use Rattle.file_nodes.specs.mirror.Kept.{In, Tabled}
-use Rattle.file_nodes.proofs.House.{ran-content, ran-filed, ran-image, ran-long, lists-tabled, nodes-lent}
+use Rattle.file_nodes.proofs.House.{ran-content, ran-filed, ran-image, ran-long, lists-tabled, nodes-start}
 use Rattle.file_lane.specs.Seen.{Seen}
 use Rattle.file_lane.proofs.Knowing.{seen-ran}
 use Rattle.file_fill.specs.Laned.{Laned, unknown, imaged}
@@ -74,24 +74,24 @@ head-is l b bs e = ap (λ (x : ℕ). 75 ∷ 84 ∷ 79 ∷ 0 ∷ 2 ∷ x ∷ 1 �
 module _ (s : List ℕ) (n b from : ℕ) (w : Seen s n b from) where
   -- the kind byte is one
   pub seen-low : b ≤ 255
-  seen-low = omega (arith, w .kind, asked-well (w .list) (w .among) .byte .1)
+  seen-low = omega (arith, w .opens .kind, asked-well (w .opens .list) (w .opens .among) .byte .1)
 
-  image-is : imageOf houseKinds (w .list) (ran-content (w .list) (w .among) s (w .bytes) (seen-ran s n b from w)) ≡ 75 ∷ 84 ∷ 79 ∷ 0 ∷ 2 ∷ b ∷ 1 ∷ w .bytes
-  image-is = ran-image (w .list) (w .among) s (w .bytes) (seen-ran s n b from w) ∙ sym (head-is (w .list) b (w .bytes) (w .kind))
+  image-is : imageOf houseKinds (w .opens .list) (ran-content (w .opens .list) (w .opens .among) s (w .bytes) (seen-ran s n b from w)) ≡ 75 ∷ 84 ∷ 79 ∷ 0 ∷ 2 ∷ b ∷ 1 ∷ w .bytes
+  image-is = ran-image (w .opens .list) (w .opens .among) s (w .bytes) (seen-ran s n b from w) ∙ sym (head-is (w .opens .list) b (w .bytes) (w .opens .kind))
 
   -- the image in a buffer
   laned-as : (d d′ : List ℕ) → d′ ≡ pasted d 0 (75 ∷ 84 ∷ 79 ∷ 0 ∷ 2 ∷ b ∷ 1 ∷ w .bytes) → Laned s d n d′
   laned-as d d′ e =
       let r = seen-ran s n b from w in
-      imaged (w .list) (ran-content (w .list) (w .among) s (w .bytes) r) (ran-filed (w .list) (w .among) s (w .bytes) r)
-      (w .size ∙ sym (ran-long (w .list) (w .among) s (w .bytes) r)) (e ∙ ap (pasted d 0) (sym image-is))
+      imaged (w .opens .list) (ran-content (w .opens .list) (w .opens .among) s (w .bytes) r) (ran-filed (w .opens .list) (w .opens .among) s (w .bytes) r)
+      (w .size ∙ sym (ran-long (w .opens .list) (w .opens .among) s (w .bytes) r)) (e ∙ ap (pasted d 0) (sym image-is))
 
   module _ (t d : List ℕ) (e : t ≡ tableOf b) (h : n ≤ length d) where
     stands : StandsAt t s 1 from (w .bytes)
     stands =
-        let z : tableOf (w .list .byte) ≡ t = sym (e ∙ ap tableOf (w .kind)) in
+        let z : tableOf (w .opens .list .byte) ≡ t = sym (e ∙ ap tableOf (w .opens .kind)) in
         subst (λ (x : List ℕ). StandsAt x s 1 from (w .bytes)) z
-        (record { at = nodesOf (w .list); ways = lists-ways (w .list) (w .among); is = nodes-lent (w .list .byte) .1; run = w .run })
+        (record { at = nodesOf (w .opens .list); ways = lists-ways (w .opens .list) (w .opens .among); is = nodes-start (w .opens .list .byte); run = w .run })
 
     pub seen-fillable : Fillable t s from d
     seen-fillable = record { small = w .small; bytes = w .bytes; stands = stands; room = omega (arith, h, w .size) }

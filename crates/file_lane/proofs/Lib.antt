@@ -13,7 +13,5 @@ pub mod Few
 pub mod Turning
 -- the loop over a table
 pub mod Looping
--- the root's tag
-pub mod Rooting
 -- what is known of a file
 pub mod Knowing

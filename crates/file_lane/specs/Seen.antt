@@ -4,12 +4,9 @@ use mathlib.Core.List.{List}
 use Prim.Native.Nat.{ℕ, _+_, _≤_}
 use lib.ListN.{length, drop}
 use Rattle.answer.specs.Table.{limit}
-use Rattle.list.specs.Listing.{Listing}
-use Rattle.list.specs.Within.{Among}
-use Rattle.list_house.specs.Lists.{asked}
 use Rattle.file.specs.Instance.{houseKinds}
+use Rattle.file_front.specs.Opens.{Opens}
 use Rattle.file_nodes.specs.Run.{Run}
-use Rattle.file_nodes.specs.Ran.{RootOpened}
 use Rattle.file_nodes.specs.mirror.ByKind.{nodesOf}
 
 -- "`KTO`, version .. in 16 bits", the kind byte, and the root's row byte
@@ -18,11 +15,8 @@ headSize = 7
 
 -- its list has the kind byte b, its root's tag ends at a place, from there on a run goes by the list's nodes, and its image has n bytes
 pub record Seen (s : List ℕ) (n b from : ℕ) : Type 0 where
-  pub list : Listing
-  pub among : Among list asked
-  pub kind : b ≡ list .byte
+  pub opens : Opens s b from
   pub small : length s ≤ limit
-  pub opened : RootOpened list s (drop from s)
   pub bytes : List ℕ
-  pub run : Run houseKinds (nodesOf list) 1 (drop from s) bytes
+  pub run : Run houseKinds (nodesOf (opens .list)) 1 (drop from s) bytes
   pub size : n ≡ headSize + length bytes

@@ -1,6 +1,4 @@
 -- Of `file_lane`: mirrors, which say how the code goes.
--- a mirror: the front of a file
-pub mod Front
 -- a mirror: one turn
 pub mod Turn
 -- a mirror: the invariant of the loop

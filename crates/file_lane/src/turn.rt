@@ -26,7 +26,7 @@ use value_levels::table::Levels;
 ghost use mathlib.Core.Path.{_≡_};
 ghost use mathlib.Core.Bool.{true, false};
 ghost use mathlib.Core.Logic.{_≢_};
-ghost use Prim.Native.Nat.{_+_, _*_, _/_, _%_, _≤_};
+ghost use Prim.Native.Nat.{_+_, _*_, _/_, _%_, _≤_, _<_};
 ghost use lib.ListN.{length};
 ghost use Rattle.answer.specs.Table.{limit};
 ghost use Rattle.list.specs.Listing.{amt};
@@ -127,7 +127,7 @@ fn is_bare(s: &[u8], at: usize, kind: u8) -> bool
 // nothing is told, and how many bytes of the image the tag has with it. `leaf` is asked at one place, so that the compiler has it in the loop.
 fn told(levels: &Levels, nodes: &[u64], k: usize, info: u64, kind: u8, s: &[u8], at: usize) -> Found
     requires { ⌜ Leveled (now levels) × (k + width ≤ length (now nodes)) × (info ≡ fieldsAt (now nodes) k) × (kind ≡ info / 256 % 256) × (at ≤ limit) × (length (now s) ≤ limit) × (kind ≢ 0) × (kind ≢ ending) ⌝ }
-    ensures { λ r. ⌜ (r .end ≢ 0 → Goes (now (nodes .entry)) k info (now (s .entry)) at (r .end) (r .size)) × (r .size ≤ longestItem) × (r .end ≤ tooFar) ⌝ }
+    ensures { λ r. ⌜ (r .end ≢ 0 → Goes (now (nodes .entry)) k info (now (s .entry)) at (r .end) (r .size) × (at + info % 256 ≤ r .end)) × (r .size ≤ longestItem) × (r .end ≤ tooFar) ⌝ }
 {
     let from = at + (info % 256) as usize;
     if kind == LONG {
@@ -168,7 +168,7 @@ fn told(levels: &Levels, nodes: &[u64], k: usize, info: u64, kind: u8, s: &[u8],
 // The rest of a tag, or a leaf's closing tag, at a place.
 fn closed(nodes: &[u64], k: usize, info: u64, s: &[u8], end: usize, size: usize) -> Past
     requires { ⌜ (k + width ≤ length (now nodes)) × (end ≤ tooFar) ⌝ }
-    ensures { λ r. ⌜ (r .at ≢ 0 → Closed (now (nodes .entry)) k info (now (s .entry)) end (r .at) × (r .size ≡ size)) × (r .size ≤ size) ⌝ }
+    ensures { λ r. ⌜ (r .at ≢ 0 → Closed (now (nodes .entry)) k info (now (s .entry)) end (r .at) × (r .size ≡ size) × (end ≤ r .at)) × (r .size ≤ size) ⌝ }
 {
     if !is_tag(nodes, k + END, eight(s, end), eight_after(s, end)) {
         return Past { at: 0, size: 0 };
@@ -181,22 +181,27 @@ const SHORT: u8 = 0;
 
 const ENDING: u8 = OVER as u8;
 
-// What comes after the first sixteen bytes of a node's tag, which stand at a place, up to the next tag. After the root's end blanks alone may come.
+// What comes after the first sixteen bytes of a node's tag, which stand at a place, up to the next tag. After the root's end blanks alone may come. Of a
+// node without a tag nothing is told: each turn goes on.
 pub(crate) fn passed(levels: &Levels, nodes: &[u64], n: usize, s: &[u8], at: usize) -> Past
     requires { ⌜ Leveled (now levels) × In (now nodes) n × (at ≤ limit) × (length (now s) ≤ limit) ⌝ }
-    ensures { λ r. ⌜ (r .at ≢ 0 → Turns (now (nodes .entry)) (width * n) (now (s .entry)) at (r .at) (r .size)) × (r .size ≤ longestItem) ⌝ }
+    ensures { λ r. ⌜ (r .at ≢ 0 → Turns (now (nodes .entry)) (width * n) (now (s .entry)) at (r .at) (r .size) × (at < r .at)) × (r .size ≤ longestItem) ⌝ }
 {
     let k = WIDTH * n;
     let info = nodes[k + INFO];
+    let long = (info % 256) as usize;
+    if long == 0 {
+        return Past { at: 0, size: 0 };
+    }
     let kind = (info / 256 % 256) as u8;
     if kind == SHORT {
         return Past {
-            at: at + (info % 256) as usize,
+            at: at + long,
             size: (info / ITEM % 256) as usize,
         };
     }
     if kind == ENDING {
-        let from = at + (info % 256) as usize;
+        let from = at + long;
         if blanks_end(s, from) < s.len() {
             return Past { at: 0, size: 0 };
         }

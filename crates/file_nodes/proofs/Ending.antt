@@ -22,9 +22,10 @@ use Rattle.image.proofs.content.Levels.{chain-children}
 use Rattle.image.proofs.content.Begins.{of-after}
 use Rattle.file.specs.Instance.{Kinds, valuesOf}
 use Rattle.file.specs.File.{File, imageOf}
+use Rattle.file_front.specs.Opens.{RootOpened}
 use Rattle.file_nodes.specs.Run.{Node}
 use Rattle.file_nodes.specs.Fitting.{NodesFit}
-use Rattle.file_nodes.specs.Ran.{RootOpened, Ran}
+use Rattle.file_nodes.specs.Ran.{Ran}
 use Rattle.file_nodes.proofs.Rooms.{room, root-room}
 use Rattle.file_nodes.proofs.Running.{Money, left}
 use Rattle.file_nodes.proofs.Laning.{Left, Up, root, more, put, put-node}

@@ -8,7 +8,7 @@ use lib.Dec.{eqb}
 use lib.ListN.{length, drop}
 use Rattle.answer.specs.declared.Answer.{Answer}
 use Rattle.answer.specs.Table.{accepted}
-use Rattle.text.specs.Bytes.{ascii, isCapital, isNameStart, isNamePart}
+use Rattle.text.specs.Bytes.{isCapital, isNameStart, isNamePart}
 use Rattle.text.specs.Numbers.{bigEndian}
 use Rattle.text_characters.specs.Pieces.{less, greater, solidus}
 use Rattle.list.specs.Listing.{ccy, Listing, rowAt}
@@ -31,10 +31,10 @@ use Rattle.file_nodes.specs.Fitting.{front, NodesFit}
 use Rattle.file_nodes.specs.Entries.{Form, opens, closes, Entry, entryAt, tagOf, nodeAt}
 use Rattle.file_nodes.specs.Ran.{Ran}
 use Rattle.file_nodes.specs.mirror.Nodes.{houseEntries, reportEntries}
-use Rattle.file_nodes.specs.mirror.Tables.{houseSpace, reportSpace, houseTable, reportTable}
-use Rattle.file_nodes.specs.mirror.ByKind.{entriesOf, tableOf, spaceOf, nodesOf}
+use Rattle.file_nodes.specs.mirror.Tables.{houseTable, reportTable}
+use Rattle.file_nodes.specs.mirror.ByKind.{entriesOf, tableOf, nodesOf}
 use Rattle.text.specs.Little.{little}
-use Rattle.file_nodes.specs.mirror.Kept.{In, Tabled, Lent}
+use Rattle.file_nodes.specs.mirror.Kept.{In, Tabled}
 use Rattle.file_nodes.proofs.Fitted.{May, test, tested}
 use Rattle.file_nodes.proofs.Tabling.{tableTest, tabled}
 use Rattle.file_nodes.proofs.Inverting.{Tagged}
@@ -139,54 +139,19 @@ lists-tabled = each-asked (λ l. Tabled (tableOf (l .byte)) (nodesOf l))
     (tables-of (house .byte) 1 house house-byte (tabled house houseEntries houseTable house-table))
     (tables-of (report .byte) 2 report report-byte (tabled report reportEntries reportTable report-table))
 
--- ---- the root of each list
-
-house-named : rowAt house 1 .name ≡ ascii "Document"
-unfolding house storedHouse rowAt
-house-named = refl
-
-report-named : rowAt report 1 .name ≡ ascii "Document"
-unfolding report storedReport rowAt
-report-named = refl
-
-pub named : (l : Listing) → Among l asked → rowAt l 1 .name ≡ ascii "Document"
-named = each-asked (λ l. rowAt l 1 .name ≡ ascii "Document") house-named report-named
-
-house-space : houseSpace ≡ house .space
-unfolding houseSpace house storedHouse
-house-space = refl
-
-report-space : reportSpace ≡ report .space
-unfolding reportSpace report storedReport
-report-space = refl
-
-pub space-is : (l : Listing) → Among l asked → spaceOf (l .byte) ≡ l .space
-space-is = each-asked (λ l. spaceOf (l .byte) ≡ l .space) (ap spaceOf house-byte ∙ house-space) (ap spaceOf report-byte ∙ report-space)
-
 -- ---- by any byte: a report's, or a statement's
 
 by-byte : (P : List ℕ → Type 0) (x y : List ℕ) (b : Bool) → P x → P y → P (cond b x y)
 by-byte P x y true p q = p
 by-byte P x y false p q = q
 
-house-lent : Lent houseTable × In houseTable 1
+house-start : In houseTable 1
 unfolding houseTable
-house-lent = ((nodeAt house houseEntries, tabled house houseEntries houseTable house-table), (omega arith, omega arith))
+house-start = (omega arith, omega arith)
 
-report-lent : Lent reportTable × In reportTable 1
+report-start : In reportTable 1
 unfolding reportTable
-report-lent = ((nodeAt report reportEntries, tabled report reportEntries reportTable report-table), (omega arith, omega arith))
+report-start = (omega arith, omega arith)
 
-pub nodes-lent : (b : ℕ) → Lent (tableOf b) × In (tableOf b) 1
-nodes-lent b = by-byte (λ t. Lent t × In t 1) reportTable houseTable (eqb b 2) report-lent house-lent
-
-house-short : length houseSpace ≤ 1000
-unfolding houseSpace
-house-short = omega arith
-
-report-short : length reportSpace ≤ 1000
-unfolding reportSpace
-report-short = omega arith
-
-pub space-short : (b : ℕ) → length (spaceOf b) ≤ 1000
-space-short b = by-byte (λ t. length t ≤ 1000) reportSpace houseSpace (eqb b 2) report-short house-short
+pub nodes-start : (b : ℕ) → In (tableOf b) 1
+nodes-start b = by-byte (λ t. In t 1) reportTable houseTable (eqb b 2) report-start house-start

@@ -21,7 +21,7 @@ use Rattle.file.specs.Instance.{Kinds}
 use Rattle.file_nodes.specs.Run.{Sort, shut, leaf, Node, Head, Run, blank, else, ends, closes, opens, tells}
 use Rattle.file_nodes.specs.Fitting.{coined, given, front, opening, closing, Enters, Fit, NodesFit}
 use Rattle.file_nodes.proofs.Rooms.{room, deeper}
-use Rattle.file_nodes.proofs.Texting.{text-good, pieced, pieced-is, pieced-chars, pieced-good, capitals-clear, attr-bytes}
+use Rattle.file_nodes.proofs.Texting.{text-good, pieced, pieced-is, pieced-chars, pieced-good, capitals-unmarked, attr-bytes}
 use Rattle.file_nodes.proofs.Laning.{shutTag, Left, Above, above, root, blanked, climb, opened, told, textly}
 use Rattle.file_nodes.proofs.Laning as laning
 
@@ -48,7 +48,7 @@ unfolding isBlank isNameStart isNamePart
 tagly-good none x w n e i = record { name = i; attributes = tt; gap = tt }
 tagly-good (some q) x w n e i = record {
   name = i;
-  attributes = (record { gap = (refl, tt); name = unprefixed (refl, (refl, (refl, tt))); before = tt; after = tt; value = pieced-good q w (capitals-clear w (e .1 .capitals)) }, tt, tt);
+  attributes = (record { gap = (refl, tt); name = unprefixed (refl, (refl, (refl, tt))); before = tt; after = tt; value = pieced-good q w (capitals-unmarked w (e .1 .capitals)) }, tt, tt);
   gap = tt;
 }
 
@@ -64,7 +64,7 @@ tagly-is none x w n t e =
 tagly-is (some q) x w n t e =
     ap (λ (z : List ℕ). (less ∷ (n ++ front (some q))) ++ (z ++ t)) (e .0)
     ∙ attr-bytes n (ascii " Ccy=") w (mark q) t
-    ∙ ap (λ (z : List ℕ). less ∷ ((n ++ (((ascii " Ccy=" ++ (mark q ∷ (z ++ (mark q ∷ [])))) ++ []) ++ [])) ++ (greater ∷ t))) (sym (pieced-is w (capitals-clear w (e .1 .capitals))))
+    ∙ ap (λ (z : List ℕ). less ∷ ((n ++ (((ascii " Ccy=" ++ (mark q ∷ (z ++ (mark q ∷ [])))) ++ []) ++ [])) ++ (greater ∷ t))) (sym (pieced-is w (capitals-unmarked w (e .1 .capitals))))
 
 no-coin : (k : Kinds) (f : Leaf) → coined f ≡ false → LeafAttrs (k .types) f []
 no-coin k f e = unpriced (λ z. true≢false (sym (ap coined z) ∙ e)) refl

@@ -18,7 +18,6 @@ use Rattle.xml.specs.House.{GoodMarkup, Quote, mark, GoodValue}
 use Rattle.xml.specs.House as X
 use Rattle.xml.proofs.Cuts.{begins, following, isCut, no-cut}
 use Rattle.value_leaf.specs.Took.{Uncut}
-use Rattle.file_nodes.specs.mirror.Clear.{Clear}
 use Rattle.file_nodes.proofs.Laning.{textly}
 
 char-of : (x : ℕ) (ps : List Piece) → begins x (textly ps) ≡ true → (qs : List Piece) × (ps ≡ pieces.char x ∷ qs)
@@ -63,6 +62,13 @@ text-good (p ∷ ps) h u d = (h .0, no-cut (textly (p ∷ ps)) (not-true (isCut 
 
 -- ---- plain bytes in a value
 
+-- a byte that stands for itself in either quotes
+record Clear (c : ℕ) : Type 0 where
+  low : 32 ≤ c
+  high : c ≤ 126
+  quotes : (c ≢ 34) × (c ≢ 39)
+  marks : (c ≢ 38) × (c ≢ 60)
+
 abbrev pub pieced : List ℕ → List Piece
 pieced [] = []
 pieced (c ∷ cs) = pieces.char c ∷ pieced cs
@@ -76,14 +82,10 @@ unmarked-clear c h = elim (is-in unmarked c h) [
   | inr e ↦ record { low = omega arith; high = omega arith; quotes = ((λ z. omega arith), (λ z. omega arith)); marks = ((λ z. omega arith), (λ z. omega arith)) }
 ]
 
-pub all-clear : (w : List ℕ) → All isUnmarked w → Each Clear w
-all-clear [] h = tt
-all-clear (c ∷ w) h = (unmarked-clear c (h .0), all-clear w (h .1))
-
-pub pieced-is : (w : List ℕ) → Each Clear w → spells (pieced w) ≡ w
+pub pieced-is : (w : List ℕ) → All isUnmarked w → spells (pieced w) ≡ w
 pieced-is [] h = refl
 pieced-is (c ∷ w) h =
-    ap (λ (z : List ℕ). z ++ spells (pieced w)) (encode1 c (omega (arith, h .0 .high))) ∙ ap (λ (z : List ℕ). c ∷ z) (pieced-is w (h .1))
+    ap (λ (z : List ℕ). z ++ spells (pieced w)) (encode1 c (omega (arith, unmarked-clear c (h .0) .high))) ∙ ap (λ (z : List ℕ). c ∷ z) (pieced-is w (h .1))
 
 pub pieced-chars : (w : List ℕ) → resolvedAll (pieced w) ≡ w
 pieced-chars [] = refl
@@ -93,10 +95,10 @@ no-mark : (q : Quote) (c : ℕ) → (c ≡ 34 → ⊥) → (c ≡ 39 → ⊥) �
 no-mark X.singleQuote c f g e = g (ap pieces.resolved e)
 no-mark X.double c f g e = f (ap pieces.resolved e)
 
-pub pieced-good : (q : Quote) (w : List ℕ) → Each Clear w → GoodValue q (pieced w)
+pub pieced-good : (q : Quote) (w : List ℕ) → All isUnmarked w → GoodValue q (pieced w)
 pieced-good q [] h = tt
 pieced-good q (c ∷ w) h =
-    let r = h .0 in
+    let r = unmarked-clear c (h .0) in
     (((xml-char-yes c (XmlChar.low (omega (arith, r .low)) (omega (arith, r .high))), r .marks .1, r .marks .0), no-mark q c (r .quotes .0) (r .quotes .1)), pieced-good q w (h .1))
 
 capital-unmarked : (x : ℕ) → isCapital x ≡ true → isUnmarked x ≡ true
@@ -105,9 +107,6 @@ capital-unmarked x h = let r = is-in capital x h in sym (yes unmarked 65 26 refl
 pub capitals-unmarked : (w : List ℕ) → All isCapital w → All isUnmarked w
 capitals-unmarked [] h = tt
 capitals-unmarked (c ∷ w) h = (capital-unmarked c (h .0), capitals-unmarked w (h .1))
-
-pub capitals-clear : (w : List ℕ) → All isCapital w → Each Clear w
-capitals-clear w h = all-clear w (capitals-unmarked w h)
 
 -- a tag with one attribute: f is what stands before the quote, n the name, w the value
 pub attr-bytes : (n f w : List ℕ) (m : ℕ) (t : List ℕ) → (less ∷ (n ++ (f ++ (m ∷ [])))) ++ ((w ++ (m ∷ greater ∷ [])) ++ t)

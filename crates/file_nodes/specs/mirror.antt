@@ -7,7 +7,5 @@ pub mod Kept
 pub mod Nodes
 -- a mirror: the code's constants
 pub mod Tables
--- a mirror: nodes, numbers and namespace by the kind byte
+-- a mirror: nodes and numbers by the kind byte
 pub mod ByKind
--- a mirror: bytes of an attribute's value
-pub mod Clear

@@ -1,11 +1,15 @@
 // The nodes of the lists as numbers, 11 a node.
 // Written by tools/lists/make.
+use crate::fields::WIDTH;
 ghost use mathlib.Core.Path.{_≡_};
-ghost use Rattle.file_nodes.specs.mirror.Tables.{houseSpace, houseTable, reportSpace, reportTable};
+ghost use Rattle.file_nodes.specs.mirror.Tables.{houseTable, reportTable};
 
-pub type Table = [u64; 1045];
+// How many nodes a table has; the first is none.
+pub const NODES: usize = 95;
 
-pub type Space = [u8; 46];
+const NUMBERS: usize = WIDTH * NODES;
+
+pub type Table = [u64; NUMBERS];
 
 const HOUSE: Table = [
     // house 0
@@ -2292,18 +2296,6 @@ const REPORT: Table = [
     0,
     0,
 ];
-
-pub(crate) fn house_space() -> Space
-    ensures { λ r. ⌜ r ≡ houseSpace ⌝ }
-{
-    *b"urn:iso:std:iso:20022:tech:xsd:camt.053.001.08"
-}
-
-pub(crate) fn report_space() -> Space
-    ensures { λ r. ⌜ r ≡ reportSpace ⌝ }
-{
-    *b"urn:iso:std:iso:20022:tech:xsd:camt.052.001.08"
-}
 
 pub(crate) fn house_table() -> Table
     ensures { λ r. ⌜ r ≡ houseTable ⌝ }

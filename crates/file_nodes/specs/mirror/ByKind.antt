@@ -1,4 +1,4 @@
--- A mirror: the nodes of a list, their numbers and its namespace, by its kind byte; of a byte that no list has, a statement's. Assumes nothing.
+-- A mirror: the nodes of a list and their numbers, by its kind byte; of a byte that no list has, a statement's. Assumes nothing.
 use mathlib.Core.Bool.{cond}
 use mathlib.Core.List.{List}
 use Prim.Native.Nat.{ℕ}
@@ -7,16 +7,13 @@ use Rattle.list.specs.Listing.{Listing}
 use Rattle.file_nodes.specs.Run.{Node}
 use Rattle.file_nodes.specs.Entries.{Entry, nodeAt}
 use Rattle.file_nodes.specs.mirror.Nodes.{houseEntries, reportEntries}
-use Rattle.file_nodes.specs.mirror.Tables.{houseSpace, reportSpace, houseTable, reportTable}
+use Rattle.file_nodes.specs.mirror.Tables.{houseTable, reportTable}
 
 abbrev pub entriesOf : ℕ → List Entry
 entriesOf b = cond (eqb b 2) reportEntries houseEntries
 
 abbrev pub tableOf : ℕ → List ℕ
 tableOf b = cond (eqb b 2) reportTable houseTable
-
-abbrev pub spaceOf : ℕ → List ℕ
-spaceOf b = cond (eqb b 2) reportSpace houseSpace
 
 abbrev pub nodesOf : Listing → ℕ → Node
 nodesOf l = nodeAt l (entriesOf (l .byte))

@@ -140,7 +140,3 @@ pub record Leading (t : List ℕ) (x : Node) (n : ℕ) : Type 0 where
 pub record Tabled (t : List ℕ) (at : ℕ → Node) : Type 0 where
   pub kept : (n : ℕ) → In t n → Kept (drop (width * n) t) (at n)
   pub leads : (n : ℕ) → In t n → Leading t (at n) n
-
--- some nodes
-abbrev pub Lent : List ℕ → Type 0
-Lent t = (at : ℕ → Node) × Tabled t at

@@ -2,13 +2,10 @@
 -- Written by tools/lists/make.
 use mathlib.Core.List.{List, [], _∷_}
 use Prim.Native.Nat.{ℕ}
-use Rattle.text.specs.Bytes.{ascii}
 
-unfoldable pub houseSpace : List ℕ
-houseSpace = ascii "urn:iso:std:iso:20022:tech:xsd:camt.053.001.08"
-
-unfoldable pub reportSpace : List ℕ
-reportSpace = ascii "urn:iso:std:iso:20022:tech:xsd:camt.052.001.08"
+-- how many nodes a table has; the first is none
+abbrev pub nodeCount : ℕ
+nodeCount = 95
 
 unfoldable pub houseTable : List ℕ
 houseTable =

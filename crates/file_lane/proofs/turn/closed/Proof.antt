@@ -28,7 +28,7 @@ add-after c = search needs
 returns-2 : tie.Need-returns-2
 returns-2 c =
     let a = c .before .before .before .before .before .before .args in
-    ((λ z. (closed-is (a .nodes .now) (a .s .now) (a .k) (a .info) (a .end) _ _ (c .before .before .before .eight .ensures) (c .before .before .eight-after .ensures) (c .before .is-tag .ensures .0 (not-false _ (c .if1 .left))), refl)), omega arith)
+    ((λ z. (closed-is (a .nodes .now) (a .s .now) (a .k) (a .info) (a .end) _ _ (c .before .before .before .eight .ensures) (c .before .before .eight-after .ensures) (c .before .is-tag .ensures .0 (not-false _ (c .if1 .left))), refl, omega arith)), omega arith)
 
 pub closed-spec : {M : Type 1} → statement M
 closed-spec =

@@ -14,7 +14,7 @@ add-from c = search needs
 returns : tie.Need-returns
 returns c =
     let start = c .before .before .before in
-    ((λ z. goes-long _ _ _ _ _ _ (start .pre .2) (start .pre .3) (c .if1 .taken)), omega arith, omega (arith, start .pre .4))
+    ((λ z. (goes-long _ _ _ _ _ _ (start .pre .2) (start .pre .3) (c .if1 .taken), omega arith)), omega arith, omega (arith, start .pre .4))
 
 listed-requires : tie.Need-listed-requires
 listed-requires c κs = search needs
@@ -30,7 +30,7 @@ returns-3 c =
     let at-listed = c .before in
     let at-if2 = at-listed .before in
     let start = at-if2 .before .before .before .before in
-    ((λ z. goes-word _ _ _ _ _ _ (start .pre .2) (start .pre .3) (at-if2 .if2 .taken) (at-listed .listed .ensures (not-false _ (c .if3 .left)))), omega arith, omega (arith, start .pre .4))
+    ((λ z. (goes-word _ _ _ _ _ _ (start .pre .2) (start .pre .3) (at-if2 .if2 .taken) (at-listed .listed .ensures (not-false _ (c .if3 .left))), omega arith)), omega arith, omega (arith, start .pre .4))
 
 is-bare-requires : tie.Need-is-bare-requires
 is-bare-requires c κs = search needs
@@ -78,9 +78,11 @@ returns-6 c =
     let start = at-if1 .before .before .before in
     let l = at-leaf .leaf .ensures (start .pre .0) in
     let jump = at-skip .skip .ensures in (
-      (λ z.
-          goes-text _ _ _ _ _ _ (start .pre .2) (start .pre .3) _ _ _ (start .pre .6) (at-if1 .if1 .left) (at-if2 .if2 .left) (start .pre .7) (at-bare .is-bare .ensures (at-if4 .if4 .left)) (at-sort .sort .ensures)
-          (jump .0, jump .1, jump .2) l (c .if5 .left)),
+      (λ z. (
+        goes-text _ _ _ _ _ _ (start .pre .2) (start .pre .3) _ _ _ (start .pre .6) (at-if1 .if1 .left) (at-if2 .if2 .left) (start .pre .7) (at-bare .is-bare .ensures (at-if4 .if4 .left)) (at-sort .sort .ensures)
+            (jump .0, jump .1, jump .2) l (c .if5 .left),
+        omega (arith, l .ends),
+      )),
       omega (arith, weighs-few _ _ _ _ (l .weighs)),
       omega (arith, leaf-near _ _ _ _ _ l, jump .3, start .pre .4, start .pre .5),
     )
