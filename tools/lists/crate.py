@@ -215,12 +215,16 @@ pub {list}-is : listOf {table} {pool} ≡ {list}
 unfolding {list} {table} {pool} cell words rowOf rowsFrom rulesFrom listOf
 {list}-is = refl
 
-{list}-test : sound {table} {pool} ≡ true
-unfolding {table} {pool} cell words rowOf rowsFrom rulesFrom listOf same isCapital isUnmarked isNameStart isNamePart firstFrom rowAt nextDue nextChild firstOf secondOf levelIn every begins among wordsOk rowTests ruleTests derivedTests well derived sound
+{list}-test : (well {list} && derived {list} {table}) ≡ true
+unfolding {list} {table} cell same isCapital isUnmarked isNameStart isNamePart firstFrom rowAt nextDue nextChild firstOf secondOf levelIn every begins among wordsOk rowTests ruleTests derivedTests well derived
 {list}-test = refl
 
+{list}-passes : sound {table} {pool} ≡ true
+unfolding sound
+{list}-passes = rw {list}-is {list}-test
+
 pub {list}-sound : Sound {table} {pool}
-{list}-sound = is-sound {table} {pool} {list}-test
+{list}-sound = is-sound {table} {pool} {list}-passes
 
 pub {list}-well : WellFormed {list}
 {list}-well = rw {list}-is at ({list}-sound .well)
@@ -239,7 +243,7 @@ def house_sound(lists):
 -- The constants say the house list, and they are sound: two computed equations. Assumes nothing.
 -- {MADE}
 use mathlib.Core.Path.{{_≡_, refl}}
-use mathlib.Core.Bool.{{true}}
+use mathlib.Core.Bool.{{true, _&&_}}
 use Prim.Native.Nat.{{ℕ}}
 use Rattle.text.specs.Lists.{{same}}
 use Rattle.text.specs.Bytes.{{isCapital, isNameStart, isNamePart, isUnmarked}}

@@ -10,7 +10,7 @@ zeros : (n : ℕ) → length (replicate {A = ℕ} n 0) ≡ n
 zeros n = length-replicate n 0
 
 slice-aggregate-read-full : tie.Need-slice-aggregate-read-full
-slice-aggregate-read-full c = sym (zeros _)
+slice-aggregate-read-full c = sym (zeros 1048577)
 
 read-full-requires : tie.Need-read-full-requires
 read-full-requires c κs = search needs
@@ -22,10 +22,10 @@ slice-aggregate-shown : tie.Need-slice-aggregate-shown
 slice-aggregate-shown c = c .before .before .read-full .ensures .1
 
 slice-aggregate-shown-2 : tie.Need-slice-aggregate-shown-2
-slice-aggregate-shown-2 c = sym (zeros _)
+slice-aggregate-shown-2 c = sym (zeros 1048576)
 
 slice-aggregate-shown-3 : tie.Need-slice-aggregate-shown-3
-slice-aggregate-shown-3 c = sym (zeros _)
+slice-aggregate-shown-3 c = sym (zeros 1048576)
 
 shown-requires : tie.Need-shown-requires
 shown-requires c κs = (zeros 1048576, zeros 1048576)
