@@ -1,6 +1,6 @@
 -- The text of a leaf that is known to be good: runs that stand for themselves, and entities. Assumes nothing.
 use mathlib.Core.Path.{_≡_, refl, sym, _∙_, ap, ap₂, subst}
-use mathlib.Core.Bool.{Bool, true, false, not, _&&_}
+use mathlib.Core.Bool.{true, not}
 use mathlib.Core.List.{List, [], _∷_, _++_, append-assoc}
 use mathlib.Core.Logic.{_≢_}
 use Prim.Native.Nat.{ℕ, _+_, _-_, _/_, _%_, _≤_, _<_}
@@ -8,7 +8,7 @@ use native.Mathlib.Omega.{arith}
 use lib.Dec.{eqb}
 use lib.ListN.{length, getD, take, drop, length-append, length-drop, length-take}
 use lib.Seq.{slice, drop-drop, getD-drop, take-append-add, drop-append-add, drop-append-seam}
-use borrow.Author.Tests.{eq-eqb, ne-eqb}
+use borrow.Author.Tests.{ne-eqb}
 use Rattle.text.specs.Lists.{Each, All, span}
 use Rattle.text.specs.Numbers.{bigEndian}
 use Rattle.text.specs.Pasting.{pasted}
@@ -17,7 +17,7 @@ use Rattle.text.proofs.Classes.{and-is}
 use Rattle.text.proofs.Parts.{part-take}
 use Rattle.text.proofs.Pasting.{pasted-before, length-pasted}
 use Rattle.text.proofs.Puts.{puts-none, puts-pasted, puts-then, puts-as}
-use Rattle.text.proofs.Spans.{span-stop, span-go, span-append, span-le}
+use Rattle.text.proofs.Spans.{span-append, span-le}
 use Rattle.text_characters.specs.Utf8.{encode, encodeAll}
 use Rattle.text_characters.specs.Pieces.{less, ampersand, Entity, amp, lt, gt, quot, apos, word, stands, Piece, char, entity, spells, resolvedAll, GoodPiece, Spells}
 use Rattle.text_characters.specs.Chars.{charOf, NextChar}
@@ -30,7 +30,8 @@ use Rattle.value.specs.Value.{text, bytes}
 use Rattle.value.proofs.given.Putting.{text-long}
 use Rattle.value_leaf.specs.Leafed.{isInside}
 use Rattle.value_levels.proofs.Levels.{all-map}
-use Rattle.file_fill.specs.mirror.Copying.{isPlain, Over, RawAt, TextAsked, TextLaid}
+use Rattle.value_levels.specs.mirror.Runs.{isPlain}
+use Rattle.file_fill.specs.mirror.Copying.{RawAt, TextAsked, TextLaid}
 
 -- ---- bytes that stand for themselves
 
@@ -44,10 +45,6 @@ plain-char c a b =
     (λ j k. (plain-yes (0xC0 + c / 64) (λ z. omega arith) (λ z. omega arith), (plain-yes (0x80 + c % 64) (λ z. omega arith) (λ z. omega arith), tt)))
     (λ j k. (plain-yes (0xE0 + c / 4096) (λ z. omega arith) (λ z. omega arith), (plain-yes (0x80 + c / 64 % 64) (λ z. omega arith) (λ z. omega arith), (plain-yes (0x80 + c % 64) (λ z. omega arith) (λ z. omega arith), tt))))
     (λ k. (plain-yes (0xF0 + c / 262144) (λ z. omega arith) (λ z. omega arith), (plain-yes (0x80 + c / 4096 % 64) (λ z. omega arith) (λ z. omega arith), (plain-yes (0x80 + c / 64 % 64) (λ z. omega arith) (λ z. omega arith), (plain-yes (0x80 + c % 64) (λ z. omega arith) (λ z. omega arith), tt)))))
-
-turned : (b c : Bool) → not b ≡ c → b ≡ not c
-turned true c e = ap not e
-turned false c e = ap not e
 
 -- ---- a raw text has no `<`
 
@@ -70,24 +67,6 @@ inside-all (entity x ∷ ps) g = all-append isInside (word x) (spells ps) (word-
 
 pub inside-raw : (raw cs : List ℕ) → Spells raw cs → All isInside raw
 inside-raw raw cs w = subst (All isInside) (sym (w .is)) (inside-all (w .pieces) (w .good))
-
--- ---- the loops over them
-
-pub over-start : (s : List ℕ) (at i : ℕ) → i ≡ at → Over s at i
-over-start s at i e = record { is = ap (λ (j : ℕ). j + span isPlain (drop j s)) e }
-
-pub over-more : (s : List ℕ) (at i j : ℕ) (a b : Bool) → (a ≡ true → Over s at i) → i < length s → b ≡ isPlain (getD s i 0) → j ≡ i + 1 → a && b ≡ true → Over s at j
-over-more s at i j a b f h e g z =
-    let x = and-is a b z in
-    let q = span-go isPlain s i h (sym e ∙ x .1) in
-    let r = f (x .0) .is in
-    subst (Over s at) (sym g) (record { is = omega (arith, q, r) })
-
-pub over-as : (s : List ℕ) (at j : ℕ) (a : Bool) → j ≤ 16 → 16 ≤ j → (a ≡ true → Over s at (at + j)) → a ≡ true → Over s at (at + 16)
-over-as s at j a h g f z = let e : j ≡ 16 = omega arith in subst (λ (x : ℕ). Over s at (at + x)) e (f z)
-
-pub over-then : (s : List ℕ) (i n : ℕ) (b : Bool) → i + span isPlain (drop i s) ≡ n → (b ≡ true → Over s i (i + 16)) → not b ≡ false → i + 16 + span isPlain (drop (i + 16) s) ≡ n
-over-then s i n b w f z = f (turned b false z) .is ∙ w
 
 -- ---- where a run stops: at the text's end, or at an entity
 

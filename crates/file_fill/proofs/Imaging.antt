@@ -32,7 +32,7 @@ use Rattle.file.proofs.Chosen.{filed-chosen}
 use Rattle.file.proofs.answers.House.{one-content}
 use Rattle.file_nodes.specs.Entries.{nodeAt}
 use Rattle.file_nodes.specs.mirror.ByKind.{entriesOf, tableOf, nodesOf}
-use Rattle.file_nodes.specs.mirror.Kept.{In, Tabled}
+use Rattle.file_nodes.specs.mirror.Kept.{Tabled}
 use Rattle.file_nodes.proofs.House.{ran-content, ran-filed, ran-image, ran-long, lists-tabled, nodes-start}
 use Rattle.file_lane.specs.Seen.{Seen}
 use Rattle.file_lane.proofs.Knowing.{seen-ran}

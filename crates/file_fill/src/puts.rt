@@ -17,81 +17,22 @@ use value_dates::day::day;
 use value_dates_stored::to_bytes::write_day;
 use value_kinds::write::write;
 use value_leaf::slow::text_end;
+use value_levels::plain::plain_end;
 use value_shared::place::place;
 ghost use mathlib.Core.Path.{_≡_};
-ghost use mathlib.Core.Bool.{true};
 ghost use Prim.Native.Nat.{ℕ, _+_, _≤_};
-ghost use lib.ListN.{length, drop};
-ghost use Rattle.text.specs.Lists.{span};
+ghost use lib.ListN.{length};
 ghost use Rattle.list.specs.Listing.{date};
 ghost use Rattle.value.specs.Kind.{code};
 ghost use Rattle.file_nodes.specs.mirror.Fields.{width, letters, tooFar};
 ghost use Rattle.text.specs.Little.{Loaded};
-ghost use Rattle.file_fill.specs.mirror.Copying.{isPlain, block, Over, TextAsked, TextLaid};
+ghost use Rattle.file_fill.specs.mirror.Copying.{TextAsked, TextLaid};
 ghost use Rattle.file_fill.specs.mirror.Fills.{wordIn, LeafAsked, LeafLaid, OtherLaid};
 
 // The place after an item in the image, and after its text.
 pub(crate) struct Put {
     pub at: usize,
     pub end: usize,
-}
-
-// Whether a byte stands for itself in a text, and ends none.
-fn is_plain(b: u8) -> bool
-    ensures { λ r. ⌜ r ≡ isPlain b ⌝ }
-{
-    (b != b'<') & (b != b'&')
-}
-
-// How many bytes are looked at at once.
-const BLOCK: usize = 16;
-
-const BEFORE_LAST: usize = BLOCK - 1;
-
-// Whether so many bytes do. All are looked at, which the compiler does at once.
-fn sixteen(s: &[u8], at: usize) -> bool
-    requires { ⌜ at + block ≤ length (now s) ⌝ }
-    ensures { λ r. ⌜ (r ≡ true → Over (now (s .entry)) at (at + block)) ⌝ }
-{
-    let mut all = true;
-    let mut j: usize = 0;
-    while j < BLOCK {
-        all = all & is_plain(s[at + j]);
-        j += 1;
-    }
-    all
-}
-
-// The end of such bytes from a place on, one after the other.
-fn run_near(s: &[u8], at: usize) -> usize
-    ensures { λ r. ⌜ r ≡ at + span isPlain (drop at (now (s .entry))) ⌝ }
-{
-    let mut i = at;
-    while i < s.len() {
-        if !is_plain(s[i]) {
-            return i;
-        }
-        i += 1;
-    }
-    i
-}
-
-// The same, a block a turn.
-fn run_end(s: &[u8], at: usize) -> usize
-    ensures { λ r. ⌜ r ≡ at + span isPlain (drop at (now (s .entry))) ⌝ }
-{
-    if s.len() < BLOCK {
-        return run_near(s, at);
-    }
-    let last = s.len() - BEFORE_LAST;
-    let mut i = at;
-    while i < last {
-        if !sixteen(s, i) {
-            return run_near(s, i);
-        }
-        i += BLOCK;
-    }
-    run_near(s, i)
 }
 
 // "16-bit byte length"
@@ -105,7 +46,7 @@ pub(crate) fn put_text(s: &[u8], at: usize, out: &mut [u8], to: usize) -> Put
     let mut from = at;
     let mut o = to + 2;
     loop {
-        let i = run_end(s, from);
+        let i = plain_end(s, from);
         copy(s, from, i, out, o);
         o += i - from;
         if s[i] == b'<' {

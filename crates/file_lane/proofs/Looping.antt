@@ -1,18 +1,17 @@
 -- The lane's loop over a table, turn by turn: what comes from here on comes from the start. Assumes nothing.
 use mathlib.Core.Path.{_≡_, refl, sym, _∙_, ap, subst}
 use mathlib.Core.Logic.{_≢_}
-use mathlib.Core.List.{List, [], _∷_, _++_, append-assoc}
-use Prim.Native.Nat.{ℕ, suc, _+_, _*_, _-_, _/_, _%_, _≤_, _<_}
+use mathlib.Core.List.{List, _++_, append-assoc}
+use Prim.Native.Nat.{ℕ, _+_, _*_, _/_, _%_, _≤_, _<_}
 use native.Mathlib.Omega.{arith}
-use lib.ListN.{length, getD, take, drop, take-append-drop, length-append, length-drop}
+use lib.ListN.{length, getD, take, drop, take-append-drop}
 use Rattle.text.specs.Bytes.{isBlank}
 use Rattle.text.specs.Lists.{span}
-use Rattle.list.specs.Listing.{Leaf}
 use Rattle.file.specs.Instance.{houseKinds}
 use Rattle.file_nodes.specs.Run.{Sort, over, shut, group, leaf, Node}
 use Rattle.text.specs.Little.{Loaded}
-use Rattle.file_nodes.specs.mirror.Kept.{Masked, In, Leading, Tabled}
-use Rattle.file_lane.specs.mirror.Turn.{otherIn, Sought, here, beside, Stood, Turned, Turns}
+use Rattle.file_nodes.specs.mirror.Kept.{Masked, In, Tabled}
+use Rattle.file_lane.specs.mirror.Turn.{Sought, here, beside, Stood, Turned, Turns}
 use Rattle.file_lane.specs.mirror.Leads.{Comes, Leads}
 use Rattle.file_lane.proofs.Masking.{masked-at, stands, stood}
 use Rattle.file_lane.proofs.Seeking.{info-at, other-at}

@@ -29,7 +29,7 @@ const START: usize = 1;
 const HEAD: usize = 7;
 
 // How many bytes the image has of a file that goes on so from a place after its root's tag; 0 where that is not known here. No sum overflows: each turn
-// goes on in a text of at most 1,048,576 bytes, and an item has at most 65,538. Of a table that leads back or to no node nothing is told.
+// goes on in a text of at most 1,048,576 bytes, and an item has at most 65,538. Of a table that leads to no node nothing is told.
 pub(crate) fn length_from(levels: &Levels, nodes: &[u64], s: &[u8], from: usize) -> usize
     requires { ⌜ Leveled (now levels) × (length (now nodes) ≡ width * nodeCount) ⌝ }
     ensures { λ r. ⌜ (r ≢ 0 → (length (now (s .entry)) ≤ limit) × ((at : ℕ → Node) → Tabled (now (nodes .entry)) at → Comes houseKinds at (now (s .entry)) 1 from r)) ⌝ }

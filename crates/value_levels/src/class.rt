@@ -23,14 +23,14 @@ pub const DIGIT: u8 = 4;
 // So many bytes are passed at a turn, and so many of a text at once.
 const TURN: usize = 4;
 
-const BLOCK: usize = 16;
+pub(crate) const BLOCK: usize = 16;
 
 const ALL: u8 = BLOCK as u8;
 
 // One less.
 const SHORT_TURN: usize = TURN - 1;
 
-const SHORT_BLOCK: usize = BLOCK - 1;
+pub(crate) const SHORT_BLOCK: usize = BLOCK - 1;
 
 fn wide(x: u8) -> usize
     ensures { λ r. ⌜ (r ≡ x) × (r < 256) ⌝ }

@@ -1,27 +1,12 @@
 -- A mirror: the text of a leaf that is known to be good, and what is put of it. Assumes nothing.
 use mathlib.Core.Path.{_≡_}
-use mathlib.Core.Bool.{Bool, not, _&&_}
 use mathlib.Core.List.{List, _∷_, _++_}
 use Prim.Native.Nat.{ℕ, _+_, _≤_}
-use lib.Dec.{eqb}
 use lib.ListN.{length, drop}
-use Rattle.text.specs.Lists.{span}
 use Rattle.text.specs.Puts.{Puts}
 use Rattle.text_characters.specs.Utf8.{encodeAll}
-use Rattle.text_characters.specs.Pieces.{less, ampersand, Spells}
+use Rattle.text_characters.specs.Pieces.{less, Spells}
 use Rattle.value.specs.Value.{text, bytes}
-
--- a byte that stands for itself: neither `<`, which ends a text, nor `&`
-unfoldable pub isPlain : ℕ → Bool
-isPlain x = not (eqb x less) && not (eqb x ampersand)
-
--- how many are looked at at once
-abbrev pub block : ℕ
-block = 16
-
--- from i to j there are such bytes alone: it is no matter from where one goes on
-pub record Over (s : List ℕ) (i j : ℕ) : Type 0 where
-  pub is : j + span isPlain (drop j s) ≡ i + span isPlain (drop i s)
 
 -- from place i of s on stands a raw text that spells cs, up to the `<` at e
 pub record RawAt (s : List ℕ) (i : ℕ) (cs : List ℕ) (e : ℕ) : Type 0 where

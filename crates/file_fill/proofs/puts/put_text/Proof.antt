@@ -20,28 +20,28 @@ add-o c = omega (arith, c .before .before .pre .room)
 loop-holds : tie.Need-loop-holds Inv-loop μ-loop
 loop-holds c = going-start _ _ _ _
 
-run-end-requires : tie.Need-run-end-requires Inv-loop μ-loop
-run-end-requires c κs = search needs
+plain-end-requires : tie.Need-plain-end-requires Inv-loop μ-loop
+plain-end-requires c κs = search needs
 
 copy-requires : tie.Need-copy-requires Inv-loop μ-loop
 copy-requires c κs = search needs
 
 sub-o : tie.Need-sub-o Inv-loop μ-loop
-sub-o c = omega (arith, c .before .before .before .before .run-end .ensures)
+sub-o c = omega (arith, c .before .before .before .before .plain-end .ensures)
 
 add-o-2 : tie.Need-add-o-2 Inv-loop μ-loop
 add-o-2 c =
     let at-run = c .before .before .before .before in
     let at-loop = at-run .before in
     let start = at-loop .before .before .before in
-    omega (arith, run-fits _ _ _ _ (start .pre) _ _ _ (at-loop .loop .inv) _ (at-run .run-end .ensures), start .good .1 .1 .0 .0)
+    omega (arith, run-fits _ _ _ _ (start .pre) _ _ _ (at-loop .loop .inv) _ (at-run .plain-end .ensures), start .good .1 .1 .0 .0)
 
 shared-slice-read-if1 : tie.Need-shared-slice-read-if1 Inv-loop μ-loop
 shared-slice-read-if1 c =
     let at-run = c .before .before .before .before .before in
     let at-loop = at-run .before in
     let pre = at-loop .before .before .before .pre in
-    let h = run-within _ _ _ _ pre _ _ _ (at-loop .loop .inv) _ (at-run .run-end .ensures) in
+    let h = run-within _ _ _ _ pre _ _ _ (at-loop .loop .inv) _ (at-run .plain-end .ensures) in
     search needs
 
 sub-put16 : tie.Need-sub-put16 Inv-loop μ-loop
@@ -49,14 +49,14 @@ sub-put16 c =
     let at-run = c .before .before .before .before .before .before .before in
     let at-loop = at-run .before in
     let pre = at-loop .before .before .before .pre in
-    omega (arith, run-above _ _ _ _ pre _ _ _ (at-loop .loop .inv) _ (at-run .run-end .ensures))
+    omega (arith, run-above _ _ _ _ pre _ _ _ (at-loop .loop .inv) _ (at-run .plain-end .ensures))
 
 sub-put16-2 : tie.Need-sub-put16-2 Inv-loop μ-loop
 sub-put16-2 c =
     let at-run = c .before .before .before .before .before .before .before in
     let at-loop = at-run .before in
     let pre = at-loop .before .before .before .pre in
-    omega (arith, run-above _ _ _ _ pre _ _ _ (at-loop .loop .inv) _ (at-run .run-end .ensures))
+    omega (arith, run-above _ _ _ _ pre _ _ _ (at-loop .loop .inv) _ (at-run .plain-end .ensures))
 
 cast-put16 : tie.Need-cast-put16 Inv-loop μ-loop
 cast-put16 c = omega arith
@@ -72,7 +72,7 @@ same-length c =
     let at-run = at-copy .before .before in
     let at-loop = at-run .before in
     let pre = at-loop .before .before .before .pre in
-    end-long _ _ _ _ pre _ _ _ (at-loop .loop .inv) _ (at-run .run-end .ensures) _ (at-copy .copy .ensures) (at-if1 .if1 .taken) _ _ refl (at-put16 .put16 .ensures)
+    end-long _ _ _ _ pre _ _ _ (at-loop .loop .inv) _ (at-run .plain-end .ensures) _ (at-copy .copy .ensures) (at-if1 .if1 .taken) _ _ refl (at-put16 .put16 .ensures)
 
 returns : tie.Need-returns Inv-loop μ-loop
 returns c =
@@ -82,7 +82,7 @@ returns c =
     let at-run = at-copy .before .before in
     let at-loop = at-run .before in
     let pre = at-loop .before .before .before .pre in
-    text-laid _ _ _ _ pre _ _ _ (at-loop .loop .inv) _ (at-run .run-end .ensures) _ (at-copy .copy .ensures) (at-if1 .if1 .taken) _ _ refl (at-put16 .put16 .ensures)
+    text-laid _ _ _ _ pre _ _ _ (at-loop .loop .inv) _ (at-run .plain-end .ensures) _ (at-copy .copy .ensures) (at-if1 .if1 .taken) _ _ refl (at-put16 .put16 .ensures)
 
 next-char-requires : tie.Need-next-char-requires Inv-loop μ-loop
 next-char-requires c κs = search needs
@@ -95,7 +95,7 @@ cast-place c =
     let at-run = at-copy .before .before in
     let at-loop = at-run .before in
     let pre = at-loop .before .before .before .pre in
-    omega (arith, code-low _ _ _ _ pre _ _ _ (at-loop .loop .inv) _ (at-run .run-end .ensures) _ (at-copy .copy .ensures) (at-if1 .if1 .left) _ (at-next .next-char .ensures))
+    omega (arith, code-low _ _ _ _ pre _ _ _ (at-loop .loop .inv) _ (at-run .plain-end .ensures) _ (at-copy .copy .ensures) (at-if1 .if1 .left) _ (at-next .next-char .ensures))
 
 place-requires : tie.Need-place-requires Inv-loop μ-loop
 place-requires c κs = search needs
@@ -109,7 +109,7 @@ add-o-3 c =
     let at-run = at-copy .before .before in
     let at-loop = at-run .before in
     let start = at-loop .before .before .before in
-    omega (arith, more-fits _ _ _ _ (start .pre) _ _ _ (at-loop .loop .inv) _ (at-run .run-end .ensures) _ (at-copy .copy .ensures) (at-if1 .if1 .left) _ (at-next .next-char .ensures), start .good .1 .1 .0 .0)
+    omega (arith, more-fits _ _ _ _ (start .pre) _ _ _ (at-loop .loop .inv) _ (at-run .plain-end .ensures) _ (at-copy .copy .ensures) (at-if1 .if1 .left) _ (at-next .next-char .ensures), start .good .1 .1 .0 .0)
 
 add-from : tie.Need-add-from Inv-loop μ-loop
 add-from c =
@@ -120,7 +120,7 @@ add-from c =
     let at-run = at-copy .before .before in
     let at-loop = at-run .before in
     let pre = at-loop .before .before .before .pre in
-    omega (arith, len-within _ _ _ _ pre _ _ _ (at-loop .loop .inv) _ (at-run .run-end .ensures) _ (at-copy .copy .ensures) (at-if1 .if1 .left) _ (at-next .next-char .ensures))
+    omega (arith, len-within _ _ _ _ pre _ _ _ (at-loop .loop .inv) _ (at-run .plain-end .ensures) _ (at-copy .copy .ensures) (at-if1 .if1 .left) _ (at-next .next-char .ensures))
 
 loop-less : tie.Need-loop-less Inv-loop μ-loop
 loop-less c =
@@ -133,10 +133,10 @@ loop-less c =
     let pre = at-loop .before .before .before .pre in
     omega (
       arith,
-      len-within _ _ _ _ pre _ _ _ (at-loop .loop .inv) _ (at-run .run-end .ensures) _ (at-copy .copy .ensures) (at-if1 .if1 .left) _ (at-next .next-char .ensures),
-      len-some _ _ _ _ pre _ _ _ (at-loop .loop .inv) _ (at-run .run-end .ensures) _ (at-copy .copy .ensures) (at-if1 .if1 .left) _ (at-next .next-char .ensures),
-      run-within _ _ _ _ pre _ _ _ (at-loop .loop .inv) _ (at-run .run-end .ensures),
-      at-run .run-end .ensures,
+      len-within _ _ _ _ pre _ _ _ (at-loop .loop .inv) _ (at-run .plain-end .ensures) _ (at-copy .copy .ensures) (at-if1 .if1 .left) _ (at-next .next-char .ensures),
+      len-some _ _ _ _ pre _ _ _ (at-loop .loop .inv) _ (at-run .plain-end .ensures) _ (at-copy .copy .ensures) (at-if1 .if1 .left) _ (at-next .next-char .ensures),
+      run-within _ _ _ _ pre _ _ _ (at-loop .loop .inv) _ (at-run .plain-end .ensures),
+      at-run .plain-end .ensures,
     )
 
 loop-again : tie.Need-loop-again Inv-loop μ-loop
@@ -148,9 +148,9 @@ loop-again c =
     let at-run = at-copy .before .before in
     let at-loop = at-run .before in
     let pre = at-loop .before .before .before .pre in
-    going-again _ _ _ _ pre _ _ _ (at-loop .loop .inv) _ (at-run .run-end .ensures) _ (at-copy .copy .ensures) (at-if1 .if1 .left) _ (at-next .next-char .ensures) _ (at-place .place .ensures)
+    going-again _ _ _ _ pre _ _ _ (at-loop .loop .inv) _ (at-run .plain-end .ensures) _ (at-copy .copy .ensures) (at-if1 .if1 .left) _ (at-next .next-char .ensures) _ (at-place .place .ensures)
 
 pub put-text-spec : {M : Type 1} → statement M
 put-text-spec =
     tie.close
-    (tie.spec Inv-loop μ-loop add-o loop-holds run-end-requires copy-requires sub-o add-o-2 shared-slice-read-if1 sub-put16 sub-put16-2 cast-put16 put16-requires same-length returns next-char-requires cast-place place-requires add-o-3 add-from loop-less loop-again)
+    (tie.spec Inv-loop μ-loop add-o loop-holds plain-end-requires copy-requires sub-o add-o-2 shared-slice-read-if1 sub-put16 sub-put16-2 cast-put16 put16-requires same-length returns next-char-requires cast-place place-requires add-o-3 add-from loop-less loop-again)

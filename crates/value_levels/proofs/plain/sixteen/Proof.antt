@@ -1,13 +1,13 @@
--- `puts::sixteen` meets its contract: what was passed so far. Assumes nothing.
+-- `plain::sixteen` meets its contract: what was passed so far. Assumes nothing.
 use mathlib.Core.Path.{_≡_}
 use mathlib.Core.Bool.{true}
 use Prim.Native.Nat.{_+_, _-_, _≤_}
 use native.Mathlib.Omega.{arith}
 use borrow.Author.Needs.{needs}
-use Rattle.file_fill.specs.mirror.Copying.{Over}
-use Rattle.file_fill.proofs.Copying.{over-start, over-more, over-as}
-use Rattle.file_fill.proofs.puts.sixteen.Statement.{statement}
-use Rattle.file_fill.proofs.puts.sixteen.Tie as tie
+use Rattle.value_levels.specs.mirror.Runs.{Over}
+use Rattle.value_levels.proofs.Passing.{over-start, over-more, over-as}
+use Rattle.value_levels.proofs.plain.sixteen.Statement.{statement}
+use Rattle.value_levels.proofs.plain.sixteen.Tie as tie
 
 abbrev Inv-loop : tie.InvT-loop
 Inv-loop s at all₀ j₀ all j = (j ≤ 16) × (all ≡ true → Over s at (at + j))

@@ -1,14 +1,13 @@
--- `puts::run_near` meets its contract: what is still to come from `i` makes up the answer from `at`. Assumes nothing.
+-- `plain::plain_near` meets its contract: what is still to come from `i` makes up the answer from `at`. Assumes nothing.
 use mathlib.Core.Path.{_≡_, refl}
 use Prim.Native.Nat.{_+_, _-_}
-use native.Mathlib.Omega.{arith}
 use lib.ListN.{length, drop}
 use borrow.Author.Needs.{needs}
 use Rattle.text.specs.Lists.{span}
 use Rattle.text.proofs.Spans.{span-over, span-found, span-again}
-use Rattle.file_fill.specs.mirror.Copying.{isPlain}
-use Rattle.file_fill.proofs.puts.run_near.Statement.{statement}
-use Rattle.file_fill.proofs.puts.run_near.Tie as tie
+use Rattle.value_levels.specs.mirror.Runs.{isPlain}
+use Rattle.value_levels.proofs.plain.plain_near.Statement.{statement}
+use Rattle.value_levels.proofs.plain.plain_near.Tie as tie
 
 abbrev Inv-loop : tie.InvT-loop
 Inv-loop s at i₀ i = i + span isPlain (drop i s) ≡ at + span isPlain (drop at s)
@@ -46,5 +45,5 @@ loop-again c =
 returns-2 : tie.Need-returns-2 Inv-loop μ-loop
 returns-2 c = span-over isPlain _ _ _ (c .before .loop .inv) (c .loop-test .left)
 
-pub run-near-spec : {M : Type 1} → statement M
-run-near-spec = tie.close (tie.spec Inv-loop μ-loop loop-holds shared-slice-read-is-plain is-plain-requires returns add-i loop-less loop-again returns-2)
+pub plain-near-spec : {M : Type 1} → statement M
+plain-near-spec = tie.close (tie.spec Inv-loop μ-loop loop-holds shared-slice-read-is-plain is-plain-requires returns add-i loop-less loop-again returns-2)
