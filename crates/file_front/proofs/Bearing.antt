@@ -21,7 +21,7 @@ use Rattle.xml.specs.House.{IsName, IsAttrName, unprefixed, prefixed, mark, Att
 use Rattle.xml.specs.Message.{Attrs, attrsOf}
 use Rattle.file_walk.specs.First.{carries, isHint, unhinted}
 use Rattle.file_front.specs.declared.attributes.Carried.{Carried}
-use Rattle.file_front.specs.mirror.Attributes.{Notes, spaced, tied, placed, Puts, Adds, Spaced, none, one, bit, mostAttributes, Carries}
+use Rattle.file_front.specs.mirror.Attributes.{Notes, spaced, tied, placed, Gains, Adds, Spaced, none, one, bit, mostAttributes, Carries}
 use Rattle.file_front.proofs.Joining.{joined-more, stands-on}
 
 -- ---- an attribute after others
@@ -203,7 +203,7 @@ noted-name n c d v (placed e z k p l) = prefixed (ascii "xsi") (ascii "schemaLoc
 
 -- blanks, a name with `=`, and a value
 pub puts-adds : (n w s : List ℕ) (from : ℕ) (c d : Carried) → from ≡ c .at + span isBlank (drop (c .at) s) → from ≢ c .at → w ≡ n ++ (equal ∷ []) → starts w (drop from s) ≡ true
-    → Puts n s (from + length w) c d → Adds s c d
+    → Gains n s (from + length w) c d → Adds s c d
 puts-adds n w s from c d b o e z x =
     let at : ℕ = c .at in
     let m : ℕ = span isBlank (drop at s) in

@@ -28,7 +28,7 @@ use Rattle.xml_pieces.specs.declared.Went.the-variants.{On}
 use Rattle.file_front.specs.declared.attributes.Carried.{Carried}
 use Rattle.file_front.specs.mirror.Spaces.{houseSpace, reportSpace}
 use Rattle.file_front.specs.mirror.Values.{Quotes, Worded, Plain, Pieced, Passed, Valued, Quoted}
-use Rattle.file_front.specs.mirror.Attributes.{spaced, Puts}
+use Rattle.file_front.specs.mirror.Attributes.{spaced, Gains}
 use Rattle.file_front.proofs.Joining.{joined-more, each-more, stands-on}
 
 pub quotes-double : (x : ℕ) → x ≡ 34 → Quotes x
@@ -136,7 +136,7 @@ worded-by w s at from end h q a z e i k =
 
 -- the namespace of a list
 pub space-puts : (l : Listing) → Among l asked → (h s : List ℕ) → h ≡ l .space → (at : ℕ) (c d : Carried) → Worded h s at (d .at) → c .kind ≡ 0 → d .kind ≡ l .byte
-    → d .prefix ≡ c .prefix → d .location ≡ c .location → Puts (ascii "xmlns") s at c d
+    → d .prefix ≡ c .prefix → d .location ≡ c .location → Gains (ascii "xmlns") s at c d
 space-puts l i h s e at c d w z k p o =
     let u : All isUnmarked h = subst (All isUnmarked) (sym e) (asked-well l i .space) in
     let own = unmarked-own h u in

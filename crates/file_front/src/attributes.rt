@@ -10,7 +10,7 @@ use text::span::blanks_end;
 ghost use mathlib.Core.Path.{_≡_};
 ghost use mathlib.Core.Logic.{_≢_};
 ghost use Rattle.text.specs.Bytes.{ascii};
-ghost use Rattle.file_front.specs.mirror.Attributes.{Puts, Adds, Carries, Shut};
+ghost use Rattle.file_front.specs.mirror.Attributes.{Gains, Adds, Carries, Shut};
 
 // Their names, each with its `=`.
 const XMLNS: [u8; 6] = *b"xmlns=";
@@ -44,7 +44,7 @@ fn lost() -> Carried
 
 // With the namespace of a list, which stands at a place: its characters are written in one way only.
 fn with_space(s: &[u8], at: usize, seen: Carried) -> Carried
-    ensures { λ r. ⌜ (r .at ≢ 0 → Puts (ascii "xmlns") (now (s .entry)) at seen r) ⌝ }
+    ensures { λ r. ⌜ (r .at ≢ 0 → Gains (ascii "xmlns") (now (s .entry)) at seen r) ⌝ }
 {
     if seen.kind != 0 {
         return lost();
@@ -70,7 +70,7 @@ fn with_space(s: &[u8], at: usize, seen: Carried) -> Carried
 
 // With `xmlns:xsi`.
 fn with_prefix(s: &[u8], at: usize, seen: Carried) -> Carried
-    ensures { λ r. ⌜ (r .at ≢ 0 → Puts (ascii "xmlns:xsi") (now (s .entry)) at seen r) ⌝ }
+    ensures { λ r. ⌜ (r .at ≢ 0 → Gains (ascii "xmlns:xsi") (now (s .entry)) at seen r) ⌝ }
 {
     if seen.prefix {
         return lost();
@@ -85,7 +85,7 @@ fn with_prefix(s: &[u8], at: usize, seen: Carried) -> Carried
 
 // With `xsi:schemaLocation`.
 fn with_location(s: &[u8], at: usize, seen: Carried) -> Carried
-    ensures { λ r. ⌜ (r .at ≢ 0 → Puts (ascii "xsi:schemaLocation") (now (s .entry)) at seen r) ⌝ }
+    ensures { λ r. ⌜ (r .at ≢ 0 → Gains (ascii "xsi:schemaLocation") (now (s .entry)) at seen r) ⌝ }
 {
     if seen.location {
         return lost();

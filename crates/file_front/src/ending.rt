@@ -21,8 +21,8 @@ fn blanks_start(s: &[u8]) -> usize
     end
 }
 
-// Whether a file ends with its root's end tag, blanks aside. Nothing rests on it: it is asked first, so that a file that is refused at its very end costs
-// little more than the exact passes.
+// Whether a file ends with its root's end tag, blanks aside. Nothing rests on it: it is asked first, so that a file that breaks off, or goes on after its
+// root, costs little more than the exact passes.
 pub(crate) fn is_closed(s: &[u8]) -> bool {
     let end = blanks_start(s);
     if end < ROOT_END.len() {

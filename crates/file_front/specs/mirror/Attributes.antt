@@ -37,7 +37,7 @@ pub data Notes (n : List ℕ) (v : List Piece) (c d : Carried) : Type 0 where
   placed : n ≡ ascii "xsi:schemaLocation" → c .location ≡ false → d .kind ≡ c .kind → d .prefix ≡ c .prefix → d .location ≡ true → Notes n v c d
 
 -- its value stands at a place
-pub record Puts (n s : List ℕ) (at : ℕ) (c d : Carried) : Type 0 where
+pub record Gains (n s : List ℕ) (at : ℕ) (c d : Carried) : Type 0 where
   pub quoted : Quoted s at (d .at)
   pub notes : Notes n (quoted .value) c d
 
