@@ -1,19 +1,15 @@
 -- What the pass leaves in a buffer is the image of a good file: for each list. Assumes nothing.
 use mathlib.Core.Path.{_≡_, refl, sym, _∙_, ap, ap₂, subst}
-use mathlib.Core.Bool.{not, _&&_, false≢true}
 use mathlib.Core.Logic.{_≢_}
 use mathlib.Core.List.{List, [], _∷_, _++_}
 use Prim.Native.Nat.{ℕ, _+_, _≤_, _<_}
 use native.Mathlib.Omega.{arith}
 use native.Mathlib.Decide.{ℕ-discrete, decLt}
-use lib.Dec.{eqb, leb}
 use lib.ListN.{length, drop}
-use borrow.Author.Tests.{eq-eqb, ne-eqb, leb-true, le-leb}
 use Rattle.answer.specs.declared.Answer.{Answer}
 use Rattle.answer.specs.Table.{accepted, noRoom}
 use Rattle.text.specs.Numbers.{bigEndian}
 use Rattle.text.specs.Pasting.{pasted}
-use Rattle.text.proofs.Classes.{and-is}
 use Rattle.text.proofs.Pasting.{pasted-no, pasted-yes, pasted-none, length-pasted}
 use Rattle.list.specs.Listing.{Listing}
 use Rattle.list.specs.Content.{Content}
@@ -22,7 +18,6 @@ use Rattle.list_house.specs.House.{house, report}
 use Rattle.list_house.specs.Lists.{asked}
 use Rattle.list_house.proofs.Lists.{each-asked, asked-well, house-byte, report-byte, house-asked, report-asked}
 use Rattle.value.specs.Value.{Value}
-use Rattle.value.specs.Judged.{Exactly}
 use Rattle.image.specs.Image.{header}
 use Rattle.file.specs.Instance.{houseKinds}
 use Rattle.file.specs.File.{imageOf}
@@ -39,16 +34,6 @@ use Rattle.file_lane.proofs.Knowing.{seen-ran}
 use Rattle.file_fill.specs.Laned.{Laned, unknown, imaged}
 use Rattle.file_fill.specs.mirror.Fills.{Ways, StandsAt, Fillable, Fills}
 use Rattle.file_fill.proofs.Ways.{house-ways, report-ways}
-
--- ---- the test for room
-
-pub written-is : (n m : ℕ) → Exactly (not (eqb n 0) && leb n m) ((n ≢ 0) × (n ≤ m))
-written-is n m = (
-  λ e.
-      let p = and-is (not (eqb n 0)) (leb n m) e in
-      ((λ z. false≢true (sym (ap not (eq-eqb n 0 z)) ∙ p .0)), leb-true n m (p .1)),
-  λ p. rw (ne-eqb n 0 (p .0), le-leb n m (p .1)),
-)
 
 -- ---- the nodes of every list are as the pass that writes takes them
 

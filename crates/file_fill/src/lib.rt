@@ -6,17 +6,8 @@ use file_front::front_of;
 use file_lane::counted;
 use file_nodes::by_byte::nodes_of;
 use fill::fill;
-ghost use mathlib.Core.Logic.{_≢_};
-ghost use Prim.Native.Nat.{_≤_};
-ghost use Rattle.value.specs.Judged.{Exactly};
+use image_head::is_written;
 ghost use Rattle.file_fill.specs.Laned.{Laned};
-
-// Whether something is told, and a buffer of this length has room for it: one test, so that the passes keep their registers.
-fn is_written(size: usize, len: usize) -> bool
-    ensures { λ r. ⌜ Exactly r ((size ≢ 0) × (size ≤ len)) ⌝ }
-{
-    (size != 0) & (size <= len)
-}
 
 // The length of a file's image, 0 where the lane does not know it, and the image at the start of a buffer that has room for it; else the buffer stays as it
 // was. The nodes are bound here, once, and lent to the pass that counts and to the one that writes.

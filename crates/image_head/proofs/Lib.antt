@@ -1,3 +1,5 @@
--- What the proof of `image_head` needs.
+-- What the proofs of `image_head` need.
+-- whether an image is written
+pub mod Room
 -- the first bytes are a list's own
 pub mod Heading

@@ -1,7 +1,7 @@
 -- `is_written` meets its contract. Assumes nothing.
-use Rattle.file_fill.proofs.Imaging.{written-is}
-use Rattle.file_fill.proofs.is_written.Statement.{statement}
-use Rattle.file_fill.proofs.is_written.Tie as tie
+use Rattle.image_head.proofs.Room.{written-is}
+use Rattle.image_head.proofs.is_written.Statement.{statement}
+use Rattle.image_head.proofs.is_written.Tie as tie
 
 returns : tie.Need-returns
 returns c = written-is _ _
