@@ -1,7 +1,7 @@
 -- The value of a leaf that is known to be good, put by its kind. Assumes nothing.
 use mathlib.Core.Path.{_≡_, refl, sym, _∙_, ap, subst}
-use mathlib.Core.Bool.{Bool, cond}
-use mathlib.Core.Logic.{_≢_}
+use mathlib.Core.Bool.{Bool, true, false, cond, _||_}
+use mathlib.Core.Logic.{_≢_, ⊎-elim}
 use mathlib.Core.List.{List, [], _∷_, _++_, append-assoc, append-nil}
 use mathlib.Core.Option.{Option, none, some}
 use Prim.Native.Nat.{ℕ, _+_, _-_, _/_, _%_, _≤_, _<_}
@@ -9,11 +9,12 @@ use native.Mathlib.Omega.{arith}
 use lib.Dec.{eqb}
 use lib.ListN.{length, getD, take, drop, length-append, length-drop}
 use lib.Seq.{slice, drop-drop, drop-append-seam, take-append-seam}
-use borrow.Author.Tests.{eq-eqb, ne-eqb}
+use borrow.Author.Tests.{eq-eqb, ne-eqb, eqb-true, eqb-false}
 use Rattle.text.specs.Bytes.{isCapital}
 use Rattle.text.specs.Lists.{Each, All, span}
 use Rattle.text.specs.Pasting.{pasted}
 use Rattle.text.specs.Puts.{Puts}
+use Rattle.text.proofs.Classes.{or-is, or-not}
 use Rattle.text.proofs.Parts.{part-take}
 use Rattle.text.proofs.Puts.{puts-pasted, puts-as}
 use Rattle.text.proofs.Spans.{span-append}
@@ -22,7 +23,7 @@ use Rattle.text_characters.specs.Pieces.{less, greater, Spells}
 use Rattle.text_characters.proofs.Unmarked.{unmarked-is}
 use Rattle.list.specs.Listing.{Leaf, ref, iban, ccy, bool, num, amt, date, dtm, txt, enum}
 use Rattle.list.specs.WellFormed.{LeafOk}
-use Rattle.xml.specs.House.{Quote, mark}
+use Rattle.xml.specs.House.{Quote, singleQuote, double, mark}
 use Rattle.value.specs.types.Code.{Ccy}
 use Rattle.value.specs.parts.Form.{WordAt, Form, reference, writing, account, currency, listed, either, count, money, dated, timed, Left}
 use Rattle.value.specs.Kind.{code, Given}
@@ -199,6 +200,13 @@ module _ (f : Leaf) (kind : ℕ) (c : code f ≡ kind) (h : 7 ≤ kind) (cur raw
       let g = high-given f (subst (λ (j : ℕ). 7 ≤ j) (sym c) h) in
       let w = write-is f kind 0 c (λ z. omega arith) (g .0) (g .1) cur have m raw d to n d′ (subst (λ (l : List ℕ). Written kind 0 have l d to n d′) e p) (tk .chars) (tk .value) (tk .spells) (tk .spelt) in
       puts-as d to (bytes (tk .value)) vs (to + n) d′ (sym (tk .is)) (puts-pasted d to (bytes (tk .value)) n d′ (w .0) (w .1))
+
+-- an amount's number, in one of its quotes, and a number that is none
+pub coin-told : (kind : ℕ) → (eqb kind 9 || eqb kind 12) ≡ true → (q : Quote) × (kind ≡ coinNumber q)
+coin-told kind e = ⊎-elim (λ i. (double, eqb-true kind 9 i)) (λ i. (singleQuote, eqb-true kind 12 i)) (or-is (eqb kind 9) (eqb kind 12) e)
+
+pub no-coin-told : (kind : ℕ) → (eqb kind 9 || eqb kind 12) ≡ false → (kind ≢ 9) × (kind ≢ 12)
+no-coin-told kind e = let n = or-not (eqb kind 9) (eqb kind 12) e in (eqb-false kind 9 (n .0), eqb-false kind 12 (n .1))
 
 -- neither a text's number nor a word's
 pub past-word : (kind : ℕ) → 6 ≤ kind → kind ≢ 6 → 7 ≤ kind

@@ -157,10 +157,7 @@ pub(crate) fn put_value(
     if kind == DATE {
         return put_day(s, at, out, to);
     }
-    if kind == AMT {
-        return put_other(AMT, s, at, at + COINED, out, to);
-    }
-    if kind == SINGLE {
+    if (kind == AMT) | (kind == SINGLE) {
         return put_other(AMT, s, at, at + COINED, out, to);
     }
     put_other(kind, s, at, at, out, to)

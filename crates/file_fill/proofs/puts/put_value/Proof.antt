@@ -1,8 +1,7 @@
 -- `puts::put_value` meets its contract. Assumes nothing.
 use native.Mathlib.Omega.{arith}
 use borrow.Author.Needs.{needs}
-use Rattle.xml.specs.House.{singleQuote, double}
-use Rattle.file_fill.proofs.Laying.{asked-at, asked-to, text-asked, text-laid, word-done, past-word, day-done, coin-laid, other-laid}
+use Rattle.file_fill.proofs.Laying.{asked-at, asked-to, text-asked, text-laid, word-done, past-word, day-done, coin-told, no-coin-told, coin-laid, other-laid}
 use Rattle.file_fill.proofs.puts.put_value.Statement.{statement}
 use Rattle.file_fill.proofs.puts.put_value.Tie as tie
 
@@ -70,16 +69,12 @@ same-length-4 c = search needs
 returns-4 : tie.Need-returns-4
 returns-4 c =
     let told = c .before .before .put-other .ensures in
-    coin-laid _ _ _ _ _ _ _ _ _ _ _ (told .1 .1) double (c .before .before .before .before .if4 .taken) (told .0) (told .1 .2)
-
-add-put-other-2 : tie.Need-add-put-other-2
-add-put-other-2 c =
-    let pre = c .before .before .before .before .before .before .before .before .pre in
-    omega (arith, asked-at _ _ _ _ _ _ _ pre, pre .small)
+    let quoted = coin-told _ (c .before .before .before .before .if4 .taken) in
+    coin-laid _ _ _ _ _ _ _ _ _ _ _ (told .1 .1) (quoted .0) (quoted .1) (told .0) (told .1 .2)
 
 put-other-requires-2 : tie.Need-put-other-requires-2
 put-other-requires-2 c κs =
-    let pre = c .before .before .before .before .before .before .before .before .before .pre in
+    let pre = c .before .before .before .before .before .before .before .before .pre in
     (omega (arith, asked-at _ _ _ _ _ _ _ pre, pre .small), omega (arith, asked-to _ _ _ _ _ _ _ pre))
 
 same-length-5 : tie.Need-same-length-5
@@ -87,26 +82,14 @@ same-length-5 c = search needs
 
 returns-5 : tie.Need-returns-5
 returns-5 c =
+    let at-if4 = c .before .before .before .before in
     let told = c .before .before .put-other2 .ensures in
-    coin-laid _ _ _ _ _ _ _ _ _ _ _ (told .1 .1) singleQuote (c .before .before .before .before .if5 .taken) (told .0) (told .1 .2)
-
-put-other-requires-3 : tie.Need-put-other-requires-3
-put-other-requires-3 c κs =
-    let pre = c .before .before .before .before .before .before .before .before .before .pre in
-    (omega (arith, asked-at _ _ _ _ _ _ _ pre, pre .small), omega (arith, asked-to _ _ _ _ _ _ _ pre))
-
-same-length-6 : tie.Need-same-length-6
-same-length-6 c = search needs
-
-returns-6 : tie.Need-returns-6
-returns-6 c =
-    let at-if5 = c .before .before .before .before in
-    let told = c .before .before .put-other3 .ensures in
-    let at-if2 = at-if5 .before .before .before in
+    let at-if2 = at-if4 .before .before in
     let high = past-word _ (at-if2 .before .if1 .left) (at-if2 .if2 .left) in
-    other-laid _ _ _ _ _ _ _ _ _ _ _ (told .1 .1) high (at-if5 .before .if4 .left) (at-if5 .if5 .left) (told .0) _ (told .1 .2)
+    let bare = no-coin-told _ (at-if4 .if4 .left) in
+    other-laid _ _ _ _ _ _ _ _ _ _ _ (told .1 .1) high (bare .0) (bare .1) (told .0) _ (told .1 .2)
 
 pub put-value-spec : {M : Type 1} → statement M
 put-value-spec =
     tie.close
-    (tie.spec put-text-requires same-length returns word-requires place-requires add-t15 add-t16 same-length-2 returns-2 put-day-requires same-length-3 returns-3 add-put-other put-other-requires same-length-4 returns-4 add-put-other-2 put-other-requires-2 same-length-5 returns-5 put-other-requires-3 same-length-6 returns-6)
+    (tie.spec put-text-requires same-length returns word-requires place-requires add-t15 add-t16 same-length-2 returns-2 put-day-requires same-length-3 returns-3 add-put-other put-other-requires same-length-4 returns-4 put-other-requires-2 same-length-5 returns-5)
