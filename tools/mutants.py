@@ -21,6 +21,7 @@ NUMERAL = re.compile(r'(?<![\w.])(\d[\d_]*)(?![\w.])')
 SWAPS = [(' < ', ' <= '), (' > ', ' >= '), (' == ', ' != '), (' + ', ' - '), ('true', 'false')]
 SWAPPED = {**dict(SWAPS), **{new: old for old, new in SWAPS}}
 SWAP = re.compile(r' (?:<=?|>=?|==|!=|\+|-) |\b(?:true|false)\b')
+REMARK = ' // '
 NO_CODE = ('//', 'ghost', 'use ', 'mod ', 'pub mod', '#', 'ensures', 'requires')
 HEAD = re.compile(r'(pub )?(extern "C" )?(fn|struct|enum) ')
 
@@ -32,12 +33,13 @@ def is_code(line):
 
 
 def faults(line, chance):
-    """The line with one thing changed, in each way."""
-    for found in NUMERAL.finditer(line):
+    """The line with one thing changed, in each way; what is said after it, ` // ..`, is no code."""
+    end = (line + REMARK).index(REMARK)
+    for found in NUMERAL.finditer(line, 0, end):
         number = int(found[1].replace('_', ''))
         other = number + chance.choice([1, -1] if number else [1])
         yield line[:found.start()] + str(other) + line[found.end():]
-    for found in SWAP.finditer(line):
+    for found in SWAP.finditer(line, 0, end):
         yield line[:found.start()] + SWAPPED[found[0]] + line[found.end():]
 
 
