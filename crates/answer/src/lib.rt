@@ -1,5 +1,7 @@
 // What every call of the unit hands back: a code, a row and a place. The numbers and names of the codes live here, and a
 // constructor for each case fixes the row and the place that belong to it, so that no caller writes a code by hand.
+pub mod hand; // hand.rt: an answer for C
+
 ghost use mathlib.Core.Path.{_≡_};
 ghost use Rattle.answer.specs.Table.{accepted, picked, tooLong, notUtf8, notHouseXml, wrongRoot, notAChild, outOfOrder, tooMany, absent, wrongAttributes, textInGroup, empty, badValue, ruleBroken, noRoom, noHeader, wrongVersion, brokenImage, noSuchLeaf, tooLarge, tooFine, retired};
 

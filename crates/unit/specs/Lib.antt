@@ -1,3 +1,3 @@
 -- The definitions of `unit`; what check may answer is in `file`, what an item says in `image_items`.
--- what the exports for C answer
+-- what the export of a pick for C answers
 pub mod Exports

@@ -1,9 +1,10 @@
 // The entries for items: where the items of the image that a run begins with begin, and what stands at a place of it.
+use answer::hand::hand;
 use image_items::item::Item;
 use image_reading::front::Head;
+ghost use Rattle.answer.specs.Handed.{handed};
 ghost use Rattle.image_reading.specs.Forms.{Headed};
 ghost use Rattle.image_items.specs.Items.{HouseItem};
-ghost use Rattle.unit.specs.Exports.{handed};
 
 // The kind byte of its list, and the place of its first item; 0 and 0 where the run begins as no image does.
 pub fn items(run: &[u8]) -> Head
@@ -41,8 +42,6 @@ pub extern "C" fn kto_item(
     ensures { λ r. ⌜ HouseItem (now (run .entry)) from (handed r (now (row .exit)) (now (place .exit))) (now (size .exit)) ⌝ }
 {
     let item = item_at(run, from as usize);
-    *row = item.answer.row as u64;
-    *place = item.answer.place as u64;
     *size = item.size as u64;
-    item.answer.code as u64
+    hand(item.answer, row, place)
 }

@@ -1,8 +1,9 @@
 // The entry for a file without a buffer: how many bytes its image has, or why it has none.
 use answer::Answer;
+use answer::hand::hand;
 use file_lane::measure;
+ghost use Rattle.answer.specs.Handed.{handed};
 ghost use Rattle.file.specs.Checks.{Finds};
-ghost use Rattle.unit.specs.Exports.{handed};
 
 pub fn size(input: &[u8]) -> Answer
     ensures { λ r. ⌜ Finds (now (input .entry)) r ⌝ }
@@ -15,8 +16,5 @@ pub fn size(input: &[u8]) -> Answer
 pub extern "C" fn kto_size(input: &[u8], row: &mut u64, place: &mut u64) -> u64
     ensures { λ r. ⌜ Finds (now (input .entry)) (handed r (now (row .exit)) (now (place .exit))) ⌝ }
 {
-    let a = size(input);
-    *row = a.row as u64;
-    *place = a.place as u64;
-    a.code as u64
+    hand(size(input), row, place)
 }

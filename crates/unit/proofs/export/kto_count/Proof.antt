@@ -9,14 +9,22 @@ use Rattle.unit.proofs.export.kto_count.Tie as tie
 reading-requires : tie.Need-reading-requires
 reading-requires c κs = search needs
 
-cast-result : tie.Need-cast-result
-cast-result c = search needs
+hand-place-requires : tie.Need-hand-place-requires
+hand-place-requires c κs = search needs
 
 returns : tie.Need-returns
 returns c =
-    let run = c .before .before .before .args .run .now in
-    let r = c .before .reading in
-    without-row (λ (a : Answer). HouseReads run a × HouseCounts run a (r .result .count)) run (r .result .answer) (r .ensures .0) (r .ensures .0, r .ensures .1)
+    let run = c .before .before .before .before .args .run .now in
+    let r = c .before .before .reading in
+    without-row
+    (λ (a : Answer). HouseReads run a × HouseCounts run a (r .result .count))
+    run
+    (r .result .answer)
+    _
+    _
+    (c .hand-place .ensures)
+    (r .ensures .0)
+    (r .ensures .0, r .ensures .1)
 
 pub kto-count-spec : {M : Type 1} → statement M
-kto-count-spec = tie.close (tie.spec reading-requires cast-result returns)
+kto-count-spec = tie.close (tie.spec reading-requires hand-place-requires returns)

@@ -4,17 +4,19 @@ use Rattle.unit.proofs.Exporting.{picks-at}
 use Rattle.unit.proofs.export.kto_pick.Statement.{statement}
 use Rattle.unit.proofs.export.kto_pick.Tie as tie
 
-pick-requires : tie.Need-pick-requires
-pick-requires c κs = search needs
-
 picked-requires : tie.Need-picked-requires
 picked-requires c κs = search needs
 
-cast-result : tie.Need-cast-result
-cast-result c = search needs
+pick-requires : tie.Need-pick-requires
+pick-requires c κs = search needs
+
+hand-place-requires : tie.Need-hand-place-requires
+hand-place-requires c κs = search needs
 
 returns : tie.Need-returns
-returns c = picks-at _ _ _ _ _ (c .before .before .pick .ensures) (c .before .picked .ensures .hands)
+returns c =
+    let pick = c .before .before in
+    picks-at _ _ _ (pick .pick .result) _ _ _ (c .hand-place .ensures) (pick .pick .ensures) (pick .before .picked .ensures .hands)
 
 pub kto-pick-spec : {M : Type 1} → statement M
-kto-pick-spec = tie.close (tie.spec pick-requires picked-requires cast-result returns)
+kto-pick-spec = tie.close (tie.spec picked-requires pick-requires hand-place-requires returns)

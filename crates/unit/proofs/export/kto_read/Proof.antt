@@ -8,14 +8,14 @@ use Rattle.unit.proofs.export.kto_read.Tie as tie
 read-requires : tie.Need-read-requires
 read-requires c κs = search needs
 
-cast-result : tie.Need-cast-result
-cast-result c = search needs
+hand-place-requires : tie.Need-hand-place-requires
+hand-place-requires c κs = search needs
 
 returns : tie.Need-returns
 returns c =
-    let run = c .before .before .before .args .run .now in
-    let a = c .before .read .result in
-    without-row (HouseReads run) run a (c .before .read .ensures) (c .before .read .ensures)
+    let run = c .before .before .before .before .args .run .now in
+    let r = c .before .before .read in
+    without-row (HouseReads run) run (r .result) _ _ (c .hand-place .ensures) (r .ensures) (r .ensures)
 
 pub kto-read-spec : {M : Type 1} → statement M
-kto-read-spec = tie.close (tie.spec read-requires cast-result returns)
+kto-read-spec = tie.close (tie.spec read-requires hand-place-requires returns)
