@@ -3,7 +3,7 @@ use mathlib.Core.Path.{_≡_, refl, sym, _∙_, ap, subst}
 use mathlib.Core.Bool.{true, false, true≢false}
 use mathlib.Core.List.{List, [], _∷_, _++_}
 use mathlib.Core.Logic.{_⊎_, inl, inr, ⊎-elim, _≢_}
-use Prim.Native.Nat.{ℕ, suc, _+_, _/_, _%_, _≤_, _<_, zero-le, suc-le-suc}
+use Prim.Native.Nat.{ℕ, suc, _+_, _*_, _/_, _%_, _≤_, _<_, zero-le, suc-le-suc}
 use native.Mathlib.Omega.{arith}
 use native.Mathlib.Decide.{decLt}
 use lib.Dec.{eqb}
@@ -14,12 +14,12 @@ use Rattle.text.specs.Lists.{same}
 use Rattle.text.specs.Words.{starts}
 use Rattle.text_characters.specs.Utf8.{Scalar, encode}
 use Rattle.text_characters.specs.Pieces.{less, ampersand, isXmlChar, Entity, amp, lt, gt, quot, apos, word, stands, Piece, char, entity, spell, resolved, GoodPiece}
-use Rattle.text_characters.specs.Chars.{charOf, Begun, NextChar, Decoded}
+use Rattle.text_characters.specs.Chars.{charOf, Begun, begun, none, NextChar, NextEntity, EntityNumber, EntityLen, Decoded}
 use Rattle.text_characters.specs.mirror.Decoding.{decoded}
 use Rattle.text_characters.specs.mirror.Resolving.{orElse, entityAt, plainAt, charAt}
 use Rattle.text_characters.specs.declared.utf8.Char.{Char}
 use Rattle.text.proofs.Classes.{Named, only, from, _or_, yes-in, is-in}
-use Rattle.text.proofs.Parts.{starts-is}
+use Rattle.text.proofs.Parts.{starts-is, starts-not}
 use Rattle.text_characters.proofs.Chars as chars
 use Rattle.text_characters.proofs.Decoding as decoding
 
@@ -136,16 +136,32 @@ Begins = Begun GoodPiece spell resolved
 abbrev Found : List ℕ → Char → Type 0
 Found s r = (r ≡ charOf 0 0) ⊎ Begins s r
 
-word-found : (e : Entity) (s : List ℕ) (r : Char) → Found s r → Found s (orElse e s r)
+abbrev Any : Entity → Type 0
+Any e = Unit {0}
+
+abbrev Spelt : List ℕ → Char → Type 0
+Spelt = Begun Any word stands
+
+abbrev Read : List ℕ → Char → Type 0
+Read s r = (r ≡ charOf 0 0) ⊎ Spelt s r
+
+word-found : (e : Entity) (s : List ℕ) (r : Char) → Read s r → Read s (orElse e s r)
 word-found e s r f =
-    chars.choose (Found s) (starts (word e) s) (charOf (length (word e)) (stands e)) r
-    (λ h. inr (record { sign = entity e; good = tt; rest = drop (length (word e)) s; is = starts-is (word e) s h; found = refl }))
+    chars.choose (Read s) (starts (word e) s) (charOf (length (word e)) (stands e)) r
+    (λ h. inr (record { sign = e; good = tt; rest = drop (length (word e)) s; is = starts-is (word e) s h; found = refl }))
     (λ h. f)
 
-entity-found : (s : List ℕ) → Found s (entityAt s)
+entity-read : (s : List ℕ) → Read s (entityAt s)
 unfolding entityAt
-entity-found s =
+entity-read s =
     word-found amp s _ (word-found lt s _ (word-found gt s _ (word-found quot s _ (word-found apos s _ (inl refl)))))
+
+-- an entity is a piece
+entity-begins : (s : List ℕ) (r : Char) → Spelt s r → Begins s r
+entity-begins s r b = record { sign = entity (b .sign); good = tt; rest = b .rest; is = b .is; found = b .found }
+
+entity-found : (s : List ℕ) → Found s (entityAt s)
+entity-found s = ⊎-elim inl (λ b. inr (entity-begins s (entityAt s) b)) (entity-read s)
 
 zero-no : isXmlChar 0 ≡ true → ⊥
 unfolding isXmlChar
@@ -195,6 +211,67 @@ next-one = chars.first-one GoodPiece spell resolved charAt complete sound piece-
 
 pub next-char-one : (s : List ℕ) (q r : Char) → NextChar s q → NextChar s r → q ≡ r
 next-char-one s q r a b = next-one s q a ∙ sym (next-one s r b)
+
+-- ---- entities alone
+
+entity-complete : (e : Entity) (t : List ℕ) → Any e → entityAt (word e ++ t) ≡ charOf (length (word e)) (stands e)
+unfolding entityAt starts same
+entity-complete amp t g = refl
+entity-complete lt t g = refl
+entity-complete gt t g = refl
+entity-complete quot t g = refl
+entity-complete apos t g = refl
+
+entity-is : (s : List ℕ) → NextEntity s (entityAt s)
+entity-is = chars.first-is Any word stands entityAt entity-complete entity-read (λ e. piece-some (entity e))
+
+pub entity-one : (s : List ℕ) (q r : Char) → NextEntity s q → NextEntity s r → q ≡ r
+entity-one s q r a b =
+    let one = chars.first-one Any word stands entityAt entity-complete entity-read (λ e. piece-some (entity e)) s in
+    one q a ∙ sym (one r b)
+
+pub entity-number-one : (s : List ℕ) (m n : ℕ) → EntityNumber s m → EntityNumber s n → m ≡ n
+entity-number-one s m n a b =
+    let e = entity-one s (charOf (m / 256) (m % 256)) (charOf (n / 256) (n % 256)) a b in
+    omega (arith, ap (λ (r : Char). r .len) e, ap (λ (r : Char). r .code) e)
+
+pub entity-len-one : (s : List ℕ) (m n : ℕ) → EntityLen s m → EntityLen s n → m ≡ n
+entity-len-one s m n a b = ap (λ (r : Char). r .len) (entity-one s (charOf m (a .0)) (charOf n (b .0)) (a .1) (b .1))
+
+-- where one stands it is the character there
+pub entity-next : (s : List ℕ) (n : ℕ) → EntityLen s n → n ≢ 0 → (e : Entity) × NextChar s (charOf n (stands e))
+entity-next s n (c, begun b) z =
+    (b .sign, begun (subst (λ (x : ℕ). Begins s (charOf n x)) (chars.begun-code Any word stands s (charOf n c) b) (entity-begins s (charOf n c) b)))
+entity-next s n (c, none e never) z = absurd (z (ap (λ (r : Char). r .len) e))
+
+-- ---- an entity as one number
+
+abbrev numberOf : Entity → ℕ
+numberOf e = length (word e) * 256 + stands e
+
+parted : (e : Entity) → charOf (numberOf e / 256) (numberOf e % 256) ≡ charOf (length (word e)) (stands e)
+parted amp = refl
+parted lt = refl
+parted gt = refl
+parted quot = refl
+parted apos = refl
+
+pub number-of : (e : Entity) (s : List ℕ) → starts (word e) s ≡ true → EntityNumber s (numberOf e)
+number-of e s h = begun (record { sign = e; good = tt; rest = drop (length (word e)) s; is = starts-is (word e) s h; found = parted e })
+
+pub number-none : (s : List ℕ) → starts (word amp) s ≡ false → starts (word lt) s ≡ false → starts (word gt) s ≡ false → starts (word quot) s ≡ false
+    → starts (word apos) s ≡ false → EntityNumber s 0
+number-none s a b c d f = none refl (λ e t g. starts-not (word e) s t (go e))
+  where
+    go : (e : Entity) → starts (word e) s ≡ false
+    go amp = a
+    go lt = b
+    go gt = c
+    go quot = d
+    go apos = f
+
+pub number-char : (s : List ℕ) (n : ℕ) → EntityNumber s n → charOf (n / 256) (n % 256) ≡ entityAt s
+number-char s n f = entity-one s (charOf (n / 256) (n % 256)) (entityAt s) f (entity-is s)
 
 -- ---- what the code reads at a place
 

@@ -1,10 +1,10 @@
 -- One character at the front of a text: how many bytes spell it, and which it is. Assumes nothing.
 use mathlib.Core.Path.{_≡_}
 use mathlib.Core.List.{List, _++_}
-use Prim.Native.Nat.{ℕ}
+use Prim.Native.Nat.{ℕ, _/_, _%_}
 use lib.ListN.{length}
 use Rattle.text_characters.specs.Utf8.{Scalar, encode}
-use Rattle.text_characters.specs.Pieces.{GoodPiece, spell, resolved}
+use Rattle.text_characters.specs.Pieces.{Entity, word, stands, GoodPiece, spell, resolved}
 use Rattle.text_characters.specs.declared.utf8.Char.{Char}
 
 abbrev pub charOf : ℕ → ℕ → Char
@@ -32,3 +32,15 @@ Decoded = First Scalar encode (λ (c : ℕ). c)
 -- the character that s begins with, entities resolved
 abbrev pub NextChar : List ℕ → Char → Type 0
 NextChar = First GoodPiece spell resolved
+
+-- the entity that s begins with, and the character that it stands for
+abbrev pub NextEntity : List ℕ → Char → Type 0
+NextEntity = First (λ (e : Entity). Unit {0}) word stands
+
+-- the two as one number: the character is a byte
+abbrev pub EntityNumber : List ℕ → ℕ → Type 0
+EntityNumber s n = NextEntity s (charOf (n / 256) (n % 256))
+
+-- its length, 0 where none begins
+abbrev pub EntityLen : List ℕ → ℕ → Type 0
+EntityLen s n = (c : ℕ) × NextEntity s (charOf n c)

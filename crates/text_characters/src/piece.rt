@@ -9,7 +9,7 @@ use text::part::begins;
 ghost use mathlib.Core.Path.{_≡_};
 ghost use lib.ListN.{drop};
 ghost use Rattle.text_characters.specs.Pieces.{isXmlChar};
-ghost use Rattle.text_characters.specs.Chars.{charOf, NextChar};
+ghost use Rattle.text_characters.specs.Chars.{charOf, NextChar, EntityNumber, EntityLen};
 ghost use Rattle.text_characters.specs.mirror.Resolving.{entityAt, plainAt};
 
 // The five entities as they are spelled, and the characters that they stand for.
@@ -32,6 +32,19 @@ const GREATER: u32 = b'>' as u32;
 const QUOTE: u32 = b'"' as u32;
 
 const APOSTROPHE: u32 = b'\'' as u32;
+
+// An entity is told as one number and no struct, so that it goes through no memory: each of its bytes counts so much, its character is less.
+pub const PER_BYTE: u32 = 256;
+
+const AMP_NUMBER: u32 = AMP.len() as u32 * PER_BYTE + AMPERSAND;
+
+const LT_NUMBER: u32 = LT.len() as u32 * PER_BYTE + LESS;
+
+const GT_NUMBER: u32 = GT.len() as u32 * PER_BYTE + GREATER;
+
+const QUOT_NUMBER: u32 = QUOT.len() as u32 * PER_BYTE + QUOTE;
+
+const APOS_NUMBER: u32 = APOS.len() as u32 * PER_BYTE + APOSTROPHE;
 
 fn is_xml_char(c: u32) -> bool
     ensures { λ r. ⌜ r ≡ isXmlChar c ⌝ }
@@ -57,25 +70,40 @@ fn ascii_char(x: u8) -> Char
     char_of(0, 0)
 }
 
+// The number of the entity that stands at a place, 0 where none does.
+pub fn entity_number(s: &[u8], at: usize) -> u32
+    ensures { λ r. ⌜ EntityNumber (drop at (now (s .entry))) r ⌝ }
+{
+    if begins(s, at, &AMP) {
+        return AMP_NUMBER;
+    }
+    if begins(s, at, &LT) {
+        return LT_NUMBER;
+    }
+    if begins(s, at, &GT) {
+        return GT_NUMBER;
+    }
+    if begins(s, at, &QUOT) {
+        return QUOT_NUMBER;
+    }
+    if begins(s, at, &APOS) {
+        return APOS_NUMBER;
+    }
+    0
+}
+
+// How many bytes it has, 0 where none does.
+pub fn entity_len(s: &[u8], at: usize) -> usize
+    ensures { λ r. ⌜ EntityLen (drop at (now (s .entry))) r ⌝ }
+{
+    (entity_number(s, at) / PER_BYTE) as usize
+}
+
 fn entity(s: &[u8], at: usize) -> Char
     ensures { λ r. ⌜ r ≡ entityAt (drop at (now (s .entry))) ⌝ }
 {
-    if begins(s, at, &AMP) {
-        return char_of(AMP.len(), AMPERSAND);
-    }
-    if begins(s, at, &LT) {
-        return char_of(LT.len(), LESS);
-    }
-    if begins(s, at, &GT) {
-        return char_of(GT.len(), GREATER);
-    }
-    if begins(s, at, &QUOT) {
-        return char_of(QUOT.len(), QUOTE);
-    }
-    if begins(s, at, &APOS) {
-        return char_of(APOS.len(), APOSTROPHE);
-    }
-    char_of(0, 0)
+    let n = entity_number(s, at);
+    char_of((n / PER_BYTE) as usize, n % PER_BYTE)
 }
 
 // The character that begins at a place, entities resolved, and how many bytes spell it.

@@ -13,24 +13,24 @@ use Rattle.text.specs.Bytes.{inRange}
 use Rattle.text.specs.Lists.{Each, All, Any}
 use Rattle.text.proofs.Classes.{and-is, in-range-is}
 use Rattle.text_characters.specs.Utf8.{encode, encodeAll}
-use Rattle.text_characters.specs.Chars.{NextChar}
-use Rattle.text_characters.specs.Pieces.{less, greater, Entity, amp, lt, gt, quot, apos, stands, Piece, char, entity, GoodPiece, spell, spells, resolved, resolvedAll, Spells}
+use Rattle.text_characters.specs.Chars.{charOf, NextChar, EntityLen}
+use Rattle.text_characters.specs.Pieces.{less, greater, ampersand, Entity, amp, lt, gt, quot, apos, stands, Piece, char, entity, GoodPiece, spell, spells, resolved, resolvedAll, Spells}
 use Rattle.text_characters.specs.declared.utf8.Char.{Char}
 use Rattle.text_characters.proofs.Decoding.{encode1, encode2, by-length}
 use Rattle.text_characters.proofs.Chars as chars
-use Rattle.text_characters.proofs.Resolving.{XmlChar, xml-char-yes}
+use Rattle.text_characters.proofs.Resolving.{XmlChar, xml-char-yes, entity-next}
 use Rattle.text_characters.proofs.Spelling.{Begins, next-begins}
 use Rattle.list.specs.Listing.{txt, ref}
 use Rattle.value.specs.types.Text.{isTxt, isRef, Chars, Ref}
 use Rattle.value.specs.Value.{text, IsValue}
 use Rattle.value.specs.mirror.Tests.{notSpace}
-use Rattle.value.specs.mirror.Texts.{quietTxt, quietRef, textFrom, widthOf}
+use Rattle.value.specs.mirror.Texts.{isAsciiTxt, quietTxt, quietRef, textFrom, widthOf}
 use Rattle.value.proofs.classes.Classes.{each-all, each-append}
 use Rattle.value.proofs.classes.Ink.{ink-not}
 use Rattle.value.proofs.classes.Computed.{besides, Own, ref-low, ref-own, slash-ref, quiet-is, ascii-is, quiet-txt}
 use Rattle.value.proofs.classes.References.{ref-to}
 use Rattle.value.proofs.raw.Encoding.{encoded-most}
-use Rattle.value.proofs.raw.Sizes.{next-width, width-least}
+use Rattle.value.proofs.raw.Sizes.{width-one, next-width, width-least}
 use Rattle.value.proofs.types.Values.{text-bytes}
 use Rattle.value_leaf.specs.Leafed.{foundOf, Weighs, Leafed}
 use Rattle.value_leaf.specs.declared.found.Found.{Found}
@@ -251,6 +251,47 @@ module _ (x : AtSign) where
   at-more l =
       going-sign (x .s) (x .at) (x .i) (x .g) (x .t) (x .within) (x .c) (x .next) (omega (arith, x .some)) (x .m) (x .width)
       (x .going l) (x .left) (x .right) (x .class)
+
+  -- one byte is the value's
+  pub at-one : x .m ≡ 1 → Leveled (x .table) → Going (x .s) (x .at) (x .i + x .c .len) (x .g + (x .c .len - 1)) (x .t)
+  at-one e l =
+      let p : x .t + (x .m - 1) ≡ x .t = omega (arith, e) in
+      let q : x .g + (x .c .len - x .m) ≡ x .g + (x .c .len - 1) = omega (arith, e) in
+      rw (p, q) at (at-more l)
+
+-- an entity stands for a character of a text, of one byte
+pub entity-txt : (e : Entity) → isAsciiTxt (stands e) ≡ true
+unfolding isAsciiTxt isTxt
+entity-txt amp = refl
+entity-txt lt = refl
+entity-txt gt = refl
+entity-txt quot = refl
+entity-txt apos = refl
+
+-- the same, told of an entity of n bytes
+abbrev pub at-entity : (table s : List ℕ) (at i g t n : ℕ) → at + g + t ≤ i → (Leveled table → Going s at i g t) → i < length s → getD s i 0 ≡ ampersand → EntityLen (drop i s) n → n ≢ 0 → AtSign
+at-entity table s at i g t n most going within first l z =
+    let e = entity-next (drop i s) n l z in
+    let w = ascii-is (stands (e .0)) (entity-txt (e .0)) in
+    record {
+      table = table;
+      s = s;
+      at = at;
+      i = i;
+      g = g;
+      t = t;
+      c = charOf n (stands (e .0));
+      m = 1;
+      most = most;
+      going = going;
+      within = within;
+      next = e .1;
+      some = z;
+      width = sym (width-one n (stands (e .0)) (w .0));
+      left = λ p. omega (arith, first, p);
+      right = λ p. omega (arith, first, p);
+      class = w .1;
+    }
 
 -- 0xC3 and a second byte
 second-is : (y : ℕ) → isSecond y ≡ true → (isTxt (y + 64) ≡ true) × (0x80 ≤ y) × (y ≤ 0xBF)

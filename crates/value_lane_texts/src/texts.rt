@@ -1,6 +1,7 @@
 // TXTk and REF: runs of bytes that stand for themselves, by their level; what stops a run is looked at by itself.
 
 use list::table;
+use text_characters::piece::entity_len;
 use text_characters::piece::next_char;
 use value::bounds::MOST_REF;
 use value::packed::MOST_BYTES;
@@ -106,6 +107,15 @@ pub fn writing(levels: &Levels, s: &[u8], at: usize, k: usize) -> Found
         if is_umlaut(s, i) {
             tails += 1;
             i = run(levels, s, i + 2, TEXT);
+            continue;
+        }
+        if b == b'&' {
+            let len = entity_len(s, i);
+            if len == 0 {
+                return slow(TXT, k, s, at);
+            }
+            gone += len - 1;
+            i = run(levels, s, i + len, TEXT);
             continue;
         }
         let c = next_char(s, i);

@@ -1,12 +1,12 @@
 -- `texts::writing` meets its contract: what was read from `at` to `i` is so many characters of a text. Assumes nothing.
-use mathlib.Core.Path.{sym, _∙_}
+use mathlib.Core.Path.{refl, sym, _∙_}
 use Prim.Native.Nat.{_+_, _-_, _≤_}
 use native.Mathlib.Omega.{arith}
 use lib.ListN.{length}
 use borrow.Author.Tests.{not-false}
 use Rattle.value_lane_texts.specs.mirror.Going.{Going}
 use Rattle.value_levels.specs.mirror.Levels.{Leveled}
-use Rattle.value_lane_texts.proofs.Runs.{going-start, going-run, going-umlaut, AtSign, at-width, at-room, at-more}
+use Rattle.value_lane_texts.proofs.Runs.{going-start, going-run, going-umlaut, AtSign, at-width, at-room, at-more, at-one, at-entity}
 use borrow.Author.Needs.{needs}
 use Rattle.value_lane_texts.proofs.texts.writing.Statement.{statement}
 use Rattle.value_lane_texts.proofs.texts.writing.Tie as tie
@@ -17,14 +17,23 @@ Inv-loop levels s at k i₀ gone₀ tails₀ i gone tails = (at + gone + tails �
 abbrev μ-loop : tie.MeasureT-loop
 μ-loop levels s at k i₀ gone₀ tails₀ i gone tails = length s - i
 
+-- what a turn has been told of an entity
+abbrev entered : tie.Else5 Inv-loop μ-loop → AtSign
+entered c =
+    let at-entity-len = c .before in
+    let at-if4 = at-entity-len .before in
+    let at-loop-test = at-if4 .before .before .before .before .before .before in
+    let inv = at-loop-test .before .loop .inv in
+    at-entity _ _ _ _ _ _ _ (inv .0) (inv .1) (at-loop-test .loop-test .taken) (at-if4 .if4 .taken) (at-entity-len .entity-len .ensures) (c .if5 .left)
+
 -- what a turn has been told of a character that stops a run
 abbrev signed : tie.After-width Inv-loop μ-loop → AtSign
 signed c =
-    let at-if5 = c .before in
-    let at-if4 = at-if5 .before in
-    let at-is-txt = at-if4 .before in
+    let at-if7 = c .before in
+    let at-if6 = at-if7 .before in
+    let at-is-txt = at-if6 .before in
     let at-next-char = at-is-txt .before in
-    let at-if2 = at-next-char .before .before .before in
+    let at-if2 = at-next-char .before .before .before .before in
     let at-if1 = at-if2 .before in
     let at-loop-test = at-if1 .before .before in
     record {
@@ -40,11 +49,11 @@ signed c =
       going = at-loop-test .before .loop .inv .1;
       within = at-loop-test .loop-test .taken;
       next = at-next-char .next-char .ensures;
-      some = at-if5 .if5 .left;
+      some = at-if7 .if7 .left;
       width = c .width .ensures;
       left = at-if1 .if1 .left;
       right = at-if2 .if2 .left;
-      class = sym (at-is-txt .is-txt .ensures) ∙ not-false _ (at-if4 .if4 .left);
+      class = sym (at-is-txt .is-txt .ensures) ∙ not-false _ (at-if6 .if6 .left);
     }
 
 long-run-requires : tie.Need-long-run-requires Inv-loop μ-loop
@@ -95,11 +104,8 @@ loop-again c =
       λ l. going-run _ _ _ _ _ _ (going-umlaut _ _ _ _ _ (at-loop .loop .inv .1 l) (at-is-umlaut .is-umlaut .ensures (at-if3 .if3 .taken))) (c .run .ensures .1 l),
     )
 
-next-char-requires : tie.Need-next-char-requires Inv-loop μ-loop
-next-char-requires c κs = search needs
-
-is-txt-requires : tie.Need-is-txt-requires Inv-loop μ-loop
-is-txt-requires c κs = search needs
+entity-len-requires : tie.Need-entity-len-requires Inv-loop μ-loop
+entity-len-requires c κs = search needs
 
 slow-requires-2 : tie.Need-slow-requires-2 Inv-loop μ-loop
 slow-requires-2 c κs = search needs
@@ -107,20 +113,51 @@ slow-requires-2 c κs = search needs
 returns-3 : tie.Need-returns-3 Inv-loop μ-loop
 returns-3 c = λ l. c .slow2 .ensures
 
+sub-gone : tie.Need-sub-gone Inv-loop μ-loop
+sub-gone c = omega (arith, c .if5 .left)
+
+add-gone : tie.Need-add-gone Inv-loop μ-loop
+add-gone c = omega (arith, entered c .most, at-room (entered c))
+
+add-run-2 : tie.Need-add-run-2 Inv-loop μ-loop
+add-run-2 c = omega (arith, at-room (entered c))
+
+run-requires-2 : tie.Need-run-requires-2 Inv-loop μ-loop
+run-requires-2 c κs = search needs
+
+loop-less-2 : tie.Need-loop-less-2 Inv-loop μ-loop
+loop-less-2 c = omega (arith, c .run2 .ensures .0, entered (c .before) .some, entered (c .before) .within)
+
+loop-again-2 : tie.Need-loop-again-2 Inv-loop μ-loop
+loop-again-2 c =
+    (omega (arith, entered (c .before) .most, entered (c .before) .some, c .run2 .ensures .0), λ l. going-run _ _ _ _ _ _ (at-one (entered (c .before)) refl l) (c .run2 .ensures .1 l))
+
+next-char-requires : tie.Need-next-char-requires Inv-loop μ-loop
+next-char-requires c κs = search needs
+
+is-txt-requires : tie.Need-is-txt-requires Inv-loop μ-loop
+is-txt-requires c κs = search needs
+
 slow-requires-3 : tie.Need-slow-requires-3 Inv-loop μ-loop
 slow-requires-3 c κs = search needs
 
 returns-4 : tie.Need-returns-4 Inv-loop μ-loop
 returns-4 c = λ l. c .slow3 .ensures
 
+slow-requires-4 : tie.Need-slow-requires-4 Inv-loop μ-loop
+slow-requires-4 c κs = search needs
+
+returns-5 : tie.Need-returns-5 Inv-loop μ-loop
+returns-5 c = λ l. c .slow4 .ensures
+
 width-requires : tie.Need-width-requires Inv-loop μ-loop
 width-requires c κs = search needs
 
-sub-gone : tie.Need-sub-gone Inv-loop μ-loop
-sub-gone c = omega (arith, at-width (signed c))
+sub-gone-2 : tie.Need-sub-gone-2 Inv-loop μ-loop
+sub-gone-2 c = omega (arith, at-width (signed c))
 
-add-gone : tie.Need-add-gone Inv-loop μ-loop
-add-gone c = omega (arith, signed c .most, at-width (signed c), at-room (signed c))
+add-gone-2 : tie.Need-add-gone-2 Inv-loop μ-loop
+add-gone-2 c = omega (arith, signed c .most, at-width (signed c), at-room (signed c))
 
 sub-tails : tie.Need-sub-tails Inv-loop μ-loop
 sub-tails c = omega (arith, at-width (signed c))
@@ -128,24 +165,24 @@ sub-tails c = omega (arith, at-width (signed c))
 add-tails-2 : tie.Need-add-tails-2 Inv-loop μ-loop
 add-tails-2 c = omega (arith, signed c .most, at-width (signed c), at-room (signed c))
 
-add-run-2 : tie.Need-add-run-2 Inv-loop μ-loop
-add-run-2 c = omega (arith, at-room (signed c))
+add-run-3 : tie.Need-add-run-3 Inv-loop μ-loop
+add-run-3 c = omega (arith, at-room (signed c))
 
-run-requires-2 : tie.Need-run-requires-2 Inv-loop μ-loop
-run-requires-2 c κs = search needs
+run-requires-3 : tie.Need-run-requires-3 Inv-loop μ-loop
+run-requires-3 c κs = search needs
 
-loop-less-2 : tie.Need-loop-less-2 Inv-loop μ-loop
-loop-less-2 c = omega (arith, c .run2 .ensures .0, signed (c .before) .some, signed (c .before) .within)
+loop-less-3 : tie.Need-loop-less-3 Inv-loop μ-loop
+loop-less-3 c = omega (arith, c .run3 .ensures .0, signed (c .before) .some, signed (c .before) .within)
 
-loop-again-2 : tie.Need-loop-again-2 Inv-loop μ-loop
-loop-again-2 c =
-    (omega (arith, signed (c .before) .most, at-width (signed (c .before)), c .run2 .ensures .0), λ l. going-run _ _ _ _ _ _ (at-more (signed (c .before)) l) (c .run2 .ensures .1 l))
+loop-again-3 : tie.Need-loop-again-3 Inv-loop μ-loop
+loop-again-3 c =
+    (omega (arith, signed (c .before) .most, at-width (signed (c .before)), c .run3 .ensures .0), λ l. going-run _ _ _ _ _ _ (at-more (signed (c .before)) l) (c .run3 .ensures .1 l))
 
-slow-requires-4 : tie.Need-slow-requires-4 Inv-loop μ-loop
-slow-requires-4 c κs = search needs
+slow-requires-5 : tie.Need-slow-requires-5 Inv-loop μ-loop
+slow-requires-5 c κs = search needs
 
-returns-5 : tie.Need-returns-5 Inv-loop μ-loop
-returns-5 c = λ l. c .slow4 .ensures
+returns-6 : tie.Need-returns-6 Inv-loop μ-loop
+returns-6 c = λ l. c .slow5 .ensures
 
 pub writing-spec : {M : Type 1} → statement M
 writing-spec =
@@ -166,20 +203,29 @@ writing-spec =
     run-requires
     loop-less
     loop-again
-    next-char-requires
-    is-txt-requires
+    entity-len-requires
     slow-requires-2
     returns-3
-    slow-requires-3
-    returns-4
-    width-requires
     sub-gone
     add-gone
-    sub-tails
-    add-tails-2
     add-run-2
     run-requires-2
     loop-less-2
     loop-again-2
+    next-char-requires
+    is-txt-requires
+    slow-requires-3
+    returns-4
     slow-requires-4
-    returns-5)
+    returns-5
+    width-requires
+    sub-gone-2
+    add-gone-2
+    sub-tails
+    add-tails-2
+    add-run-3
+    run-requires-3
+    loop-less-3
+    loop-again-3
+    slow-requires-5
+    returns-6)
