@@ -20,11 +20,10 @@ use Rattle.text.proofs.Puts.{puts-none, puts-pasted, puts-then, puts-as}
 use Rattle.text.proofs.Spans.{span-append, span-le}
 use Rattle.text_characters.specs.Utf8.{encode, encodeAll}
 use Rattle.text_characters.specs.Pieces.{less, ampersand, Entity, amp, lt, gt, quot, apos, word, stands, Piece, char, entity, spells, resolvedAll, GoodPiece, Spells}
-use Rattle.text_characters.specs.Chars.{charOf, NextChar}
-use Rattle.text_characters.specs.mirror.Resolving.{charAt}
+use Rattle.text_characters.specs.Chars.{charOf, begun, NextEntity}
 use Rattle.text_characters.specs.declared.utf8.Char.{Char}
 use Rattle.text_characters.proofs.Decoding as decoding
-use Rattle.text_characters.proofs.Resolving.{complete, next-one}
+use Rattle.text_characters.proofs.Resolving.{entity-one}
 use Rattle.xml.proofs.Basics.{all-append}
 use Rattle.value.specs.Value.{text, bytes}
 use Rattle.value.proofs.given.Putting.{text-long}
@@ -194,8 +193,9 @@ module _ (s : List ℕ) (i : ℕ) (cs : List ℕ) (e : ℕ) (w : RawAt s i cs e)
           })
 
 -- the character of an entity
-entity-is : (s : List ℕ) (k : ℕ) (x : Entity) (u : List ℕ) (c : Char) → drop k s ≡ word x ++ u → NextChar (drop k s) c → c ≡ charOf (length (word x)) (stands x)
-entity-is s k x u c e nx = next-one (drop k s) c nx ∙ ap charAt e ∙ complete (entity x) u tt
+entity-is : (s : List ℕ) (k : ℕ) (x : Entity) (u : List ℕ) (c : Char) → drop k s ≡ word x ++ u → NextEntity (drop k s) c → c ≡ charOf (length (word x)) (stands x)
+entity-is s k x u c e nx =
+    entity-one (drop k s) c (charOf (length (word x)) (stands x)) nx (begun (record { sign = x; good = tt; rest = u; is = e; found = refl }))
 
 word-some : (x : Entity) → 0 < length (word x)
 word-some x = let f = word-first x in omega (arith, ap length (f .1))
@@ -300,7 +300,7 @@ module _ (s d₀ : List ℕ) (at to : ℕ) (pre : TextAsked s at d₀ to) (d : L
                   )
 
     -- an entity
-    module _ (z : getD s k 0 ≢ 60) (c : Char) (nx : NextChar (drop k s) c) where
+    module _ (z : getD s k 0 ≢ 60) (c : Char) (nx : NextEntity (drop k s) c) where
       record Entered : Type 0 where
         which : Entity
         found : c ≡ charOf (length (word which)) (stands which)
@@ -311,9 +311,6 @@ module _ (s d₀ : List ℕ) (at to : ℕ) (pre : TextAsked s at d₀ to) (d : L
           go : Stop s from (mine .left) (pre .end) k → Entered
           go (ends a b e) = absurd (z a)
           go (meets b x h u a e r m t) = record { which = x; found = entity-is s k x u c m nx }
-
-      pub code-low : c .code < 128
-      code-low = subst (λ (y : ℕ). y < 128) (sym (ap (λ (y : Char). y .code) (entered .found))) (stands-low (entered .which))
 
       pub len-some : 0 < c .len
       len-some = subst (λ (y : ℕ). 0 < y) (sym (ap (λ (y : Char). y .len) (entered .found))) (word-some (entered .which))

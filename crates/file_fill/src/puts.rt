@@ -11,7 +11,8 @@ use file_nodes::fields::WORDS;
 use text::part::part_of;
 use text_bytes::number::copy;
 use text_bytes::number::put16;
-use text_characters::piece::next_char;
+use text_characters::piece::PER_BYTE;
+use text_characters::piece::entity_number;
 use value::judged::Judged;
 use value_dates::day::day;
 use value_dates_stored::to_bytes::write_day;
@@ -53,12 +54,10 @@ pub(crate) fn put_text(s: &[u8], at: usize, out: &mut [u8], to: usize) -> Put
             put16(out, to, ((o - to - 2) % LENGTHS) as u16);
             return Put { at: o, end: i };
         }
-        let c = next_char(s, i);
-        let code = c.code;
-        let len = c.len;
-        place(out, o, code as u8);
+        let e = entity_number(s, i);
+        place(out, o, (e % PER_BYTE) as u8);
         o += 1;
-        from = i + len;
+        from = i + (e / PER_BYTE) as usize;
     }
 }
 

@@ -4,7 +4,7 @@ use Prim.Native.Nat.{_-_}
 use native.Mathlib.Omega.{arith}
 use lib.ListN.{length}
 use borrow.Author.Needs.{needs}
-use Rattle.file_fill.proofs.Copying.{Going, going-start, run-within, run-fits, run-above, end-long, text-laid, code-low, len-some, more-fits, len-within, going-again}
+use Rattle.file_fill.proofs.Copying.{Going, going-start, run-within, run-fits, run-above, end-long, text-laid, len-some, more-fits, len-within, going-again}
 use Rattle.file_fill.proofs.puts.put_text.Statement.{statement}
 use Rattle.file_fill.proofs.puts.put_text.Tie as tie
 
@@ -84,18 +84,11 @@ returns c =
     let pre = at-loop .before .before .before .pre in
     text-laid _ _ _ _ pre _ _ _ (at-loop .loop .inv) _ (at-run .plain-end .ensures) _ (at-copy .copy .ensures) (at-if1 .if1 .taken) _ _ refl (at-put16 .put16 .ensures)
 
-next-char-requires : tie.Need-next-char-requires Inv-loop μ-loop
-next-char-requires c κs = search needs
+entity-number-requires : tie.Need-entity-number-requires Inv-loop μ-loop
+entity-number-requires c κs = search needs
 
 cast-place : tie.Need-cast-place Inv-loop μ-loop
-cast-place c =
-    let at-next = c .before in
-    let at-if1 = at-next .before in
-    let at-copy = at-if1 .before .before .before .before in
-    let at-run = at-copy .before .before in
-    let at-loop = at-run .before in
-    let pre = at-loop .before .before .before .pre in
-    omega (arith, code-low _ _ _ _ pre _ _ _ (at-loop .loop .inv) _ (at-run .plain-end .ensures) _ (at-copy .copy .ensures) (at-if1 .if1 .left) _ (at-next .next-char .ensures))
+cast-place c = omega arith
 
 place-requires : tie.Need-place-requires Inv-loop μ-loop
 place-requires c κs = search needs
@@ -109,7 +102,10 @@ add-o-3 c =
     let at-run = at-copy .before .before in
     let at-loop = at-run .before in
     let start = at-loop .before .before .before in
-    omega (arith, more-fits _ _ _ _ (start .pre) _ _ _ (at-loop .loop .inv) _ (at-run .plain-end .ensures) _ (at-copy .copy .ensures) (at-if1 .if1 .left) _ (at-next .next-char .ensures), start .good .1 .1 .0 .0)
+    omega (arith, more-fits _ _ _ _ (start .pre) _ _ _ (at-loop .loop .inv) _ (at-run .plain-end .ensures) _ (at-copy .copy .ensures) (at-if1 .if1 .left) _ (at-next .entity-number .ensures), start .good .1 .1 .0 .0)
+
+cast-from : tie.Need-cast-from Inv-loop μ-loop
+cast-from c = search needs
 
 add-from : tie.Need-add-from Inv-loop μ-loop
 add-from c =
@@ -120,7 +116,7 @@ add-from c =
     let at-run = at-copy .before .before in
     let at-loop = at-run .before in
     let pre = at-loop .before .before .before .pre in
-    omega (arith, len-within _ _ _ _ pre _ _ _ (at-loop .loop .inv) _ (at-run .plain-end .ensures) _ (at-copy .copy .ensures) (at-if1 .if1 .left) _ (at-next .next-char .ensures))
+    omega (arith, len-within _ _ _ _ pre _ _ _ (at-loop .loop .inv) _ (at-run .plain-end .ensures) _ (at-copy .copy .ensures) (at-if1 .if1 .left) _ (at-next .entity-number .ensures))
 
 loop-less : tie.Need-loop-less Inv-loop μ-loop
 loop-less c =
@@ -133,8 +129,8 @@ loop-less c =
     let pre = at-loop .before .before .before .pre in
     omega (
       arith,
-      len-within _ _ _ _ pre _ _ _ (at-loop .loop .inv) _ (at-run .plain-end .ensures) _ (at-copy .copy .ensures) (at-if1 .if1 .left) _ (at-next .next-char .ensures),
-      len-some _ _ _ _ pre _ _ _ (at-loop .loop .inv) _ (at-run .plain-end .ensures) _ (at-copy .copy .ensures) (at-if1 .if1 .left) _ (at-next .next-char .ensures),
+      len-within _ _ _ _ pre _ _ _ (at-loop .loop .inv) _ (at-run .plain-end .ensures) _ (at-copy .copy .ensures) (at-if1 .if1 .left) _ (at-next .entity-number .ensures),
+      len-some _ _ _ _ pre _ _ _ (at-loop .loop .inv) _ (at-run .plain-end .ensures) _ (at-copy .copy .ensures) (at-if1 .if1 .left) _ (at-next .entity-number .ensures),
       run-within _ _ _ _ pre _ _ _ (at-loop .loop .inv) _ (at-run .plain-end .ensures),
       at-run .plain-end .ensures,
     )
@@ -148,9 +144,9 @@ loop-again c =
     let at-run = at-copy .before .before in
     let at-loop = at-run .before in
     let pre = at-loop .before .before .before .pre in
-    going-again _ _ _ _ pre _ _ _ (at-loop .loop .inv) _ (at-run .plain-end .ensures) _ (at-copy .copy .ensures) (at-if1 .if1 .left) _ (at-next .next-char .ensures) _ (at-place .place .ensures)
+    going-again _ _ _ _ pre _ _ _ (at-loop .loop .inv) _ (at-run .plain-end .ensures) _ (at-copy .copy .ensures) (at-if1 .if1 .left) _ (at-next .entity-number .ensures) _ (at-place .place .ensures)
 
 pub put-text-spec : {M : Type 1} → statement M
 put-text-spec =
     tie.close
-    (tie.spec Inv-loop μ-loop add-o loop-holds plain-end-requires copy-requires sub-o add-o-2 shared-slice-read-if1 sub-put16 sub-put16-2 cast-put16 put16-requires same-length returns next-char-requires cast-place place-requires add-o-3 add-from loop-less loop-again)
+    (tie.spec Inv-loop μ-loop add-o loop-holds plain-end-requires copy-requires sub-o add-o-2 shared-slice-read-if1 sub-put16 sub-put16-2 cast-put16 put16-requires same-length returns entity-number-requires cast-place place-requires add-o-3 cast-from add-from loop-less loop-again)
