@@ -1,6 +1,6 @@
 -- TXTk and REF, read by runs of bytes that stand for themselves. Assumes nothing.
 use mathlib.Core.Path.{_≡_, refl, sym, _∙_, ap, ap₂, subst}
-use mathlib.Core.Bool.{Bool, true, false, _&&_, not}
+use mathlib.Core.Bool.{Bool, true, false, _&&_, not, true≢false}
 use mathlib.Core.Logic.{_≢_, inl, inr}
 use mathlib.Core.List.{List, [], _∷_, _++_, append-assoc, append-nil, head-eq-of-cons-eq, nil≢cons}
 use Prim.Native.Nat.{ℕ, suc, _+_, _-_, _/_, _%_, _≤_, _<_}
@@ -13,12 +13,12 @@ use Rattle.text.specs.Bytes.{inRange}
 use Rattle.text.specs.Lists.{Each, All, Any}
 use Rattle.text.proofs.Classes.{and-is, in-range-is}
 use Rattle.text_characters.specs.Utf8.{encode, encodeAll}
-use Rattle.text_characters.specs.Chars.{charOf, NextChar, EntityLen}
+use Rattle.text_characters.specs.Chars.{charOf, begun, none, NextChar, EntityLen}
 use Rattle.text_characters.specs.Pieces.{less, greater, ampersand, Entity, amp, lt, gt, quot, apos, stands, Piece, char, entity, GoodPiece, spell, spells, resolved, resolvedAll, Spells}
 use Rattle.text_characters.specs.declared.utf8.Char.{Char}
 use Rattle.text_characters.proofs.Decoding.{encode1, encode2, by-length}
 use Rattle.text_characters.proofs.Chars as chars
-use Rattle.text_characters.proofs.Resolving.{XmlChar, xml-char-yes, entity-next}
+use Rattle.text_characters.proofs.Resolving.{XmlChar, xml-char-yes, piece-some, entity-next}
 use Rattle.text_characters.proofs.Spelling.{Begins, next-begins}
 use Rattle.list.specs.Listing.{txt, ref}
 use Rattle.value.specs.types.Text.{isTxt, isRef, Chars, Ref}
@@ -190,35 +190,35 @@ going-run s at i j g t w e =
 
 -- a character that stops a run
 module _ (s : List ℕ) (at i g t : ℕ) (h : i < length s) (c : Char) (n : NextChar (drop i s) c) (z : 0 < c .len) (m : ℕ) (q : m ≡ widthOf (c .len) (c .code)) where
-  begun : Begins (drop i s) c
-  begun = next-begins (drop i s) c n z
+  here : Begins (drop i s) c
+  here = next-begins (drop i s) c n z
 
-  len-is : c .len ≡ length (spell (begun .sign))
-  len-is = chars.begun-len GoodPiece spell resolved (drop i s) c begun
+  len-is : c .len ≡ length (spell (here .sign))
+  len-is = chars.begun-len GoodPiece spell resolved (drop i s) c here
 
-  code-is : c .code ≡ resolved (begun .sign)
-  code-is = chars.begun-code GoodPiece spell resolved (drop i s) c begun
+  code-is : c .code ≡ resolved (here .sign)
+  code-is = chars.begun-code GoodPiece spell resolved (drop i s) c here
 
-  wide : length (encode (resolved (begun .sign))) ≡ m
+  wide : length (encode (resolved (here .sign))) ≡ m
   wide = ap (λ (x : ℕ). length (encode x)) (sym code-is) ∙ next-width (drop i s) c n z ∙ sym q
 
   sign-width : (0 < m) × (m ≤ c .len)
-  sign-width = (omega (arith, wide, Rattle.text_characters.proofs.Decoding.encode-some (resolved (begun .sign))), omega (arith, q, width-least (c .len) (c .code) z))
+  sign-width = (omega (arith, wide, Rattle.text_characters.proofs.Decoding.encode-some (resolved (here .sign))), omega (arith, q, width-least (c .len) (c .code) z))
 
   sign-room : i + c .len ≤ length s
-  sign-room = omega (arith, chars.begun-within GoodPiece spell resolved (drop i s) c begun, length-drop i s)
+  sign-room = omega (arith, chars.begun-within GoodPiece spell resolved (drop i s) c here, length-drop i s)
 
-  going-sign : Going s at i g t → getD s i 0 ≢ less → getD s i 0 ≢ greater → isTxt (c .code) ≡ true → Going s at (i + c .len) (g + (c .len - m)) (t + (m - 1))
-  going-sign w a b k =
-      let rest : drop (c .len) (drop i s) ≡ begun .rest = chars.rest-is GoodPiece spell resolved (drop i s) c begun in
-      let e : drop i s ≡ spell (begun .sign) ++ drop (i + c .len) s = begun .is ∙ ap (λ (x : List ℕ). spell (begun .sign) ++ x) (sym rest ∙ drop-drop (c .len) i s) in
-      let f : spell (begun .sign) ++ drop (i + c .len) s ≡ getD s i 0 ∷ drop (suc i) s = sym e ∙ drop-cons s i 0 h in
+  going-sign : (g′ t′ : ℕ) → g′ ≡ g + (c .len - m) → t′ ≡ t + (m - 1) → Going s at i g t → getD s i 0 ≢ less → getD s i 0 ≢ greater → isTxt (c .code) ≡ true → Going s at (i + c .len) g′ t′
+  going-sign g′ t′ p r w a b k =
+      let rest : drop (c .len) (drop i s) ≡ here .rest = chars.rest-is GoodPiece spell resolved (drop i s) c here in
+      let e : drop i s ≡ spell (here .sign) ++ drop (i + c .len) s = here .is ∙ ap (λ (x : List ℕ). spell (here .sign) ++ x) (sym rest ∙ drop-drop (c .len) i s) in
+      let f : spell (here .sign) ++ drop (i + c .len) s ≡ getD s i 0 ∷ drop (suc i) s = sym e ∙ drop-cons s i 0 h in
       let v = sign-width in
       let l = len-is in
       let d = wide in
-      going-more s at i (i + c .len) g (g + (c .len - m)) t (t + (m - 1)) (c .len - m) (m - 1) (spell (begun .sign)) w e (omega (arith, l))
-      (sofar-sign (begun .sign) (c .len - m) (m - 1) (begun .good) (ap isTxt (sym code-is) ∙ k) (omega (arith, v, l, d)) (omega (arith, v, d)) (piece-calm (begun .sign) (getD s i 0) (drop (i + c .len) s) (drop (suc i) s) f (a, b)))
-      refl refl
+      going-more s at i (i + c .len) g g′ t t′ (c .len - m) (m - 1) (spell (here .sign)) w e (omega (arith, l))
+      (sofar-sign (here .sign) (c .len - m) (m - 1) (here .good) (ap isTxt (sym code-is) ∙ k) (omega (arith, v, l, d)) (omega (arith, v, d)) (piece-calm (here .sign) (getD s i 0) (drop (i + c .len) s) (drop (suc i) s) f (a, b)))
+      p r
 
 -- what a loop was told at such a character, of whose bytes m are the value's
 pub record AtSign : Type 0 where
@@ -241,23 +241,39 @@ pub record AtSign : Type 0 where
   pub class : isTxt (c .code) ≡ true
 
 module _ (x : AtSign) where
-  pub at-width : (0 < x .m) × (x .m ≤ x .c .len)
-  at-width = sign-width (x .s) (x .at) (x .i) (x .g) (x .t) (x .within) (x .c) (x .next) (omega (arith, x .some)) (x .m) (x .width)
-
   pub at-room : x .i + x .c .len ≤ length (x .s)
   at-room = sign-room (x .s) (x .at) (x .i) (x .g) (x .t) (x .within) (x .c) (x .next) (omega (arith, x .some)) (x .m) (x .width)
 
-  pub at-more : Leveled (x .table) → Going (x .s) (x .at) (x .i + x .c .len) (x .g + (x .c .len - x .m)) (x .t + (x .m - 1))
-  at-more l =
+  pub at-more : (g t : ℕ) → g ≡ x .g + (x .c .len - x .m) → t ≡ x .t + (x .m - 1) → Leveled (x .table) → Going (x .s) (x .at) (x .i + x .c .len) g t
+  at-more g t p q l =
       going-sign (x .s) (x .at) (x .i) (x .g) (x .t) (x .within) (x .c) (x .next) (omega (arith, x .some)) (x .m) (x .width)
-      (x .going l) (x .left) (x .right) (x .class)
+      g t p q (x .going l) (x .left) (x .right) (x .class)
 
-  -- one byte is the value's
-  pub at-one : x .m ≡ 1 → Leveled (x .table) → Going (x .s) (x .at) (x .i + x .c .len) (x .g + (x .c .len - 1)) (x .t)
-  at-one e l =
-      let p : x .t + (x .m - 1) ≡ x .t = omega (arith, e) in
-      let q : x .g + (x .c .len - x .m) ≡ x .g + (x .c .len - 1) = omega (arith, e) in
-      rw (p, q) at (at-more l)
+-- a character that no `&` begins has all its bytes in the value
+piece-whole : (p : Piece) (x : ℕ) (u v : List ℕ) → spell p ++ u ≡ x ∷ v → x ≢ ampersand → length (spell p) ≡ length (encode (resolved p))
+piece-whole (char c) x u v e n = refl
+piece-whole (entity amp) x u v e n = absurd (n (sym (head-eq-of-cons-eq e)))
+piece-whole (entity lt) x u v e n = absurd (n (sym (head-eq-of-cons-eq e)))
+piece-whole (entity gt) x u v e n = absurd (n (sym (head-eq-of-cons-eq e)))
+piece-whole (entity quot) x u v e n = absurd (n (sym (head-eq-of-cons-eq e)))
+piece-whole (entity apos) x u v e n = absurd (n (sym (head-eq-of-cons-eq e)))
+
+pub next-whole : (s : List ℕ) (i : ℕ) (c : Char) → i < length s → getD s i 0 ≢ ampersand → NextChar (drop i s) c → c .len ≢ 0 → c .len ≡ widthOf (c .len) (c .code)
+next-whole s i c h a n z =
+    let b : Begins (drop i s) c = next-begins (drop i s) c n (omega (arith, z)) in
+    chars.begun-len GoodPiece spell resolved (drop i s) c b
+    ∙ piece-whole (b .sign) (getD s i 0) (b .rest) (drop (suc i) s) (sym (b .is) ∙ drop-cons s i 0 h) a
+    ∙ ap (λ (x : ℕ). length (encode x)) (sym (chars.begun-code GoodPiece spell resolved (drop i s) c b))
+    ∙ next-width (drop i s) c n (omega (arith, z))
+
+-- a character of a text has bytes
+zero-no : isTxt 0 ≡ true → ⊥
+unfolding isTxt
+zero-no e = true≢false (sym e)
+
+pub next-some : (l : List ℕ) (c : Char) → NextChar l c → isTxt (c .code) ≡ true → c .len ≢ 0
+next-some l c (begun b) k z = omega (arith, z, chars.begun-len GoodPiece spell resolved l c b, piece-some (b .sign))
+next-some l c (none e never) k z = zero-no (ap (λ (r : Char). isTxt (r .code)) (sym e) ∙ k)
 
 -- an entity stands for a character of a text, of one byte
 pub entity-txt : (e : Entity) → isAsciiTxt (stands e) ≡ true

@@ -21,7 +21,6 @@ ghost use lib.ListN.{length, getD};
 ghost use Rattle.text_characters.specs.Pieces.{less};
 ghost use Rattle.list.specs.Listing.{txt};
 ghost use Rattle.value.specs.Kind.{code};
-ghost use Rattle.value.specs.mirror.Texts.{widthOf};
 ghost use Rattle.value_leaf.specs.Leafed.{Leafed};
 ghost use Rattle.value_levels.specs.mirror.Levels.{Leveled};
 ghost use Rattle.value_lane_texts.specs.mirror.Going.{isSecond, Umlaut, Going, Slashed};
@@ -30,19 +29,6 @@ ghost use Rattle.value_lane_texts.specs.mirror.Going.{isSecond, Umlaut, 
 const REF: u8 = table::REF as u8;
 
 const TXT: u8 = table::TXT as u8;
-
-// The first code beyond ASCII.
-const BEYOND: u32 = 128;
-
-// The bytes of a character that is spelled by len bytes: an entity stands for one byte.
-fn width(len: usize, code: u32) -> usize
-    ensures { λ r. ⌜ r ≡ widthOf len code ⌝ }
-{
-    if code < BEYOND {
-        return 1;
-    }
-    len
-}
 
 // A text of TXTk that was read up to its end: `gone` of its bytes are entities', `tails` are more than its characters.
 fn closed(s: &[u8], at: usize, k: usize, end: usize, gone: usize, tails: usize) -> Found
@@ -120,16 +106,10 @@ pub fn writing(levels: &Levels, s: &[u8], at: usize, k: usize) -> Found
         }
         let c = next_char(s, i);
         let len = c.len;
-        let code = c.code;
-        if !is_txt(code) {
+        if !is_txt(c.code) {
             return slow(TXT, k, s, at);
         }
-        if len == 0 {
-            return slow(TXT, k, s, at);
-        }
-        let w = width(len, code);
-        gone += len - w;
-        tails += w - 1;
+        tails += len - 1;
         i = run(levels, s, i + len, TEXT);
     }
     slow(TXT, k, s, at)

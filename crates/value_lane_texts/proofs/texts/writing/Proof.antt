@@ -6,7 +6,7 @@ use lib.ListN.{length}
 use borrow.Author.Tests.{not-false}
 use Rattle.value_lane_texts.specs.mirror.Going.{Going}
 use Rattle.value_levels.specs.mirror.Levels.{Leveled}
-use Rattle.value_lane_texts.proofs.Runs.{going-start, going-run, going-umlaut, AtSign, at-width, at-room, at-more, at-one, at-entity}
+use Rattle.value_lane_texts.proofs.Runs.{going-start, going-run, going-umlaut, AtSign, at-room, at-more, at-entity, next-some, next-whole}
 use borrow.Author.Needs.{needs}
 use Rattle.value_lane_texts.proofs.texts.writing.Statement.{statement}
 use Rattle.value_lane_texts.proofs.texts.writing.Tie as tie
@@ -26,16 +26,18 @@ entered c =
     let inv = at-loop-test .before .loop .inv in
     at-entity _ _ _ _ _ _ _ (inv .0) (inv .1) (at-loop-test .loop-test .taken) (at-if4 .if4 .taken) (at-entity-len .entity-len .ensures) (c .if5 .left)
 
--- what a turn has been told of a character that stops a run
-abbrev signed : tie.After-width Inv-loop μ-loop → AtSign
+-- and of another character that stops a run
+abbrev signed : tie.Else6 Inv-loop μ-loop → AtSign
 signed c =
-    let at-if7 = c .before in
-    let at-if6 = at-if7 .before in
-    let at-is-txt = at-if6 .before in
+    let at-is-txt = c .before in
     let at-next-char = at-is-txt .before in
-    let at-if2 = at-next-char .before .before .before .before in
+    let at-if4 = at-next-char .before in
+    let at-if2 = at-if4 .before .before .before in
     let at-if1 = at-if2 .before in
     let at-loop-test = at-if1 .before .before in
+    let next = at-next-char .next-char .ensures in
+    let class = sym (at-is-txt .is-txt .ensures) ∙ not-false _ (c .if6 .left) in
+    let some = next-some _ _ next class in
     record {
       table = _;
       s = _;
@@ -48,12 +50,12 @@ signed c =
       most = at-loop-test .before .loop .inv .0;
       going = at-loop-test .before .loop .inv .1;
       within = at-loop-test .loop-test .taken;
-      next = at-next-char .next-char .ensures;
-      some = at-if7 .if7 .left;
-      width = c .width .ensures;
+      next = next;
+      some = some;
+      width = next-whole _ _ _ (at-loop-test .loop-test .taken) (at-if4 .if4 .left) next some;
       left = at-if1 .if1 .left;
       right = at-if2 .if2 .left;
-      class = sym (at-is-txt .is-txt .ensures) ∙ not-false _ (at-if6 .if6 .left);
+      class = class;
     }
 
 long-run-requires : tie.Need-long-run-requires Inv-loop μ-loop
@@ -130,7 +132,7 @@ loop-less-2 c = omega (arith, c .run2 .ensures .0, entered (c .before) .some, en
 
 loop-again-2 : tie.Need-loop-again-2 Inv-loop μ-loop
 loop-again-2 c =
-    (omega (arith, entered (c .before) .most, entered (c .before) .some, c .run2 .ensures .0), λ l. going-run _ _ _ _ _ _ (at-one (entered (c .before)) refl l) (c .run2 .ensures .1 l))
+    (omega (arith, entered (c .before) .most, entered (c .before) .some, c .run2 .ensures .0), λ l. going-run _ _ _ _ _ _ (at-more (entered (c .before)) _ _ refl (omega arith) l) (c .run2 .ensures .1 l))
 
 next-char-requires : tie.Need-next-char-requires Inv-loop μ-loop
 next-char-requires c κs = search needs
@@ -144,26 +146,11 @@ slow-requires-3 c κs = search needs
 returns-4 : tie.Need-returns-4 Inv-loop μ-loop
 returns-4 c = λ l. c .slow3 .ensures
 
-slow-requires-4 : tie.Need-slow-requires-4 Inv-loop μ-loop
-slow-requires-4 c κs = search needs
-
-returns-5 : tie.Need-returns-5 Inv-loop μ-loop
-returns-5 c = λ l. c .slow4 .ensures
-
-width-requires : tie.Need-width-requires Inv-loop μ-loop
-width-requires c κs = search needs
-
-sub-gone-2 : tie.Need-sub-gone-2 Inv-loop μ-loop
-sub-gone-2 c = omega (arith, at-width (signed c))
-
-add-gone-2 : tie.Need-add-gone-2 Inv-loop μ-loop
-add-gone-2 c = omega (arith, signed c .most, at-width (signed c), at-room (signed c))
-
 sub-tails : tie.Need-sub-tails Inv-loop μ-loop
-sub-tails c = omega (arith, at-width (signed c))
+sub-tails c = omega (arith, signed c .some)
 
 add-tails-2 : tie.Need-add-tails-2 Inv-loop μ-loop
-add-tails-2 c = omega (arith, signed c .most, at-width (signed c), at-room (signed c))
+add-tails-2 c = omega (arith, signed c .most, at-room (signed c))
 
 add-run-3 : tie.Need-add-run-3 Inv-loop μ-loop
 add-run-3 c = omega (arith, at-room (signed c))
@@ -176,13 +163,13 @@ loop-less-3 c = omega (arith, c .run3 .ensures .0, signed (c .before) .some, sig
 
 loop-again-3 : tie.Need-loop-again-3 Inv-loop μ-loop
 loop-again-3 c =
-    (omega (arith, signed (c .before) .most, at-width (signed (c .before)), c .run3 .ensures .0), λ l. going-run _ _ _ _ _ _ (at-more (signed (c .before)) l) (c .run3 .ensures .1 l))
+    (omega (arith, signed (c .before) .most, signed (c .before) .some, c .run3 .ensures .0), λ l. going-run _ _ _ _ _ _ (at-more (signed (c .before)) _ _ (omega arith) refl l) (c .run3 .ensures .1 l))
 
-slow-requires-5 : tie.Need-slow-requires-5 Inv-loop μ-loop
-slow-requires-5 c κs = search needs
+slow-requires-4 : tie.Need-slow-requires-4 Inv-loop μ-loop
+slow-requires-4 c κs = search needs
 
-returns-6 : tie.Need-returns-6 Inv-loop μ-loop
-returns-6 c = λ l. c .slow5 .ensures
+returns-5 : tie.Need-returns-5 Inv-loop μ-loop
+returns-5 c = λ l. c .slow4 .ensures
 
 pub writing-spec : {M : Type 1} → statement M
 writing-spec =
@@ -216,16 +203,11 @@ writing-spec =
     is-txt-requires
     slow-requires-3
     returns-4
-    slow-requires-4
-    returns-5
-    width-requires
-    sub-gone-2
-    add-gone-2
     sub-tails
     add-tails-2
     add-run-3
     run-requires-3
     loop-less-3
     loop-again-3
-    slow-requires-5
-    returns-6)
+    slow-requires-4
+    returns-5)
