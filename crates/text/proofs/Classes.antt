@@ -8,8 +8,8 @@ use native.Mathlib.Omega.{arith}
 use native.Mathlib.Decide.{ℕ-discrete}
 use lib.Dec.{leb, eqb}
 use types.Run.{OneOf}
-use borrow.Author.Tests.{not-true, le-leb, eq-eqb, ne-eqb, leb-true, eqb-true, eqb-false}
-use Rattle.text.specs.Bytes.{inRange, isBlank, isCapital, isLetter, isDigit, isNameStart, isNamePart}
+use borrow.Author.Tests.{not-true, lt-ltb, le-ltb, le-leb, eq-eqb, ne-eqb, leb-true, eqb-true, eqb-false}
+use Rattle.text.specs.Bytes.{inRange, isAscii, isBlank, isCapital, isLetter, isDigit, isNameStart, isNamePart}
 
 -- tests in the order in which `||` groups them, so that a test of the definitions is `test` of its class as it stands
 infixl 30 _or_
@@ -193,3 +193,13 @@ name-start = record { is = λ x. refl }
 pub name-part : Named isNamePart (from 65 90 or from 97 122 or from 48 57 or only 46 or only 45 or only 95)
 unfolding isNamePart
 name-part = record { is = λ x. refl }
+
+-- ---- below the first byte that is no ASCII
+
+pub is-ascii : (x : ℕ) → x < 0x80 → true ≡ isAscii x
+unfolding isAscii
+is-ascii x h = sym (lt-ltb x 0x80 h)
+
+pub no-ascii : (x : ℕ) → 0x80 ≤ x → false ≡ isAscii x
+unfolding isAscii
+no-ascii x h = sym (le-ltb x 0x80 h)

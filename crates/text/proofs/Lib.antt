@@ -19,3 +19,5 @@ pub mod Digits
 pub mod Littles
 -- the zeros at a number's end, by bytes
 pub mod Zeros
+-- eight bytes a turn
+pub mod Eights

@@ -1,10 +1,11 @@
 -- Bytes as a number, the first the least. Assumes nothing.
-use mathlib.Core.Path.{_≡_, refl, sym, _∙_, ap, subst}
+use mathlib.Core.Path.{_≡_, refl, sym, _∙_, ap, ap₂, subst}
 use mathlib.Core.List.{List, [], _∷_, _++_}
 use Prim.Native.Nat.{ℕ, zero, suc, _+_, _*_, _^_, _≤_, _<_}
 use native.Mathlib.Nat.{mul-assoc, pow-suc}
 use native.Mathlib.Omega.{arith}
 use native.Mathlib.Decide.{decLt}
+use lib.Bits.{bitAnd, and-block, and-lt, and-zero-l}
 use lib.ListN.{length, getD, take, drop, drop-of-length-le, List·getD-eq-default}
 use lib.Seq.{drop-cons, drop-drop, take-nil, take-add}
 use Rattle.text.specs.Lists.{Each}
@@ -157,3 +158,29 @@ begins-alike b v (suc n) (suc q) c e [] g i h w k j = absurd (omega arith)
 begins-alike b v (suc n) (suc q) c e (x ∷ l) g i h w zero j = (alike-one b v n q c e x l h w) .0
 begins-alike b v (suc n) (suc q) c e (x ∷ l) g i h w (suc k) j =
     begins-alike b v n q c e l (omega arith) (omega arith) (h .1) ((alike-one b v n q c e x l h w) .1) k (omega arith)
+
+-- ---- the same bits of each byte
+
+masked-one : (b : ℕ) → b < 256 → (n q c x : ℕ) (l : List ℕ) → Each Byte (x ∷ l) → bitAnd (little (x ∷ l)) (repeated b (suc n)) ≡ c * 256 ^ suc q
+    → (bitAnd x b ≡ 0) × (bitAnd (little l) (repeated b n) ≡ c * 256 ^ q)
+unfolding little
+masked-one b v n q c x l h w =
+    let a : x + 256 * little l ≡ little l * 2 ^ 8 + x = omega arith in
+    let e : b + 256 * repeated b n ≡ repeated b n * 2 ^ 8 + b = omega arith in
+    let f = ap₂ bitAnd a e ∙ and-block 8 (little l) (repeated b n) x b (h .0) v in
+    let g = sym f ∙ w ∙ factor c q in
+    shed-none (bitAnd x b) (bitAnd (little l) (repeated b n)) (c * 256 ^ q) (and-lt 8 x b (h .0) v) g
+  where
+    shed-none : (y m p : ℕ) → y < 256 → m * 256 + y ≡ p * 256 → (y ≡ 0) × (m ≡ p)
+    shed-none y m p g e = (omega arith, omega arith)
+
+-- where the bits of n bytes are a multiple of 256 to the q, the first q bytes have none of them
+pub begins-masked : (b : ℕ) → b < 256 → (n q c : ℕ) (l : List ℕ) → q ≤ n → Each Byte l → bitAnd (little l) (repeated b n) ≡ c * 256 ^ q
+    → (k : ℕ) → k < q → (getD l k 0 < 256) × (bitAnd (getD l k 0) b ≡ 0)
+unfolding little
+begins-masked b v n zero c l i h w k j = absurd (omega arith)
+begins-masked b v zero (suc q) c l i h w k j = absurd (omega arith)
+begins-masked b v (suc n) (suc q) c [] i h w k j = (omega arith, and-zero-l b)
+begins-masked b v (suc n) (suc q) c (x ∷ l) i h w zero j = (h .0, (masked-one b v n q c x l h w) .0)
+begins-masked b v (suc n) (suc q) c (x ∷ l) i h w (suc k) j =
+    begins-masked b v n q c l (omega arith) (h .1) ((masked-one b v n q c x l h w) .1) k (omega arith)

@@ -4,7 +4,7 @@ use mathlib.Core.List.{List, [], _∷_}
 use Prim.Native.Nat.{ℕ}
 pub use Prim.Native.Char.{code}
 use Prim.Native.String.{String}
-use lib.Dec.{leb, eqb}
+use lib.Dec.{ltb, leb, eqb}
 
 -- an ASCII text's bytes
 abbrev pub ascii : String → List ℕ
@@ -14,6 +14,10 @@ ascii (Prim.Native.String._∷_ c s) = code c ∷ ascii s
 -- from `a` to `b`, both counted
 abbrev pub inRange : ℕ → ℕ → ℕ → Bool
 inRange a b x = leb a x && leb x b
+
+-- a byte that is a character of UTF-8 by itself
+unfoldable pub isAscii : ℕ → Bool
+isAscii x = ltb x 0x80
 
 -- "blanks (space, tab, LF, CR)"
 unfoldable pub isBlank : ℕ → Bool

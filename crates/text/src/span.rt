@@ -7,7 +7,8 @@ ghost use mathlib.Core.Path.{_≡_};
 ghost use Prim.Native.Nat.{_+_};
 ghost use lib.ListN.{drop};
 ghost use Rattle.text.specs.Lists.{span};
-ghost use Rattle.text.specs.Bytes.{isBlank};
+ghost use Rattle.text.specs.Bytes.{isAscii, isBlank};
+ghost use Rattle.text.specs.Little.{zeroBytes};
 
 // Other runs are passed four bytes a turn, by those who use these: so many, and those of them after the first.
 pub const TURN: usize = 4;
@@ -19,6 +20,19 @@ const BITS: u32 = 8;
 
 // Eight spaces, loaded.
 const SPACES: u64 = 0x2020202020202020;
+
+// The first byte that is no ASCII.
+pub const BEYOND: u8 = 0x80;
+
+// The top bit of each of eight bytes, which no ASCII has.
+const MARKS: u64 = 0x8080808080808080;
+
+// How many bytes of a number are 0, from its first on.
+fn zeros(d: u64) -> usize
+    ensures { λ r. ⌜ r ≡ zeroBytes d ⌝ }
+{
+    (u64::trailing_zeros(d) / BITS) as usize
+}
 
 // The end of the spaces from a place on, eight a turn: the zeros at the end of what eight bytes are more than spaces say how many of them are
 // spaces. It may stop early near the end of the bytes: what is left of the blanks is the same.
@@ -33,7 +47,7 @@ fn spaces_end(s: &[u8], at: usize) -> usize
     while i < last {
         let d = std::num::wrapping_sub_u64(load8(s, i), SPACES);
         if d != 0 {
-            return i + (u64::trailing_zeros(d) / BITS) as usize;
+            return i + zeros(d);
         }
         i += WIDTH_64;
     }
@@ -65,6 +79,39 @@ pub fn blanks_end(s: &[u8], at: usize) -> usize
     let mut i = spaces_end(s, line_end(s, at));
     while i < s.len() {
         if !is_blank(s[i]) {
+            return i;
+        }
+        i += 1;
+    }
+    i
+}
+
+// The end of the ASCII from a place on, eight bytes a turn: the zeros at the end of their top bits say how many are ASCII. It may stop early
+// near the end of the bytes, as `spaces_end` does.
+fn ascii_eights(s: &[u8], at: usize) -> usize
+    ensures { λ r. ⌜ r + span isAscii (drop r (now (s .entry))) ≡ at + span isAscii (drop at (now (s .entry))) ⌝ }
+{
+    if s.len() < WIDTH_64 {
+        return at;
+    }
+    let last = s.len() - WIDTH_64 + 1;
+    let mut i = at;
+    while i < last {
+        let d = load8(s, i) & MARKS;
+        if d != 0 {
+            return i + zeros(d);
+        }
+        i += WIDTH_64;
+    }
+    i
+}
+
+pub fn ascii_end(s: &[u8], at: usize) -> usize
+    ensures { λ r. ⌜ r ≡ at + span isAscii (drop at (now (s .entry))) ⌝ }
+{
+    let mut i = ascii_eights(s, at);
+    while i < s.len() {
+        if BEYOND <= s[i] {
             return i;
         }
         i += 1;

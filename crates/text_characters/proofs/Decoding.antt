@@ -3,21 +3,18 @@ use mathlib.Core.Path.{_≡_, refl, sym, _∙_, ap, subst}
 use mathlib.Core.Bool.{true, false, _&&_, and-false}
 use mathlib.Core.List.{List, [], _∷_, _++_}
 use mathlib.Core.Logic.{_⊎_, inl, inr, ⊎-elim}
-use Prim.Native.Nat.{ℕ, zero, suc, _+_, _*_, _/_, _%_, _≤_, _<_, zero-le, suc-le-suc}
-use native.Mathlib.Nat.{add-zero}
+use Prim.Native.Nat.{ℕ, _+_, _*_, _/_, _%_, _≤_, _<_, zero-le, suc-le-suc}
 use native.Mathlib.Omega.{arith}
 use native.Mathlib.Decide.{decLt}
 use lib.Dec.{ltb, leb}
 use lib.ListN.{length, drop, getD, drop-of-length-le}
 use lib.Seq.{drop-cons, drop-append-seam}
 use borrow.Author.Tests.{lt-ltb, le-ltb, le-leb, ltb-true, ltb-false, leb-true}
-use Rattle.text.specs.Lists.{span}
 use Rattle.text_characters.specs.Utf8.{Scalar, encode}
 use Rattle.text_characters.specs.Chars.{charOf, Begun, Decoded}
-use Rattle.text_characters.specs.mirror.Decoding.{isAscii, AsciiOver, isTail, isScalar, kept, two, three, four, byFirst, decoded, Paired}
+use Rattle.text_characters.specs.mirror.Decoding.{isTail, isScalar, kept, two, three, four, byFirst, decoded, Paired}
 use Rattle.text_characters.specs.declared.utf8.Char.{Char}
 use Rattle.text.proofs.Classes.{Named, from, _or_, within, is-in, and-is}
-use Rattle.text.proofs.Spans.{span-jump}
 use Rattle.text_characters.proofs.Chars as chars
 
 -- ---- the classes
@@ -29,40 +26,6 @@ tail = record { is = λ x. refl }
 pub scalar : Named isScalar (from 0 0xD7FF or from 0xE000 0x10FFFF)
 unfolding isScalar
 scalar = record { is = λ x. refl }
-
-pub is-ascii : (x : ℕ) → x < 0x80 → true ≡ isAscii x
-unfolding isAscii
-is-ascii x h = sym (lt-ltb x 0x80 h)
-
-pub no-ascii : (x : ℕ) → 0x80 ≤ x → false ≡ isAscii x
-unfolding isAscii
-no-ascii x h = sym (le-ltb x 0x80 h)
-
--- four bytes without a top bit are ASCII
-top-none : (x t : ℕ) → t ≡ x / 128 → t ≡ 0 → isAscii x ≡ true
-top-none x t e z = sym (is-ascii x (omega arith))
-
-pub record Tops (s : List ℕ) (i a b c d : ℕ) : Type 0 where
-  pub t0 : a ≡ getD s i 0 / 128
-  pub t1 : b ≡ getD s (i + 1) 0 / 128
-  pub t2 : c ≡ getD s (i + 2) 0 / 128
-  pub t3 : d ≡ getD s (i + 3) 0 / 128
-
-pub ascii-four : (s : List ℕ) (i a b c d : ℕ) → i + 4 ≤ length s → Tops s i a b c d → a + b + c + d ≡ 0 → AsciiOver 4 s i
-unfolding AsciiOver
-ascii-four s i a b c d room w z = span-jump isAscii 4 s i room each
-  where
-    each : (k : ℕ) → k < 4 → isAscii (getD s (i + k) 0) ≡ true
-    each zero j = rw add-zero (top-none (getD s i 0) a (w .t0) (omega arith))
-    each (suc zero) j = top-none (getD s (i + 1) 0) b (w .t1) (omega arith)
-    each (suc (suc zero)) j = top-none (getD s (i + 2) 0) c (w .t2) (omega arith)
-    each (suc (suc (suc zero))) j = top-none (getD s (i + 3) 0) d (w .t3) (omega arith)
-    each (suc (suc (suc (suc k)))) j = absurd (omega arith)
-
--- four and four more
-pub ascii-eight : (s : List ℕ) (i : ℕ) → AsciiOver 4 s i → AsciiOver 4 s (i + 4) → i + 8 + span isAscii (drop (i + 8) s) ≡ i + span isAscii (drop i s)
-unfolding AsciiOver
-ascii-eight s i h k = let twice : i + 4 + 4 ≡ i + 8 = omega arith in subst (λ j. j + span isAscii (drop j s) ≡ i + span isAscii (drop i s)) twice (k ∙ h)
 
 -- a scalar value lies below the surrogates or above them
 pub sides : (c : ℕ) → Scalar c → (c < 0xD800) ⊎ (0xE000 ≤ c)

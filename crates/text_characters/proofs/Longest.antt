@@ -9,10 +9,11 @@ use native.Mathlib.Nat.{zero-add, add-zero, add-assoc, suc-add}
 use lib.ListN.{length, take, drop, take-append-drop, length-append, length-drop}
 use lib.Seq.{length-take-le, take-length, drop-append-seam, take-append-seam, take-add, drop-drop}
 use borrow.Author.Tests.{ltb-true}
+use Rattle.text.specs.Bytes.{isAscii}
 use Rattle.text.specs.Lists.{Each, span, LongestBeginning}
 use Rattle.text_characters.specs.Utf8.{Scalar, encode, encodeAll, Utf8}
 use Rattle.text_characters.specs.Chars.{Begun}
-use Rattle.text_characters.specs.mirror.Decoding.{isAscii, decoded}
+use Rattle.text_characters.specs.mirror.Decoding.{decoded}
 use Rattle.text_characters.specs.declared.utf8.Char.{Char}
 use Rattle.text_characters.proofs.Chars as chars
 use Rattle.text.proofs.Spans.{span-le}

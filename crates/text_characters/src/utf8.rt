@@ -1,12 +1,14 @@
 // UTF-8: one character at a place, and the longest beginning of a text that is UTF-8.
 
+use text::span::BEYOND;
+use text::span::ascii_end;
 ghost use mathlib.Core.Path.{_≡_};
-ghost use Prim.Native.Nat.{_+_, _/_, _≤_, _<_};
+ghost use Prim.Native.Nat.{_<_};
 ghost use lib.ListN.{length, drop, getD};
 ghost use Rattle.text_characters.specs.Utf8.{Utf8};
 ghost use Rattle.text_characters.specs.Chars.{charOf, Decoded};
-ghost use Rattle.text_characters.specs.mirror.Decoding.{isAscii, AsciiOver, isTail, isScalar, kept, two, three, four, decoded, Paired, half};
-ghost use Rattle.text.specs.Lists.{span, LongestBeginning};
+ghost use Rattle.text_characters.specs.mirror.Decoding.{isTail, isScalar, kept, two, three, four, decoded, Paired};
+ghost use Rattle.text.specs.Lists.{LongestBeginning};
 
 // A byte that goes on holds six bits of a character, the first of two, three or four bytes five, four or three: how many numbers these
 // bits write, and the weight of what stands before one, two or three bytes that go on.
@@ -30,16 +32,6 @@ const OF_THREE: usize = 3;
 const OF_FOUR: usize = 4;
 
 const FOURTH: usize = OF_FOUR - 1;
-
-// The first byte that is no ASCII.
-const BEYOND: u8 = 0x80;
-
-// Bytes are tested eight at a time, in two halves: how many a half has, and those after its first.
-const HALF: usize = 4;
-
-const HALF_LAST: usize = HALF - 1;
-
-const EIGHT: usize = 2 * HALF;
 
 // A character of a text: how many bytes spell it and its code point, or 0 and 0 where none begins.
 pub struct Char {
@@ -208,50 +200,6 @@ fn char_len(s: &[u8], at: usize) -> usize
     }
     let c = decode(s, at);
     c.len
-}
-
-fn top_bit(b: u8) -> u8
-    ensures { λ r. ⌜ (r ≡ b / 0x80) × (r ≤ 1) ⌝ }
-{
-    b / BEYOND
-}
-
-// How many of the four bytes at a place are no ASCII.
-fn marked(s: &[u8], at: usize) -> u8
-    requires { ⌜ at + half ≤ length (now s) ⌝ }
-    ensures { λ r. ⌜ (r ≤ half) × (r ≡ 0 → AsciiOver half (now (s .entry)) at) ⌝ }
-{
-    top_bit(s[at]) + top_bit(s[at + 1]) + top_bit(s[at + 2]) + top_bit(s[at + HALF_LAST])
-}
-
-// As far as eight bytes of ASCII follow, and eight more: eight loads and one test, which become one load and one test.
-fn ascii_eights(s: &[u8], at: usize) -> usize
-    ensures { λ r. ⌜ r + span isAscii (drop r (now (s .entry))) ≡ at + span isAscii (drop at (now (s .entry))) ⌝ }
-{
-    let mut i = at;
-    while i < s.len() {
-        if s.len() - i < EIGHT {
-            return i;
-        }
-        if marked(s, i) + marked(s, i + HALF) != 0 {
-            return i;
-        }
-        i += EIGHT;
-    }
-    i
-}
-
-fn ascii_end(s: &[u8], at: usize) -> usize
-    ensures { λ r. ⌜ r ≡ at + span isAscii (drop at (now (s .entry))) ⌝ }
-{
-    let mut i = ascii_eights(s, at);
-    while i < s.len() {
-        if BEYOND <= s[i] {
-            return i;
-        }
-        i += 1;
-    }
-    i
 }
 
 // The length of the longest beginning that is UTF-8.

@@ -4,22 +4,10 @@ use mathlib.Core.Bool.{Bool, cond, _&&_, _||_}
 use mathlib.Core.List.{List, [], _∷_}
 use Prim.Native.Nat.{ℕ, _+_, _*_, _%_, _≤_}
 use lib.Dec.{ltb, leb}
-use lib.ListN.{drop, getD}
+use lib.ListN.{getD}
 use Rattle.text.specs.Bytes.{inRange}
-use Rattle.text.specs.Lists.{span}
 use Rattle.text_characters.specs.Chars.{charOf, Decoded}
 use Rattle.text_characters.specs.declared.utf8.Char.{Char}
-
-unfoldable pub isAscii : ℕ → Bool
-isAscii x = ltb x 0x80
-
--- the n bytes at a place are ASCII: the run from there is the run after them
-unfoldable pub AsciiOver : ℕ → List ℕ → ℕ → Type 0
-AsciiOver n s at = at + n + span isAscii (drop (at + n) s) ≡ at + span isAscii (drop at s)
-
--- bytes are tested eight at a time, in two halves
-abbrev pub half : ℕ
-half = 4
 
 -- a byte of a sequence that is not its first
 unfoldable pub isTail : ℕ → Bool

@@ -1,14 +1,14 @@
--- `utf8::ascii_end` meets its contract. Assumes nothing.
+-- `span::ascii_end` meets its contract. Assumes nothing.
 use mathlib.Core.Path.{_≡_, refl}
 use Prim.Native.Nat.{_+_, _-_}
 use lib.ListN.{length, drop}
 use borrow.Author.Needs.{needs}
 use Rattle.text.specs.Lists.{span}
-use Rattle.text_characters.specs.mirror.Decoding.{isAscii}
-use Rattle.text_characters.proofs.Decoding.{is-ascii, no-ascii}
+use Rattle.text.specs.Bytes.{isAscii}
+use Rattle.text.proofs.Classes.{is-ascii, no-ascii}
 use Rattle.text.proofs.Spans.{span-over, span-found, span-again}
-use Rattle.text_characters.proofs.utf8.ascii_end.Statement.{statement}
-use Rattle.text_characters.proofs.utf8.ascii_end.Tie as tie
+use Rattle.text.proofs.span.ascii_end.Statement.{statement}
+use Rattle.text.proofs.span.ascii_end.Tie as tie
 
 abbrev Inv-loop : tie.InvT-loop
 Inv-loop s at i₀ i = i + span isAscii (drop i s) ≡ at + span isAscii (drop at s)
