@@ -8,7 +8,9 @@ use crate::files::File;
 pub enum Input {
     File,
     Foreign,
+    Blanked,
     Faulty,
+    Torn,
     Broken,
     Image,
 }
@@ -27,7 +29,9 @@ impl Contender {
         match self.takes {
             Input::File => &file.text,
             Input::Foreign => &file.foreign,
+            Input::Blanked => &file.blanked,
             Input::Faulty => &file.faulty,
+            Input::Torn => &file.torn,
             Input::Broken => &file.broken,
             Input::Image => &file.image,
         }
@@ -74,14 +78,17 @@ pub fn all(schema: &str) -> Result<Vec<Contender>, String> {
 }
 
 /// The unit, and one that was built before where there is one. A foreign root is code 4, which is found after codes 1 to 3 over the whole
-/// file and before anything else. A bad value in the last text is code 12, a byte after the root 3: each is found only at the end.
+/// file and before anything else. A bad value in the last text is code 12, another name in the last tag but the root's 3, a byte after the
+/// root 3: each is found only at the end. A blank in that tag is no fault.
 pub fn units() -> Vec<Contender> {
     use unit::{code, reads};
     #[rustfmt::skip]
     let units = vec![
         Contender { name: "unit check", takes: Input::File, is_unit: true, counts: <[u8]>::len, judge: |text| code(unit::kto_check, text) == 0 },
         Contender { name: "unit UTF-8 and scan", takes: Input::Foreign, is_unit: true, counts: <[u8]>::len, judge: |text| code(unit::kto_check, text) == 4 },
+        Contender { name: "unit check, a blank in a tag", takes: Input::Blanked, is_unit: true, counts: <[u8]>::len, judge: |text| code(unit::kto_check, text) == 0 },
         Contender { name: "unit refuses a value", takes: Input::Faulty, is_unit: true, counts: <[u8]>::len, judge: |text| code(unit::kto_check, text) == 12 },
+        Contender { name: "unit refuses a tag", takes: Input::Torn, is_unit: true, counts: <[u8]>::len, judge: |text| code(unit::kto_check, text) == 3 },
         Contender { name: "unit refuses an end", takes: Input::Broken, is_unit: true, counts: <[u8]>::len, judge: |text| code(unit::kto_check, text) == 3 },
         Contender { name: "unit read", takes: Input::Image, is_unit: true, counts: <[u8]>::len, judge: |image| reads(unit::kto_read, image) },
         Contender { name: "unit write", takes: Input::Image, is_unit: true, counts: unit::written, judge: unit::write },
@@ -91,7 +98,11 @@ pub fn units() -> Vec<Contender> {
         #[cfg(before)]
         Contender { name: "before UTF-8 and scan", takes: Input::Foreign, is_unit: true, counts: <[u8]>::len, judge: |text| code(unit::before_check, text) == 4 },
         #[cfg(before)]
+        Contender { name: "before check, a blank in a tag", takes: Input::Blanked, is_unit: true, counts: <[u8]>::len, judge: |text| code(unit::before_check, text) == 0 },
+        #[cfg(before)]
         Contender { name: "before refuses a value", takes: Input::Faulty, is_unit: true, counts: <[u8]>::len, judge: |text| code(unit::before_check, text) == 12 },
+        #[cfg(before)]
+        Contender { name: "before refuses a tag", takes: Input::Torn, is_unit: true, counts: <[u8]>::len, judge: |text| code(unit::before_check, text) == 3 },
         #[cfg(before)]
         Contender { name: "before refuses an end", takes: Input::Broken, is_unit: true, counts: <[u8]>::len, judge: |text| code(unit::before_check, text) == 3 },
         #[cfg(before)]

@@ -13,8 +13,11 @@ pub struct File {
     pub text: Vec<u8>,
     /// The same file with another name of the root.
     pub foreign: Vec<u8>,
-    /// The same file with a byte in its last text that no text has, and with one after its root.
+    /// The same file with a blank in the last tag but the root's: as good as it was, and no way that the fast lane knows.
+    pub blanked: Vec<u8>,
+    /// With a byte in its last text that no text has; with another name in the last tag but the root's; with a byte after its root.
     pub faulty: Vec<u8>,
+    pub torn: Vec<u8>,
     pub broken: Vec<u8>,
     pub image: Vec<u8>,
 }
@@ -96,13 +99,17 @@ fn file(name: String, style: Style, size: usize) -> File {
     let foreign = text.replace("Document", "Fragment").into_bytes();
     let last = text.rfind("</Ustrd>").expect("a last text");
     let faulty = [&text[..last], "`", &text[last..]].concat().into_bytes();
+    let tag = text.rfind("</BkToCstmr").expect("the end of the message within the root");
+    let close = tag + text[tag..].find('>').expect("the end of a tag");
+    let blanked = [&text[..close], " ", &text[close..]].concat().into_bytes();
+    let torn = [&text[..close - 1], "?", &text[close..]].concat().into_bytes();
     let broken = [text.trim_end(), "x"].concat().into_bytes();
     let text = text.into_bytes();
     let mut image = vec![0; independent::LIMIT];
     let answer = independent::check(&text, &mut image);
     assert_eq!(answer.code.number(), 0, "the made file {name} is refused: {answer:?}");
     image.truncate(answer.place);
-    File { name, text, foreign, faulty, broken, image }
+    File { name, text, foreign, blanked, faulty, torn, broken, image }
 }
 
 fn entries_with_room(style: Style, entries: usize, size: usize, length: usize) -> usize {
