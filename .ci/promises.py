@@ -27,7 +27,7 @@ IMPL = re.compile(r'^impl(?:<[^>]*>)? (\w+)', re.M)
 UNEDITED = {
     'it hands on what a lower crate promises, and the edits for that are there':
         'unit::check unit::size unit::read unit::reading unit::pick unit::picked unit::items unit::item_at unit::write '
-        'unit::tidy unit::kto_check unit::kto_size unit::kto_read unit::kto_write unit::kto_tidy '
+        'unit::tidy unit::kto_read '
         'xml_skim::is_close xml_skim::text_end',
 }
 

@@ -23,7 +23,7 @@ use Rattle.text_characters.specs.Pieces.{less, ampersand, Entity, amp, lt, gt, 
 use Rattle.text_characters.specs.Chars.{charOf, begun, NextEntity}
 use Rattle.text_characters.specs.declared.utf8.Char.{Char}
 use Rattle.text_characters.proofs.Decoding as decoding
-use Rattle.text_characters.proofs.Resolving.{entity-one}
+use Rattle.text_characters.proofs.Resolving.{stands-one, entity-one}
 use Rattle.xml.proofs.Basics.{all-append}
 use Rattle.value.specs.Value.{text, bytes}
 use Rattle.value.proofs.given.Putting.{text-long}
@@ -83,14 +83,6 @@ word-first lt = (_, refl)
 word-first gt = (_, refl)
 word-first quot = (_, refl)
 word-first apos = (_, refl)
-
--- an entity stands for a character of one byte
-stands-low : (x : Entity) → stands x < 128
-stands-low amp = omega arith
-stands-low lt = omega arith
-stands-low gt = omega arith
-stands-low quot = omega arith
-stands-low apos = omega arith
 
 data Halt (t : List ℕ) (ps : List Piece) (rest : List ℕ) : Type 0 where
   over : span isPlain t ≡ length (spells ps) → drop (span isPlain t) t ≡ less ∷ rest → take (span isPlain t) t ≡ encodeAll (resolvedAll ps) → Halt t ps rest
@@ -199,9 +191,6 @@ entity-is s k x u c e nx =
 
 word-some : (x : Entity) → 0 < length (word x)
 word-some x = let f = word-first x in omega (arith, ap length (f .1))
-
-stands-one : (x : Entity) → encode (stands x) ≡ stands x ∷ []
-stands-one x = decoding.encode1 (stands x) (stands-low x)
 
 encode-append : (a b : List ℕ) → encodeAll (a ++ b) ≡ encodeAll a ++ encodeAll b
 encode-append [] b = refl

@@ -11,7 +11,8 @@ use lib.ListN.{length, drop, take, getD, length-drop}
 use lib.Seq.{getD-take, getD-drop, length-take-le}
 use Rattle.text.specs.Lists.{span}
 use Rattle.text.specs.Bytes.{isAscii, isBlank}
-use Rattle.text.specs.Little.{little, Loaded, zeroBytes}
+use Rattle.text.specs.Little.{little, Loaded}
+use Rattle.text.specs.mirror.Zeros.{zeroBytes}
 use Rattle.text.proofs.Classes.{is-ascii}
 use Rattle.text.proofs.Spans.{span-jump}
 use Rattle.text.proofs.Littles.{repeated, begins-alike, begins-masked}

@@ -15,3 +15,5 @@ pub mod Pasting
 pub mod Puts
 -- decimal digits
 pub mod Digits
+-- mirrors, which say how the code goes
+pub mod mirror

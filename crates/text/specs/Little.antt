@@ -1,8 +1,7 @@
 -- Bytes as a number, the first the least. Assumes nothing.
 use mathlib.Core.Path.{_≡_}
 use mathlib.Core.List.{List, [], _∷_}
-use Prim.Native.Nat.{ℕ, _+_, _*_, _/_, _<_}
-use lib.Count.{trailingZeros}
+use Prim.Native.Nat.{ℕ, _+_, _*_, _<_}
 use lib.ListN.{take, drop}
 use Rattle.text.specs.Lists.{Each}
 
@@ -18,14 +17,3 @@ Byte x = x < 256
 pub record Loaded (k : ℕ) (s : List ℕ) (at n : ℕ) : Type 0 where
   pub is : n ≡ little (take k (drop at s))
   pub bytes : Each Byte (take k (drop at s))
-
--- how many bits a byte has, and a number of eight bytes
-abbrev pub byteBits : ℕ
-byteBits = 8
-
-abbrev pub numberBits : ℕ
-numberBits = 64
-
--- how many bytes of such a number are 0, from its first on
-abbrev pub zeroBytes : ℕ → ℕ
-zeroBytes d = trailingZeros numberBits d / byteBits

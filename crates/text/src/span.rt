@@ -8,7 +8,7 @@ ghost use Prim.Native.Nat.{_+_};
 ghost use lib.ListN.{drop};
 ghost use Rattle.text.specs.Lists.{span};
 ghost use Rattle.text.specs.Bytes.{isAscii, isBlank};
-ghost use Rattle.text.specs.Little.{zeroBytes};
+ghost use Rattle.text.specs.mirror.Zeros.{zeroBytes};
 
 // Other runs are passed four bytes a turn, by those who use these: so many, and those of them after the first.
 pub const TURN: usize = 4;

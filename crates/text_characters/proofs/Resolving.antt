@@ -120,6 +120,17 @@ complete (entity gt) t g = refl
 complete (entity quot) t g = refl
 complete (entity apos) t g = refl
 
+-- an entity stands for a character of one byte
+pub stands-low : (e : Entity) → stands e < 128
+stands-low amp = omega arith
+stands-low lt = omega arith
+stands-low gt = omega arith
+stands-low quot = omega arith
+stands-low apos = omega arith
+
+pub stands-one : (e : Entity) → encode (stands e) ≡ stands e ∷ []
+stands-one e = decoding.encode1 (stands e) (stands-low e)
+
 -- ---- and what is found is one
 
 pub piece-some : (p : Piece) → 0 < length (spell p)

@@ -16,6 +16,7 @@ use Rattle.text_characters.specs.Chars.{NextChar}
 use Rattle.text_characters.specs.declared.utf8.Char.{Char}
 use Rattle.text_characters.proofs.Chars as firsts
 use Rattle.text_characters.proofs.Decoding as decoding
+use Rattle.text_characters.proofs.Resolving.{stands-low, stands-one}
 use Rattle.text.proofs.Parts.{part-take}
 use Rattle.text.proofs.Pasting.{pasted-none, pasted-then}
 use Rattle.text.proofs.Spans.{span-le, span-stop, span-go, span-append}
@@ -46,22 +47,6 @@ own-char c h =
     (λ j k. (own-yes (0xC0 + c / 64) (omega arith), (own-yes (0x80 + c % 64) (omega arith), tt)))
     (λ j k. (own-yes (0xE0 + c / 4096) (omega arith), (own-yes (0x80 + c / 64 % 64) (omega arith), (own-yes (0x80 + c % 64) (omega arith), tt))))
     (λ k. (own-yes (0xF0 + c / 262144) (omega arith), (own-yes (0x80 + c / 4096 % 64) (omega arith), (own-yes (0x80 + c / 64 % 64) (omega arith), (own-yes (0x80 + c % 64) (omega arith), tt)))))
-
--- an entity stands for a character of one byte
-stands-low : (e : Entity) → stands e < 128
-stands-low amp = omega arith
-stands-low lt = omega arith
-stands-low gt = omega arith
-stands-low quot = omega arith
-stands-low apos = omega arith
-
-stands-one : (e : Entity) → encode (stands e) ≡ stands e ∷ []
-unfolding encode
-stands-one amp = refl
-stands-one lt = refl
-stands-one gt = refl
-stands-one quot = refl
-stands-one apos = refl
 
 -- ---- spans of lists one after the other
 
