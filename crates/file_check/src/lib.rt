@@ -3,7 +3,6 @@ ghost use Rattle.file.specs.Checks.{Checks};
 
 use answer::Answer;
 use file_fill::laned;
-use file_halfway::Left;
 use file_measure::measured;
 use fill::fill;
 use list_house::by_byte::rows_of;
@@ -12,10 +11,10 @@ use list_house::tables::pool;
 mod fill; // fill.rt: the exact pass that writes
 
 // By the exact passes. A file is measured first, so that a byte is written only where the whole image fits. Measuring also tells which list it chose.
-fn exact(input: &[u8], left: Left, out: &mut [u8]) -> Answer
+fn exact(input: &[u8], out: &mut [u8]) -> Answer
     ensures { Checks input.now out.old result out.new }
 {
-    let finding = measured(input, left);
+    let finding = measured(input);
     let found = finding.answer;
     let kind = finding.kind;
     if found.code != 0 {
@@ -34,11 +33,9 @@ fn exact(input: &[u8], left: Left, out: &mut [u8]) -> Answer
 pub fn check(input: &[u8], out: &mut [u8]) -> Answer
     ensures { Checks input.now out.old result out.new }
 {
-    let lane = laned(input, out);
-    let size = lane.size;
+    let size = laned(input, out);
     if size == 0 {
-        let left = lane.left;
-        return exact(input, left, out);
+        return exact(input, out);
     }
     if out.len() < size {
         return Answer::no_room(size);

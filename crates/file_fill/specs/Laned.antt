@@ -7,10 +7,8 @@ use Rattle.value.specs.Value.{Value}
 use Rattle.file.specs.Instance.{house_kinds}
 use Rattle.file.specs.File.{image_of}
 use Rattle.file.specs.Checks.{Filed}
-use Rattle.file_halfway.specs.Halfway.{Told}
-use Rattle.file_lane.specs.declared.Counted.{Counted}
 
--- r has the length of the file's image, and the buffer d' is d with the image at its start, where that fits in; or it has how far the file was read
-pub data Laned (s d : List ℕ) (r : Counted) (d' : List ℕ) : Type 0 where
-  unknown : r.size ≡ 0 → Told s r.left → d' ≡ d → Laned s d r d'
-  imaged : (l : Listing) (c : Content Value) → Filed s l c → r.size ≡ length (image_of house_kinds l c) → d' ≡ pasted d 0 (image_of house_kinds l c) → Laned s d r d'
+-- n is the length of the file's image, and the buffer d' is d with the image at its start, where that fits in
+pub data Laned (s d : List ℕ) (n : ℕ) (d' : List ℕ) : Type 0 where
+  unknown : n ≡ 0 → d' ≡ d → Laned s d n d'
+  imaged : (l : Listing) (c : Content Value) → Filed s l c → n ≡ length (image_of house_kinds l c) → d' ≡ pasted d 0 (image_of house_kinds l c) → Laned s d n d'

@@ -1,12 +1,10 @@
--- What the lane has seen of a file: that it is good, or how far it was read. Assumes nothing.
-use Rattle.std.specs.Prelude.{◌≡◌, ◌≢◌, List, ℕ, ◌+◌, ◌≤◌, length, drop}
+-- What the lane has seen of a file that it knows to be good. Assumes nothing.
+use Rattle.std.specs.Prelude.{◌≡◌, List, ℕ, ◌+◌, ◌≤◌, length, drop}
 use Rattle.answer.specs.Table.{limit}
 use Rattle.file.specs.Instance.{house_kinds}
 use Rattle.file_front.specs.Opens.{Opens}
-use Rattle.file_halfway.specs.Halfway.{Told}
 use Rattle.file_nodes.specs.Run.{Run}
 use Rattle.file_nodes.specs.mirror.ByKind.{nodes_of}
-use Rattle.file_lane.specs.declared.Counted.{Counted}
 
 -- "`KTO`, version .. in 16 bits", the kind byte, and the root's row byte
 abbrev pub head_size : ℕ
@@ -19,8 +17,3 @@ pub record Seen (s : List ℕ) (n b from : ℕ) : Type 0 where
   pub bytes : List ℕ
   pub run : Run house_kinds (nodes_of opens.list) 1 (drop from s) bytes
   pub size : n ≡ head_size + length bytes
-
--- what is told of a file whose list has the kind byte b and whose root's tag ends at a place: that it is good, or, where that is not known, how far it was read
-pub record Counts (s : List ℕ) (b from : ℕ) (r : Counted) : Type 0 where
-  pub known : r.size ≢ 0 → Seen s r.size b from
-  pub left : r.size ≡ 0 → Told s r.left

@@ -8,10 +8,11 @@ ghost use Rattle.file_nodes.specs.Run.{Node};
 ghost use Rattle.file_nodes.specs.mirror.Fields.{width};
 ghost use Rattle.file_nodes.specs.mirror.Tables.{node_count};
 ghost use Rattle.file_nodes.specs.mirror.Kept.{Tabled};
-ghost use Rattle.file_lane.specs.mirror.Leads.{Comes, Marked};
+ghost use Rattle.file_lane.specs.mirror.Leads.{Comes};
 
 use crate::tag::find;
 use crate::turn::passed;
+use answer::Answer;
 use file_chunks::{eight, eight_after};
 use file_nodes::fields::{INFO, NEXT, WIDTH};
 use text::span::blanks_end;
@@ -23,26 +24,18 @@ const START: usize = 1;
 const HEAD: usize = 7;
 
 // How many bytes the image has of a file that goes on so from a place after its root's tag; 0 where that is not known here. No sum overflows: each turn
-// goes on in a text of at most 1,048,576 bytes, and an item has at most 65,538. Of a table that leads to no node nothing is told. The node and the place of
-// each turn are stored as it begins, so that it is known how far the file was read: kept in registers up to the end they would cost more.
-pub(crate) fn length_from(
-    levels: &Levels,
-    nodes: &[u64],
-    s: &[u8],
-    from: usize,
-    node: &mut usize,
-    place: &mut usize,
-) -> usize
-    requires { Leveled levels.now × (length nodes.now ≡ width * node_count) × (length s.now ≤ limit) }
-    ensures { (result ≢ 0 → ((at : ℕ → Node) → Tabled nodes.now at → Comes house_kinds at s.now 1 from result))
-        × (result ≡ 0 → Marked nodes.now s.now from node.new place.new) }
+// goes on in a text of at most 1,048,576 bytes, and an item has at most 65,538. Of a table that leads to no node nothing is told.
+pub(crate) fn length_from(levels: &Levels, nodes: &[u64], s: &[u8], from: usize) -> usize
+    requires { Leveled levels.now × (length nodes.now ≡ width * node_count) }
+    ensures { result ≢ 0 → (length s.now ≤ limit) × ((at : ℕ → Node) → Tabled nodes.now at → Comes house_kinds at s.now 1 from result) }
 {
+    if Answer::LIMIT < s.len() {
+        return 0;
+    }
     let mut n = START;
     let mut at = from;
     let mut total = HEAD;
     loop {
-        *node = n;
-        *place = at;
         let less = blanks_end(s, at);
         if s.len() <= less {
             return 0;

@@ -1,21 +1,18 @@
 // Codes 1 to 13 of a file, or the length of its image, without a byte written; and which list the file chooses.
 ghost use Rattle.std.specs.Prelude.{◌≡◌};
 ghost use Rattle.file.specs.File.{Whole};
-ghost use Rattle.file_halfway.specs.Halfway.{Told};
 ghost use Rattle.file_measure.specs.Measures.{Measures};
 ghost use Rattle.file_measure.specs.mirror.Choice.{told_of, Chooses};
 
 use answer::Answer;
 use choice::{begun, kind_by};
-use file_halfway::Left;
-use file_resume::resumed;
 use file_root::begin::begin;
 use file_walk::step::Turn;
 use list_house::by_byte::REPORT;
 use list_house::tables::{pool, report_rows, rows};
 use pass::found;
 use text_characters::utf8::utf8_end;
-use xml_scan::Scanned;
+use xml_scan::{Scanned, scan};
 
 mod choice; // choice.rt: the list that a message chooses
 mod pass; // pass.rt: the walk over a message
@@ -64,8 +61,8 @@ fn message(input: &[u8]) -> Finding
 }
 
 // Codes 1, 2 and 3 are judged in turn over the whole input; then its message.
-pub fn measured(input: &[u8], left: Left) -> Finding
-    ensures { Told input.now left → Measures input.now result }
+pub fn measured(input: &[u8]) -> Finding
+    ensures { Measures input.now result }
 {
     if Answer::LIMIT < input.len() {
         return told(Answer::too_long(), 0);
@@ -74,7 +71,7 @@ pub fn measured(input: &[u8], left: Left) -> Finding
     if good < input.len() {
         return told(Answer::not_utf8(good), 0);
     }
-    match resumed(input, left) {
+    match scan(input) {
         Scanned::Stops(n) => told(Answer::not_house_xml(n), 0),
         Scanned::Whole => message(input),
     }

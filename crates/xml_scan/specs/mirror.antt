@@ -5,5 +5,3 @@ pub mod Classes
 pub mod Goes
 -- a mirror: names as places, and what the functions over tags say
 pub mod Tags
--- a mirror: what going over the rest of an element says
-pub mod Outward

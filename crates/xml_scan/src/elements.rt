@@ -1,4 +1,10 @@
-// Elements within elements. Of those that are open within the one that is gone over, the names stand from from[k] to to[k], the outermost first.
+// Elements within elements: the names of those that are open stand from from[k] to to[k], the outermost first.
+ghost use Rattle.std.specs.Prelude.{◌≤◌, ◌<◌, length};
+ghost use Rattle.xml.specs.mirror.Auto.{root, done};
+ghost use Rattle.xml_scan.specs.mirror.Classes.{Classed};
+ghost use Rattle.xml_scan.specs.mirror.Goes.{Goes};
+ghost use Rattle.xml_scan.specs.mirror.Tags.{inside, marked, Nested, Steps, GoesStart, GoesClose};
+
 use crate::content::text_end;
 use crate::tag::{Tag, tag_rest};
 use text::class::is_name_start;
@@ -7,36 +13,37 @@ use xml_pieces::Went;
 use xml_pieces::run::{BYTES, run_end};
 use xml_pieces::word::word;
 
-// "Nesting is at most 16": so many, and those that may be open within the root.
-pub(crate) const MOST_LEVELS: usize = 16;
+// "Nesting is at most 16": so many, and the number of the innermost, from 0.
+const MOST_LEVELS: usize = 16;
 
-const BELOW_ROOT: usize = MOST_LEVELS - 1;
+const LAST_LEVEL: usize = MOST_LEVELS - 1;
 
-// A place, and how many elements are open there within the one that is gone over; or the place after that one; or where the text stops.
+// A place, and how many elements are open there.
 #[derive(Drop)]
 enum Step {
     On(usize, usize),
-    Out(usize),
     Stopped(usize),
 }
 
-// Over a start tag after its `<`, in an element that so many may be open in: "Nesting is at most 16".
+// Over a start tag after its `<`: "Nesting is at most 16".
 fn start_tag(
     s: &[u8],
     at: usize,
     from: &mut [usize; MOST_LEVELS],
     to: &mut [usize; MOST_LEVELS],
     n: usize,
-    room: usize,
     classes: &[u8; BYTES],
-) -> Step {
+) -> Step
+    requires { Nested s.now at from.old to.old n classes.now }
+    ensures { GoesStart s.now at n from.old to.old from.new to.new result }
+{
     if s.len() <= at {
         return Step::Stopped(at);
     }
     if !is_name_start(s[at]) {
         return Step::Stopped(at);
     }
-    if room <= n {
+    if LAST_LEVEL < n {
         return Step::Stopped(at);
     }
     let e = run_end(s, at + 1, classes, 1);
@@ -52,7 +59,10 @@ fn start_tag(
 }
 
 // Over an end tag after its `</`, for the name w.
-fn end_tag(s: &[u8], at: usize, w: &[u8]) -> Went {
+fn end_tag(s: &[u8], at: usize, w: &[u8]) -> Went
+    requires { at ≤ length s.now }
+    ensures { GoesClose s.now at w.now result }
+{
     match word(s, at, w) {
         Went::Stopped(p) => Went::Stopped(p),
         Went::On(e) => {
@@ -73,87 +83,70 @@ fn end_tag(s: &[u8], at: usize, w: &[u8]) -> Went {
     }
 }
 
-// Over an end tag after its `</`, where n elements are open in the one of the name w.
-fn any_end(
+// Over a tag after its `<`, where n elements are open.
+fn any_tag(
     s: &[u8],
     at: usize,
-    w: &[u8],
-    from: &[usize; MOST_LEVELS],
-    to: &[usize; MOST_LEVELS],
+    from: &mut [usize; MOST_LEVELS],
+    to: &mut [usize; MOST_LEVELS],
     n: usize,
-) -> Step {
-    if n == 0 {
-        return match end_tag(s, at, w) {
-            Went::Stopped(p) => Step::Stopped(p),
-            Went::On(e) => Step::Out(e),
-        };
+    classes: &[u8; BYTES],
+) -> Step
+    requires { (0 < n) × Nested s.now at from.old to.old n classes.now }
+    ensures { Steps s.now at (marked s.now from.old to.old n) from.new
+        to.new result }
+{
+    if s.len() <= at {
+        return Step::Stopped(at);
+    }
+    if s[at] != b'/' {
+        return start_tag(s, at, from, to, n, classes);
     }
     let k = n - 1;
     let f = from[k];
     let t = to[k];
-    match end_tag(s, at, &s[f..t]) {
+    match end_tag(s, at + 1, &s[f..t]) {
         Went::Stopped(p) => Step::Stopped(p),
         Went::On(e) => Step::On(e, k),
     }
 }
 
-// Over text and the tag after it.
+// Over text and the tag after it, where n elements are open.
 fn advance(
     s: &[u8],
     at: usize,
-    w: &[u8],
     from: &mut [usize; MOST_LEVELS],
     to: &mut [usize; MOST_LEVELS],
     n: usize,
-    room: usize,
     classes: &[u8; BYTES],
-) -> Step {
+) -> Step
+    requires { (0 < n) × Nested s.now at from.old to.old n classes.now }
+    ensures { Steps s.now at (inside s.now from.old to.old n) from.new
+        to.new result }
+{
     match text_end(s, at, classes) {
         Went::Stopped(p) => Step::Stopped(p),
-        Went::On(i) => {
-            if s.len() <= i {
-                return Step::Stopped(i);
-            }
-            if s[i] != b'/' {
-                return start_tag(s, i, from, to, n, room, classes);
-            }
-            any_end(s, i + 1, w, from, to, n)
-        }
-    }
-}
-
-// Over what is left of an element of the name w from a place within it on, and its end tag; so many may be open in it.
-pub(crate) fn content_end(
-    s: &[u8],
-    at: usize,
-    w: &[u8],
-    room: usize,
-    classes: &[u8; BYTES],
-) -> Went {
-    let mut from = [0usize; MOST_LEVELS];
-    let mut to = [0usize; MOST_LEVELS];
-    let mut here = Step::On(at, 0);
-    loop {
-        match here {
-            Step::Stopped(p) => return Went::Stopped(p),
-            Step::Out(e) => return Went::On(e),
-            Step::On(i, n) => here = advance(s, i, w, &mut from, &mut to, n, room, classes),
-        }
+        Went::On(i) => any_tag(s, i, from, to, n, classes),
     }
 }
 
 // Over the one element, after its `<`, with all that stands in it.
-pub(crate) fn elements(s: &[u8], at: usize, classes: &[u8; BYTES]) -> Went {
-    if s.len() <= at {
-        return Went::Stopped(at);
-    }
-    if !is_name_start(s[at]) {
-        return Went::Stopped(at);
-    }
-    let e = run_end(s, at + 1, classes, 1);
-    match tag_rest(s, e, classes) {
-        Tag::Stopped(p) => Went::Stopped(p),
-        Tag::Empty(i) => Went::On(i),
-        Tag::Open(i) => content_end(s, i, &s[at..e], BELOW_ROOT, classes),
+pub(crate) fn elements(s: &[u8], at: usize, classes: &[u8; BYTES]) -> Went
+    requires { (at ≤ length s.now) × Classed classes.now }
+    ensures { Goes s.now at root done result }
+{
+    let mut from = [0usize; MOST_LEVELS];
+    let mut to = [0usize; MOST_LEVELS];
+    let mut here = start_tag(s, at, &mut from, &mut to, 0, classes);
+    loop {
+        match here {
+            Step::Stopped(p) => return Went::Stopped(p),
+            Step::On(i, n) => {
+                if n == 0 {
+                    return Went::On(i);
+                }
+                here = advance(s, i, &mut from, &mut to, n, classes);
+            }
+        }
     }
 }

@@ -1,10 +1,9 @@
 // Where a text stops being house XML. One pass over the bytes, no heap; a function for each construct, which goes over it by
 // spans and answers the place after it, or the place at which no house XML text goes on.
 ghost use Rattle.xml_scan.specs.mirror.Classes.{Classed};
-ghost use Rattle.xml_scan.specs.mirror.Outward.{Outward};
 ghost use Rattle.xml_scan.specs.Right.{Right};
 
-use elements::{MOST_LEVELS, content_end, elements};
+use elements::elements;
 use prolog::prolog;
 use table::CLASSES;
 use text::span::blanks_end;
@@ -51,19 +50,4 @@ pub fn scan(s: &[u8]) -> Scanned
 {
     let classes = CLASSES;
     document(s, &classes)
-}
-
-// Over what is left of an element of this name from a place within it on, and its end tag, where so many elements may be open in it. In no element of a
-// text of house XML may be more than 16.
-pub fn element_end(s: &[u8], at: usize, name: &[u8], room: usize) -> Went
-    ensures { Outward s.now at name.now room result }
-{
-    if s.len() < at {
-        return Went::Stopped(at);
-    }
-    if MOST_LEVELS < room {
-        return Went::Stopped(at);
-    }
-    let classes = CLASSES;
-    content_end(s, at, name, room, &classes)
 }
