@@ -5,7 +5,7 @@ pub mod hand; // hand.rt: an answer for C
 ghost use Rattle.std.specs.Prelude.{◌≡◌};
 ghost use Rattle.answer.specs.Table.{accepted, picked, too_long, not_utf8, not_house_xml, wrong_root, not_aChild, out_of_order, too_many, absent, wrong_attributes, text_in_group, empty, bad_value, rule_broken, no_room, no_header, wrong_version, broken_image, no_such_leaf, too_large, too_fine, retired};
 
-#[derive(Drop)]
+#[derive(Clone, Copy)]
 pub struct Answer {
     pub code: u8,
     pub row: usize,

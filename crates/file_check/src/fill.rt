@@ -59,7 +59,7 @@ fn put_value(
 }
 
 // The innermost open group, its last child (0: none yet), and the place after the last tag.
-#[derive(Drop)]
+#[derive(Clone, Copy)]
 struct Spot {
     row: usize,
     last: usize,

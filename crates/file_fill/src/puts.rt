@@ -22,7 +22,7 @@ use value_levels::plain::plain_end;
 use value_shared::place::place;
 
 // The place after an item in the image, and after its text.
-#[derive(Drop)]
+#[derive(Clone, Copy)]
 pub(crate) struct Put {
     pub at: usize,
     pub end: usize,

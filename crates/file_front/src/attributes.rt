@@ -22,7 +22,7 @@ const STATEMENT: usize = 1;
 
 // What came so far: the kind byte of the list whose namespace it is, 0 before it came, whether `xmlns:xsi` and `xsi:schemaLocation` came, and the place
 // after all of it, 0 where nothing is told.
-#[derive(Drop)]
+#[derive(Clone, Copy)]
 pub(crate) struct Carried {
     pub at: usize,
     pub kind: usize,

@@ -20,7 +20,7 @@ const DECLARATION: [u8; 38] = *b"<?xml version=\"1.0\" encoding=\"UTF-8\"?>";
 const ROOT: [u8; 9] = *b"<Document";
 
 // What stands at the front: the kind byte of the list whose root's tag it is, and the place after that tag; 0 where nothing is told.
-#[derive(Drop)]
+#[derive(Clone, Copy)]
 pub struct Front {
     pub kind: usize,
     pub from: usize,

@@ -23,7 +23,7 @@ use value_leaf::found::Found;
 use value_levels::table::Levels;
 
 // What was passed: the place after it, 0 where nothing is told, and how many bytes of the image it has.
-#[derive(Drop)]
+#[derive(Clone, Copy)]
 pub(crate) struct Past {
     pub at: usize,
     pub size: usize,

@@ -18,7 +18,7 @@ mod choice; // choice.rt: the list that a message chooses
 mod pass; // pass.rt: the walk over a message
 
 // What measuring a file tells: the answer, and the kind byte of a good file's list, 0 of any other.
-#[derive(Drop)]
+#[derive(Clone, Copy)]
 pub struct Finding {
     pub answer: Answer,
     pub kind: usize,

@@ -3,7 +3,7 @@
 use answer::Answer;
 
 // No violation; or the line of document 01's table that answers it.
-#[derive(Drop)]
+#[derive(Clone, Copy)]
 pub enum Found {
     Fine,
     Violation(Answer),

@@ -1,7 +1,7 @@
 // The root's attributes, as far as they were looked at.
 
 // What stands among some attributes: the namespace, `xmlns:xsi`, `xsi:schemaLocation`, any other.
-#[derive(Drop)]
+#[derive(Clone, Copy)]
 pub struct Carried {
     pub space: bool,
     pub prefix: bool,

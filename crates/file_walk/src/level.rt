@@ -8,7 +8,7 @@ use list::table::MOST_LEVELS;
 
 // Its row, the place of its `<`, the row of its last child (0: none yet), its lowest required child that has not come (0: none), and
 // whether a row of a rule has come for good without the other.
-#[derive(Drop)]
+#[derive(Clone, Copy)]
 pub struct Level {
     pub row: usize,
     pub place: usize,

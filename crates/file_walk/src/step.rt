@@ -8,7 +8,7 @@ use answer::Answer;
 
 // Where the walk stands: the innermost open element, how many are around it (they are on the stack), the place after the last tag, and
 // where that tag's first attribute has its value.
-#[derive(Drop)]
+#[derive(Clone, Copy)]
 pub struct Here {
     pub level: Level,
     pub depth: usize,
@@ -18,7 +18,7 @@ pub struct Here {
 }
 
 // What a step met.
-#[derive(Drop)]
+#[derive(Clone, Copy)]
 pub enum Met {
     // An element that goes on: it is the innermost now.
     Opened,
@@ -30,7 +30,7 @@ pub enum Met {
     Lost,
 }
 
-#[derive(Drop)]
+#[derive(Clone, Copy)]
 pub struct Turn {
     pub met: Met,
     pub here: Here,

@@ -20,14 +20,14 @@ ghost use Rattle.image_hold.specs.Held.{left, Steps, HeldPicked, Next};
 use answer::Answer;
 
 // The run and the place.
-#[derive(Drop)]
+#[derive(Clone, Copy)]
 pub struct Held<'a> {
     pub run: &'a [u8],
     pub at: usize,
 }
 
 // What was read at a place, and the place to read at next.
-#[derive(Drop)]
+#[derive(Clone, Copy)]
 pub struct Step {
     pub answer: Answer,
     pub at: usize,

@@ -13,7 +13,7 @@ use list::table::SIZE;
 use list_house::by_byte::kept_rows_of;
 
 // The item's row, 0 at the closing byte, where its value's own bytes begin, and how many they are. The next item stands after these.
-#[derive(Drop)]
+#[derive(Clone, Copy)]
 pub struct Item {
     pub answer: Answer,
     pub size: usize,

@@ -12,7 +12,7 @@ use list::table::{CELLS, KIND, MOST, WORD_COUNT};
 use value_kinds_stored::end::value_end;
 
 // What is told of the items from a place on: the answer, and how many were taken, the closing 0 among them.
-#[derive(Drop)]
+#[derive(Clone, Copy)]
 pub struct Tally {
     pub answer: Answer,
     pub count: usize,

@@ -9,7 +9,7 @@ use list_house::by_byte::REPORT;
 
 // What is told of the image that a run begins with: the answer, the kind byte of its list and where its items begin, 0 and 0 where none
 // begins there; and how many items were taken.
-#[derive(Drop)]
+#[derive(Clone, Copy)]
 pub struct Reading {
     pub answer: Answer,
     pub kind: usize,
@@ -18,7 +18,7 @@ pub struct Reading {
 }
 
 // The middle two of these, which are told without reading an item.
-#[derive(Drop)]
+#[derive(Clone, Copy)]
 pub struct Head {
     pub kind: usize,
     pub from: usize,

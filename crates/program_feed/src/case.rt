@@ -8,7 +8,7 @@ use answer::Answer;
 use text::part::least;
 use text::width::WIDTH_32;
 
-#[derive(Drop)]
+#[derive(Clone, Copy)]
 pub enum Case {
     // A file of `size` bytes, for a buffer of `room`.
     Check {

@@ -32,7 +32,7 @@ const OF_FOUR: usize = 4;
 const FOURTH: usize = OF_FOUR - 1;
 
 // A character of a text: how many bytes spell it and its code point, or 0 and 0 where none begins.
-#[derive(Drop)]
+#[derive(Clone, Copy)]
 pub struct Char {
     pub len: usize,
     pub code: u32,

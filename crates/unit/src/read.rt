@@ -10,7 +10,7 @@ pub fn read(run: &[u8]) -> Answer
 }
 
 // The same answer with the items that were taken for it, the closing 0 among them.
-#[derive(Drop)]
+#[derive(Clone, Copy)]
 pub struct Counted {
     pub answer: Answer,
     pub count: usize,

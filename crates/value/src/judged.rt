@@ -1,7 +1,7 @@
 // What the raw text of a leaf is judged to be: the value, or that it has none.
 
 // A moment is its written parts: microseconds, and offset minutes plus 840.
-#[derive(Drop)]
+#[derive(Clone, Copy)]
 pub struct Moment {
     pub year: u16,
     pub month: u8,
@@ -13,7 +13,7 @@ pub struct Moment {
     pub offset: u16,
 }
 
-#[derive(Drop)]
+#[derive(Clone, Copy)]
 pub enum Judged {
     Refused,
     // a text whose characters have so many bytes; they stand in the raw text

@@ -22,7 +22,7 @@ const LAST_DIGIT: u32 = NO_DIGIT - 1;
 const NO_ZONE: u16 = 9999;
 
 // A fraction of a second in microseconds, and the place after it.
-#[derive(Drop)]
+#[derive(Clone, Copy)]
 struct Split {
     micros: u32,
     end: usize,

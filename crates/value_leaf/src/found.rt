@@ -4,7 +4,7 @@ ghost use Rattle.std.specs.Prelude.{◌≡◌};
 ghost use Rattle.value_leaf.specs.Leafed.{found_of};
 
 // No value has 0 bytes: that says that there is none.
-#[derive(Drop)]
+#[derive(Clone, Copy)]
 pub struct Found {
     pub end: usize,
     pub size: usize,

@@ -6,7 +6,7 @@ pub mod run; // run.rt: runs of bytes of one class
 pub mod word; // word.rt: given bytes
 
 // What a function that goes over a construct answers.
-#[derive(Drop)]
+#[derive(Clone, Copy)]
 pub enum Went {
     // The construct ends before this place.
     On(usize),

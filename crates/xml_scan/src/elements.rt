@@ -19,7 +19,7 @@ const MOST_LEVELS: usize = 16;
 const LAST_LEVEL: usize = MOST_LEVELS - 1;
 
 // A place, and how many elements are open there.
-#[derive(Drop)]
+#[derive(Clone, Copy)]
 enum Step {
     On(usize, usize),
     Stopped(usize),

@@ -17,7 +17,7 @@ mod prolog; // prolog.rt: what stands before the first element
 mod table; // table.rt: the class of each byte
 mod tag; // tag.rt: what stands between `<` and `>`
 
-#[derive(Drop)]
+#[derive(Clone, Copy)]
 pub enum Scanned {
     // The text is house XML.
     Whole,

@@ -11,7 +11,7 @@ use xml_pieces::Went;
 use xml_pieces::run::BYTES;
 
 // `>` or `/>`, and the place after it.
-#[derive(Drop)]
+#[derive(Clone, Copy)]
 pub enum Tag {
     Open(usize),
     Empty(usize),

@@ -1,7 +1,7 @@
 // A tag of a message that is known to be good, by no more of its places than the image needs.
 
 // An opening tag: its name goes up to stop, its first attribute's value, without the quotes, stands at value .. quote.
-#[derive(Drop)]
+#[derive(Clone, Copy)]
 pub struct Tag {
     pub stop: usize,
     pub end: usize,

@@ -3,7 +3,7 @@
 use crate::attribute::Attribute;
 
 // What stands after a text.
-#[derive(Drop)]
+#[derive(Clone, Copy)]
 pub enum Kind {
     // `<a ..>`
     Open,
@@ -17,7 +17,7 @@ pub enum Kind {
 
 // A text up to less, then a tag whose `<` is there; its name stands at less + 1 .. stop. A close or an end has neither name nor
 // attributes here: its stop is less.
-#[derive(Drop)]
+#[derive(Clone, Copy)]
 pub struct Token {
     pub kind: Kind,
     pub less: usize,
