@@ -11,7 +11,7 @@ import os
 import re
 import sys
 
-TOKEN = r"[A-Za-z_\u03b1-\u03c9\u0391-\u03a9\u2080-\u2089][\w'\u2080-\u2089]*(?:-[\w'\u2080-\u2089]+)*"
+TOKEN = r"(?<![\w'])[A-Za-z_\u03b1-\u03c9\u0391-\u03a9\u2080-\u2089][\w'\u2080-\u2089]*(?:-[\w'\u2080-\u2089]+)*"
 CAMEL = re.compile(r"^[a-z][a-z0-9]*[A-Z]")
 USE = re.compile(r"\buse\s+([^\s;{}]+?)\.\{([^}]*)\}", re.S)
 MADE = re.compile(r"\.(Tie|Statement|Given|Goals|Lts|declared|Model)(\.|$)")

@@ -41,9 +41,9 @@ plain_yes x a b = rw (ne_eqb x less a, ne_eqb x ampersand b)
 plain_char : (c : ℕ) → c ≢ less → c ≢ ampersand → All is_plain (encode c)
 plain_char c a b =
     decoding.by_length (All is_plain) c (λ k. (plain_yes c a b, tt))
-    (λ j k. (plain_yes (0x_c0 + c / 64) (λ z. omega arith) (λ z. omega arith), (plain_yes (0x80 + c % 64) (λ z. omega arith) (λ z. omega arith), tt)))
-    (λ j k. (plain_yes (0x_e0 + c / 4096) (λ z. omega arith) (λ z. omega arith), (plain_yes (0x80 + c / 64 % 64) (λ z. omega arith) (λ z. omega arith), (plain_yes (0x80 + c % 64) (λ z. omega arith) (λ z. omega arith), tt))))
-    (λ k. (plain_yes (0x_f0 + c / 262144) (λ z. omega arith) (λ z. omega arith), (plain_yes (0x80 + c / 4096 % 64) (λ z. omega arith) (λ z. omega arith), (plain_yes (0x80 + c / 64 % 64) (λ z. omega arith) (λ z. omega arith), (plain_yes (0x80 + c % 64) (λ z. omega arith) (λ z. omega arith), tt)))))
+    (λ j k. (plain_yes (0xC0 + c / 64) (λ z. omega arith) (λ z. omega arith), (plain_yes (0x80 + c % 64) (λ z. omega arith) (λ z. omega arith), tt)))
+    (λ j k. (plain_yes (0xE0 + c / 4096) (λ z. omega arith) (λ z. omega arith), (plain_yes (0x80 + c / 64 % 64) (λ z. omega arith) (λ z. omega arith), (plain_yes (0x80 + c % 64) (λ z. omega arith) (λ z. omega arith), tt))))
+    (λ k. (plain_yes (0xF0 + c / 262144) (λ z. omega arith) (λ z. omega arith), (plain_yes (0x80 + c / 4096 % 64) (λ z. omega arith) (λ z. omega arith), (plain_yes (0x80 + c / 64 % 64) (λ z. omega arith) (λ z. omega arith), (plain_yes (0x80 + c % 64) (λ z. omega arith) (λ z. omega arith), tt)))))
 
 -- ---- a raw text has no `<`
 

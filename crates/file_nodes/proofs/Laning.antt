@@ -38,8 +38,8 @@ blank_byte : (b : ℕ) → is_blank b ≡ true → (b < 0x80) × GoodPiece (piec
 blank_byte b h = by_blank (λ (x : ℕ). (x < 0x80) × GoodPiece (pieces.char x)) b h
     (omega arith, (xml_char_yes 0x20 (XmlChar.low (omega arith) (omega arith)), (λ z. omega arith), (λ z. omega arith)))
     (omega arith, (xml_char_yes 0x9 (XmlChar.tab refl), (λ z. omega arith), (λ z. omega arith)))
-    (omega arith, (xml_char_yes 0x_a (XmlChar.line refl), (λ z. omega arith), (λ z. omega arith)))
-    (omega arith, (xml_char_yes 0x_d (XmlChar.return refl), (λ z. omega arith), (λ z. omega arith)))
+    (omega arith, (xml_char_yes 0xA (XmlChar.line refl), (λ z. omega arith), (λ z. omega arith)))
+    (omega arith, (xml_char_yes 0xD (XmlChar.return refl), (λ z. omega arith), (λ z. omega arith)))
 
 blankly_is : (bs : List ℕ) (x : X.Markup) → All is_blank bs → render (blankly bs x) ≡ bs ++ render x
 blankly_is [] x h = refl

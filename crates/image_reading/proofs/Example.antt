@@ -90,7 +90,7 @@ record Found (s : List ℕ) (from r n p : ℕ) (a : Answer) (part : List ℕ) : 
 
 -- MsgId's two bytes, the balance's amount
 abbrev identified : List ℕ
-identified = 0x4_d ∷ 0x31 ∷ []
+identified = 0x4D ∷ 0x31 ∷ []
 
 abbrev balance : List ℕ
 balance = 0x45 ∷ 0x55 ∷ 0x52 ∷ 0x00 ∷ 0x00 ∷ 0x00 ∷ 0x00 ∷ 0x00 ∷ 0x00 ∷ 0x00 ∷ 0x00 ∷ 0x05 ∷ []

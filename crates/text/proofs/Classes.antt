@@ -99,8 +99,8 @@ passes p a (suc n) e x h k =
     go (ℕ_discrete x a) w.0 (passes p (suc a) n w.1 x)
   where
     go : Dec (x ≡ a) → p a ≡ true → (suc a ≤ x → x < suc a + n → p x ≡ true) → p x ≡ true
-    go (yes d) f g = rw d f
-    go (no d) f g = g (omega arith) (omega arith)
+    go (Prim.yes d) f g = rw d f
+    go (Prim.no d) f g = g (omega arith) (omega arith)
 
 -- ---- the keys of a `match`, and a range but for its keys, computed
 
@@ -113,6 +113,7 @@ elem [] x = false
 elem (k ∷ ks) x = eqb x k || elem ks x
 
 pub key_passes : (p : ℕ → Bool) (ks : List ℕ) → all_of p ks ≡ true → (x : ℕ) → OneOf ks x → p x ≡ true
+key_passes p [] e x h = elim h [ ]
 key_passes p (k ∷ []) e x h = rw h (and_is (p k) true e).0
 key_passes p (k ∷ j ∷ ks) e x (inl h) = rw h (and_is (p k) (all_of p (j ∷ ks)) e).0
 key_passes p (k ∷ j ∷ ks) e x (inr h) = key_passes p (j ∷ ks) (and_is (p k) (all_of p (j ∷ ks)) e).1 x h

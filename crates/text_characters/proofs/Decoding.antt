@@ -23,15 +23,15 @@ pub tail : Named is_tail (from 128 191)
 unfolding is_tail
 tail = record { is = λ x. refl }
 
-pub scalar : Named is_scalar (from 0 0x_d7_fF or from 0x_e000 0x10_fFFF)
+pub scalar : Named is_scalar (from 0 0xD7FF or from 0xE000 0x10FFFF)
 unfolding is_scalar
 scalar = record { is = λ x. refl }
 
 -- a scalar value lies below the surrogates or above them
-pub sides : (c : ℕ) → Scalar c → (c < 0x_d800) ⊎ (0x_e000 ≤ c)
-sides c sc = go (dec_lt c 0x_d800) (dec_lt 0x_dFFF c)
+pub sides : (c : ℕ) → Scalar c → (c < 0xD800) ⊎ (0xE000 ≤ c)
+sides c sc = go (dec_lt c 0xD800) (dec_lt 0xDFFF c)
   where
-    go : Dec (c < 0x_d800) → Dec (0x_dFFF < c) → (c < 0x_d800) ⊎ (0x_e000 ≤ c)
+    go : Dec (c < 0xD800) → Dec (0xDFFF < c) → (c < 0xD800) ⊎ (0xE000 ≤ c)
     go (yes a) d = inl a
     go (no a) (yes b) = inr b
     go (no a) (no b) = absurd (sc.outside (omega arith) (omega arith))
@@ -39,7 +39,7 @@ sides c sc = go (dec_lt c 0x_d800) (dec_lt 0x_dFFF c)
 pub scalar_yes : (c : ℕ) → Scalar c → is_scalar c ≡ true
 scalar_yes c sc =
     scalar.is c
-    ∙ within (from 0 0x_d7_fF or from 0x_e000 0x10_fFFF) c
+    ∙ within (from 0 0xD7FF or from 0xE000 0x10FFFF) c
     (⊎_elim (λ h. inl (zero-le, omega arith)) (λ h. inr (h, omega (arith, sc.below))) (sides c sc))
 
 pub scalar_is : (c : ℕ) → is_scalar c ≡ true → Scalar c
@@ -56,24 +56,24 @@ pub encode1 : (c : ℕ) → c < 0x80 → encode c ≡ c ∷ []
 unfolding encode
 encode1 c h = rw (lt-ltb c 0x80 h)
 
-pub encode2 : (c : ℕ) → 0x80 ≤ c → c < 0x800 → encode c ≡ (0x_c0 + c / 64) ∷ (0x80 + c % 64) ∷ []
+pub encode2 : (c : ℕ) → 0x80 ≤ c → c < 0x800 → encode c ≡ (0xC0 + c / 64) ∷ (0x80 + c % 64) ∷ []
 unfolding encode
 encode2 c h k = rw (le-ltb c 0x80 h, lt-ltb c 0x800 k)
 
-pub encode3 : (c : ℕ) → 0x800 ≤ c → c < 0x10000 → encode c ≡ (0x_e0 + c / 4096) ∷ (0x80 + c / 64 % 64) ∷ (0x80 + c % 64) ∷ []
+pub encode3 : (c : ℕ) → 0x800 ≤ c → c < 0x10000 → encode c ≡ (0xE0 + c / 4096) ∷ (0x80 + c / 64 % 64) ∷ (0x80 + c % 64) ∷ []
 unfolding encode
 encode3 c h k = rw (le-ltb c 0x80 (omega arith), le-ltb c 0x800 h, lt-ltb c 0x10000 k)
 
-pub encode4 : (c : ℕ) → 0x10000 ≤ c → encode c ≡ (0x_f0 + c / 262144) ∷ (0x80 + c / 4096 % 64) ∷ (0x80 + c / 64 % 64) ∷ (0x80 + c % 64) ∷ []
+pub encode4 : (c : ℕ) → 0x10000 ≤ c → encode c ≡ (0xF0 + c / 262144) ∷ (0x80 + c / 4096 % 64) ∷ (0x80 + c / 64 % 64) ∷ (0x80 + c % 64) ∷ []
 unfolding encode
 encode4 c h = rw (le-ltb c 0x80 (omega arith), le-ltb c 0x800 (omega arith), le-ltb c 0x10000 h)
 
 -- by its length, what holds of every encoding
 pub by_length : (P : List ℕ → Type 0) (c : ℕ)
     → (c < 0x80 → P (c ∷ []))
-    → (0x80 ≤ c → c < 0x800 → P ((0x_c0 + c / 64) ∷ (0x80 + c % 64) ∷ []))
-    → (0x800 ≤ c → c < 0x10000 → P ((0x_e0 + c / 4096) ∷ (0x80 + c / 64 % 64) ∷ (0x80 + c % 64) ∷ []))
-    → (0x10000 ≤ c → P ((0x_f0 + c / 262144) ∷ (0x80 + c / 4096 % 64) ∷ (0x80 + c / 64 % 64) ∷ (0x80 + c % 64) ∷ []))
+    → (0x80 ≤ c → c < 0x800 → P ((0xC0 + c / 64) ∷ (0x80 + c % 64) ∷ []))
+    → (0x800 ≤ c → c < 0x10000 → P ((0xE0 + c / 4096) ∷ (0x80 + c / 64 % 64) ∷ (0x80 + c % 64) ∷ []))
+    → (0x10000 ≤ c → P ((0xF0 + c / 262144) ∷ (0x80 + c / 4096 % 64) ∷ (0x80 + c / 64 % 64) ∷ (0x80 + c % 64) ∷ []))
     → P (encode c)
 by_length P c f g h k = go (dec_lt c 0x80) (dec_lt c 0x800) (dec_lt c 0x10000)
   where
@@ -95,24 +95,24 @@ unfolding kept
 kept_yes n low c h sc = rw (le-leb low c h, scalar_yes c sc)
 
 -- two bytes that are no longer form than they need be
-pub pair_two : (x y : ℕ) → 0x_c2 ≤ x → x ≤ 0x_dF → is_tail y ≡ true → char_of 2 (x % 32 * 64 + y % 64) ≡ two x y
+pub pair_two : (x y : ℕ) → 0xC2 ≤ x → x ≤ 0xDF → is_tail y ≡ true → char_of 2 (x % 32 * 64 + y % 64) ≡ two x y
 unfolding two
 pair_two x y h k t = sym (rw t (kept_yes 2 0x80 (x % 32 * 64 + y % 64) (omega arith) (record { below = omega arith; outside = λ a b. omega arith })))
 
 -- the bytes of a code point give it back
-back2 : (c : ℕ) → c < 0x800 → (0x_c0 + c / 64) % 32 * 64 + (0x80 + c % 64) % 64 ≡ c
+back2 : (c : ℕ) → c < 0x800 → (0xC0 + c / 64) % 32 * 64 + (0x80 + c % 64) % 64 ≡ c
 back2 c h = omega arith
 
-back3 : (c : ℕ) → c < 0x10000 → (0x_e0 + c / 4096) % 16 * 4096 + (0x80 + c / 64 % 64) % 64 * 64 + (0x80 + c % 64) % 64 ≡ c
+back3 : (c : ℕ) → c < 0x10000 → (0xE0 + c / 4096) % 16 * 4096 + (0x80 + c / 64 % 64) % 64 * 64 + (0x80 + c % 64) % 64 ≡ c
 back3 c h = omega arith
 
 digit64 : (a : ℕ) → (0x80 + a % 64) % 64 ≡ a % 64
 digit64 a = omega arith
 
 back4 : (c : ℕ) → c < 0x110000
-    → (0x_f0 + c / 262144) % 8 * 262144 + (0x80 + c / 4096 % 64) % 64 * 4096 + (0x80 + c / 64 % 64) % 64 * 64 + (0x80 + c % 64) % 64 ≡ c
+    → (0xF0 + c / 262144) % 8 * 262144 + (0x80 + c / 4096 % 64) % 64 * 4096 + (0x80 + c / 64 % 64) % 64 * 64 + (0x80 + c % 64) % 64 ≡ c
 back4 c h =
-    let t : (0x_f0 + c / 262144) % 8 ≡ c / 262144 = omega arith in
+    let t : (0xF0 + c / 262144) % 8 ≡ c / 262144 = omega arith in
     rw (t, digit64 (c / 4096), digit64 (c / 64), digit64 c)
     (sums (c / 262144) (c / 4096 % 64) (c / 64 % 64) (c % 64) (c / 4096) (c % 4096) c (omega arith) (omega arith) (omega arith))
   where
@@ -123,23 +123,23 @@ module _ (x y z w : ℕ) where
   first1 : x < 0x80 → by_first x y z w ≡ char_of 1 x
   first1 h = rw (lt-ltb x 0x80 h)
 
-  first2 : 0x_c0 ≤ x → x < 0x_e0 → by_first x y z w ≡ two x y
-  first2 h k = rw (le-ltb x 0x80 (omega arith), le-ltb x 0x_c0 h, lt-ltb x 0x_e0 k)
+  first2 : 0xC0 ≤ x → x < 0xE0 → by_first x y z w ≡ two x y
+  first2 h k = rw (le-ltb x 0x80 (omega arith), le-ltb x 0xC0 h, lt-ltb x 0xE0 k)
 
-  first3 : 0x_e0 ≤ x → x < 0x_f0 → by_first x y z w ≡ three x y z
-  first3 h k = rw (le-ltb x 0x80 (omega arith), le-ltb x 0x_c0 (omega arith), le-ltb x 0x_e0 h, lt-ltb x 0x_f0 k)
+  first3 : 0xE0 ≤ x → x < 0xF0 → by_first x y z w ≡ three x y z
+  first3 h k = rw (le-ltb x 0x80 (omega arith), le-ltb x 0xC0 (omega arith), le-ltb x 0xE0 h, lt-ltb x 0xF0 k)
 
-  first4 : 0x_f0 ≤ x → x < 0x_f8 → by_first x y z w ≡ four x y z w
-  first4 h k = rw (le-ltb x 0x80 (omega arith), le-ltb x 0x_c0 (omega arith), le-ltb x 0x_e0 (omega arith), le-ltb x 0x_f0 h, lt-ltb x 0x_f8 k)
+  first4 : 0xF0 ≤ x → x < 0xF8 → by_first x y z w ≡ four x y z w
+  first4 h k = rw (le-ltb x 0x80 (omega arith), le-ltb x 0xC0 (omega arith), le-ltb x 0xE0 (omega arith), le-ltb x 0xF0 h, lt-ltb x 0xF8 k)
 
 pub complete : (c : ℕ) (t : List ℕ) → Scalar c → decoded (encode c ++ t) ≡ char_of (length (encode c)) c
 unfolding decoded two three four
 complete c t sc =
     by_length (λ (l : List ℕ). decoded (l ++ t) ≡ char_of (length l) c) c
     (λ h. first1 c (get_or t 0 0) (get_or t 1 0) (get_or t 2 0) h)
-    (λ h k. first2 (0x_c0 + c / 64) _ _ _ (omega arith) (omega arith) ∙ rw (tail_yes c, back2 c k) (kept_yes 2 0x80 c h sc))
-    (λ h k. first3 (0x_e0 + c / 4096) _ _ _ (omega arith) (omega arith) ∙ rw (tail_yes (c / 64), tail_yes c, back3 c k) (kept_yes 3 0x800 c h sc))
-    (λ h. let b = sc.below in first4 (0x_f0 + c / 262144) _ _ _ (omega arith) (omega arith) ∙ rw (tail_yes (c / 4096), tail_yes (c / 64), tail_yes c, back4 c b) (kept_yes 4 0x10000 c h sc))
+    (λ h k. first2 (0xC0 + c / 64) _ _ _ (omega arith) (omega arith) ∙ rw (tail_yes c, back2 c k) (kept_yes 2 0x80 c h sc))
+    (λ h k. first3 (0xE0 + c / 4096) _ _ _ (omega arith) (omega arith) ∙ rw (tail_yes (c / 64), tail_yes c, back3 c k) (kept_yes 3 0x800 c h sc))
+    (λ h. let b = sc.below in first4 (0xF0 + c / 262144) _ _ _ (omega arith) (omega arith) ∙ rw (tail_yes (c / 4096), tail_yes (c / 64), tail_yes c, back4 c b) (kept_yes 4 0x10000 c h sc))
 
 -- ---- and what is found is one
 
@@ -157,30 +157,30 @@ made c bs t sc e =
     record { sign = c; good = sc; rest = t; is = ap (λ (l : List ℕ). l ++ t) (sym e); found = ap (λ (l : List ℕ). char_of (length l) c) (sym e) }
 
 module _ (x y : ℕ) (hy : is_tail y ≡ true) where
-  made2 : (t : List ℕ) → 0x_c0 ≤ x → x < 0x_e0 → (c : ℕ) → c ≡ x % 32 * 64 + y % 64 → 0x80 ≤ c → Scalar c → Begins (x ∷ y ∷ t) (char_of 2 c)
+  made2 : (t : List ℕ) → 0xC0 ≤ x → x < 0xE0 → (c : ℕ) → c ≡ x % 32 * 64 + y % 64 → 0x80 ≤ c → Scalar c → Begins (x ∷ y ∷ t) (char_of 2 c)
   made2 t a b c e h sc =
       let v = is_in tail y hy in
-      let p : 0x_c0 + c / 64 ≡ x = omega arith in
+      let p : 0xC0 + c / 64 ≡ x = omega arith in
       let q : 0x80 + c % 64 ≡ y = omega arith in
       made c (x ∷ y ∷ []) t sc (encode2 c h (omega arith) ∙ rw (p, q))
 
-  made3 : (z : ℕ) → is_tail z ≡ true → (t : List ℕ) → 0x_e0 ≤ x → x < 0x_f0 → (c : ℕ) → c ≡ x % 16 * 4096 + y % 64 * 64 + z % 64
+  made3 : (z : ℕ) → is_tail z ≡ true → (t : List ℕ) → 0xE0 ≤ x → x < 0xF0 → (c : ℕ) → c ≡ x % 16 * 4096 + y % 64 * 64 + z % 64
       → 0x800 ≤ c → Scalar c → Begins (x ∷ y ∷ z ∷ t) (char_of 3 c)
   made3 z hz t a b c e h sc =
       let v = is_in tail y hy in
       let u = is_in tail z hz in
-      let p : 0x_e0 + c / 4096 ≡ x = omega arith in
+      let p : 0xE0 + c / 4096 ≡ x = omega arith in
       let q : 0x80 + c / 64 % 64 ≡ y = omega arith in
       let r : 0x80 + c % 64 ≡ z = omega arith in
       made c (x ∷ y ∷ z ∷ []) t sc (encode3 c h (omega arith) ∙ rw (p, q, r))
 
-  made4 : (z w : ℕ) → is_tail z ≡ true → is_tail w ≡ true → (t : List ℕ) → 0x_f0 ≤ x → x < 0x_f8 → (c : ℕ)
+  made4 : (z w : ℕ) → is_tail z ≡ true → is_tail w ≡ true → (t : List ℕ) → 0xF0 ≤ x → x < 0xF8 → (c : ℕ)
       → c ≡ x % 8 * 262144 + y % 64 * 4096 + z % 64 * 64 + w % 64 → 0x10000 ≤ c → Scalar c → Begins (x ∷ y ∷ z ∷ w ∷ t) (char_of 4 c)
   made4 z w hz hw t a b c e h sc =
       let v = is_in tail y hy in
       let u = is_in tail z hz in
       let o = is_in tail w hw in
-      let p : 0x_f0 + c / 262144 ≡ x = omega arith in
+      let p : 0xF0 + c / 262144 ≡ x = omega arith in
       let q : 0x80 + c / 4096 % 64 ≡ y = omega arith in
       let r : 0x80 + c / 64 % 64 ≡ z = omega arith in
       let m : 0x80 + c % 64 ≡ w = omega arith in
@@ -193,7 +193,7 @@ tail_zero : is_tail 0 ≡ false
 unfolding is_tail
 tail_zero = refl
 
-two_sound : (x : ℕ) (t : List ℕ) → 0x_c0 ≤ x → x < 0x_e0 → Found (x ∷ t) (two x (get_or t 0 0))
+two_sound : (x : ℕ) (t : List ℕ) → 0xC0 ≤ x → x < 0xE0 → Found (x ∷ t) (two x (get_or t 0 0))
 unfolding two
 two_sound x [] a b = inl (simp tail_zero)
 two_sound x (y ∷ t) a b =
@@ -202,7 +202,7 @@ two_sound x (y ∷ t) a b =
     (λ e. kept_by P 2 0x80 (x % 32 * 64 + y % 64) (λ h sc. inr (made2 x y e t a b _ refl h sc)) (inl refl))
     (λ e. inl refl)
 
-three_sound : (x : ℕ) (t : List ℕ) → 0x_e0 ≤ x → x < 0x_f0 → Found (x ∷ t) (three x (get_or t 0 0) (get_or t 1 0))
+three_sound : (x : ℕ) (t : List ℕ) → 0xE0 ≤ x → x < 0xF0 → Found (x ∷ t) (three x (get_or t 0 0) (get_or t 1 0))
 unfolding three
 three_sound x [] a b = inl (simp tail_zero)
 three_sound x (y ∷ []) a b = inl (simp (tail_zero, and-false))
@@ -214,7 +214,7 @@ three_sound x (y ∷ z ∷ t) a b =
     kept_by P 3 0x800 (x % 16 * 4096 + y % 64 * 64 + z % 64) (λ h sc. inr (made3 x y w.0 z w.1 t a b _ refl h sc)) (inl refl))
     (λ e. inl refl)
 
-four_sound : (x : ℕ) (t : List ℕ) → 0x_f0 ≤ x → x < 0x_f8 → Found (x ∷ t) (four x (get_or t 0 0) (get_or t 1 0) (get_or t 2 0))
+four_sound : (x : ℕ) (t : List ℕ) → 0xF0 ≤ x → x < 0xF8 → Found (x ∷ t) (four x (get_or t 0 0) (get_or t 1 0) (get_or t 2 0))
 unfolding four
 four_sound x [] a b = inl (simp tail_zero)
 four_sound x (y ∷ []) a b = inl (simp (tail_zero, and-false))
@@ -238,10 +238,10 @@ sound [] = inl refl
 sound (x ∷ t) =
     let P = Found (x ∷ t) in
     chars.choose P (ltb x 0x80) _ _ (λ e. one_sound x t (ltb-true x 0x80 e))
-    (λ e. chars.choose P (ltb x 0x_c0) _ _ (λ f. inl refl)
-    (λ f. chars.choose P (ltb x 0x_e0) _ _ (λ g. two_sound x t (ltb-false x 0x_c0 f) (ltb-true x 0x_e0 g))
-    (λ g. chars.choose P (ltb x 0x_f0) _ _ (λ h. three_sound x t (ltb-false x 0x_e0 g) (ltb-true x 0x_f0 h))
-    (λ h. chars.choose P (ltb x 0x_f8) _ _ (λ k. four_sound x t (ltb-false x 0x_f0 h) (ltb-true x 0x_f8 k)) (λ k. inl refl)))))
+    (λ e. chars.choose P (ltb x 0xC0) _ _ (λ f. inl refl)
+    (λ f. chars.choose P (ltb x 0xE0) _ _ (λ g. two_sound x t (ltb-false x 0xC0 f) (ltb-true x 0xE0 g))
+    (λ g. chars.choose P (ltb x 0xF0) _ _ (λ h. three_sound x t (ltb-false x 0xE0 g) (ltb-true x 0xF0 h))
+    (λ h. chars.choose P (ltb x 0xF8) _ _ (λ k. four_sound x t (ltb-false x 0xF0 h) (ltb-true x 0xF8 k)) (λ k. inl refl)))))
 
 -- ---- the promise of `decode`
 
@@ -288,37 +288,37 @@ module _ (s : List ℕ) (i : ℕ) (h : i < length s) (r : Char) where
   pub decoded_one_byte : (c : ℕ) → get_or s i 0 < 0x80 → c ≡ get_or s i 0 → r ≡ char_of 1 c → Decoded (drop i s) r
   decoded_one_byte c a e f = at_first (f ∙ ap (char_of 1) e ∙ sym (first1 (get_or s i 0) _ _ _ a))
 
-  pub decoded_stray : 0x80 ≤ get_or s i 0 → get_or s i 0 < 0x_c0 → r ≡ char_of 0 0 → Decoded (drop i s) r
-  decoded_stray a b f = at_first (f ∙ sym (rw (le-ltb (get_or s i 0) 0x80 a, lt-ltb (get_or s i 0) 0x_c0 b)))
+  pub decoded_stray : 0x80 ≤ get_or s i 0 → get_or s i 0 < 0xC0 → r ≡ char_of 0 0 → Decoded (drop i s) r
+  decoded_stray a b f = at_first (f ∙ sym (rw (le-ltb (get_or s i 0) 0x80 a, lt-ltb (get_or s i 0) 0xC0 b)))
 
-  pub decoded_over : 0x_f8 ≤ get_or s i 0 → r ≡ char_of 0 0 → Decoded (drop i s) r
+  pub decoded_over : 0xF8 ≤ get_or s i 0 → r ≡ char_of 0 0 → Decoded (drop i s) r
   decoded_over a f =
-      at_first (f ∙ sym (rw (le-ltb (get_or s i 0) 0x80 (omega arith), le-ltb (get_or s i 0) 0x_c0 (omega arith), le-ltb (get_or s i 0) 0x_e0 (omega arith), le-ltb (get_or s i 0) 0x_f0 (omega arith), le-ltb (get_or s i 0) 0x_f8 a)))
+      at_first (f ∙ sym (rw (le-ltb (get_or s i 0) 0x80 (omega arith), le-ltb (get_or s i 0) 0xC0 (omega arith), le-ltb (get_or s i 0) 0xE0 (omega arith), le-ltb (get_or s i 0) 0xF0 (omega arith), le-ltb (get_or s i 0) 0xF8 a)))
 
   module _ (y : ℕ) (ey : y ≡ get_or (drop i s) 1 0) where
-    pub decoded_two : 0x_c0 ≤ get_or s i 0 → get_or s i 0 < 0x_e0 → r ≡ two (get_or s i 0) y → Decoded (drop i s) r
+    pub decoded_two : 0xC0 ≤ get_or s i 0 → get_or s i 0 < 0xE0 → r ≡ two (get_or s i 0) y → Decoded (drop i s) r
     decoded_two a b f = at_first (f ∙ rw ey (sym (first2 (get_or s i 0) (get_or (drop i s) 1 0) _ _ a b)))
 
     module _ (z : ℕ) (ez : z ≡ get_or (drop i s) 2 0) where
-      pub decoded_three : 0x_e0 ≤ get_or s i 0 → get_or s i 0 < 0x_f0 → r ≡ three (get_or s i 0) y z → Decoded (drop i s) r
+      pub decoded_three : 0xE0 ≤ get_or s i 0 → get_or s i 0 < 0xF0 → r ≡ three (get_or s i 0) y z → Decoded (drop i s) r
       decoded_three a b f =
           at_first (f ∙ rw (ey, ez) (sym (first3 (get_or s i 0) (get_or (drop i s) 1 0) (get_or (drop i s) 2 0) _ a b)))
 
-      pub decoded_four : (w : ℕ) → w ≡ get_or (drop i s) 3 0 → 0x_f0 ≤ get_or s i 0 → get_or s i 0 < 0x_f8 → r ≡ four (get_or s i 0) y z w
+      pub decoded_four : (w : ℕ) → w ≡ get_or (drop i s) 3 0 → 0xF0 ≤ get_or s i 0 → get_or s i 0 < 0xF8 → r ≡ four (get_or s i 0) y z w
           → Decoded (drop i s) r
       decoded_four w ew a b f =
           at_first (f ∙ rw (ey, ez, ew) (sym (first4 (get_or s i 0) (get_or (drop i s) 1 0) (get_or (drop i s) 2 0) (get_or (drop i s) 3 0) a b)))
 
 -- ---- a character of two bytes, by itself
 
-pair_sum : (x y a b : ℕ) → 0x_c2 ≤ x → x ≤ 0x_dF → a ≡ x % 32 → b ≡ y % 64 → (x % 32 * 64 + y % 64 ≡ a * 64 + b) × ((0x80 ≤ a * 64 + b) × (a * 64 + b ≤ 0x7_fF))
+pair_sum : (x y a b : ℕ) → 0xC2 ≤ x → x ≤ 0xDF → a ≡ x % 32 → b ≡ y % 64 → (x % 32 * 64 + y % 64 ≡ a * 64 + b) × ((0x80 ≤ a * 64 + b) × (a * 64 + b ≤ 0x7FF))
 pair_sum x y a b low most ea eb =
     let l : 2 ≤ a = omega arith in
     let h : a ≤ 31 = omega arith in
     let k : b ≤ 63 = omega arith in
     (rw (ea, eb), (omega arith, omega arith))
 
-pub pair_there : (s : List ℕ) (i : ℕ) → i < length s → (y : ℕ) → y ≡ get_or (drop i s) 1 0 → 0x_c2 ≤ get_or s i 0 → get_or s i 0 ≤ 0x_dF → is_tail y ≡ true
+pub pair_there : (s : List ℕ) (i : ℕ) → i < length s → (y : ℕ) → y ≡ get_or (drop i s) 1 0 → 0xC2 ≤ get_or s i 0 → get_or s i 0 ≤ 0xDF → is_tail y ≡ true
     → (a b : ℕ) → a ≡ get_or s i 0 % 32 → b ≡ y % 64 → Paired (drop i s) (a * 64 + b)
 pair_there s i h y ey low most t a b ea eb n =
     let w = pair_sum (get_or s i 0) y a b low most ea eb in

@@ -28,13 +28,13 @@ use Rattle.text_characters.proofs.Decoding as decoding
 -- `is_xml_char` case by case
 pub data XmlChar (c : ℕ) : Type 0 where
   tab : c ≡ 0x9 → XmlChar c
-  line : c ≡ 0x_a → XmlChar c
-  return : c ≡ 0x_d → XmlChar c
-  low : 0x20 ≤ c → c ≤ 0x_d7_fF → XmlChar c
-  middle : 0x_e000 ≤ c → c ≤ 0x_fFFD → XmlChar c
-  high : 0x10000 ≤ c → c ≤ 0x10_fFFF → XmlChar c
+  line : c ≡ 0xA → XmlChar c
+  return : c ≡ 0xD → XmlChar c
+  low : 0x20 ≤ c → c ≤ 0xD7FF → XmlChar c
+  middle : 0xE000 ≤ c → c ≤ 0xFFFD → XmlChar c
+  high : 0x10000 ≤ c → c ≤ 0x10FFFF → XmlChar c
 
-pub xml_char : Named is_xml_char (only 0x9 or only 0x_a or only 0x_d or from 0x20 0x_d7_fF or from 0x_e000 0x_fFFD or from 0x10000 0x10_fFFF)
+pub xml_char : Named is_xml_char (only 0x9 or only 0xA or only 0xD or from 0x20 0xD7FF or from 0xE000 0xFFFD or from 0x10000 0x10FFFF)
 unfolding is_xml_char
 xml_char = record { is = λ x. refl }
 
@@ -72,9 +72,9 @@ pub head_of_lem : (c : ℕ) → Head c (encode c)
 head_of_lem c =
     decoding.by_length (Head c) c
     (λ h. record { first = c; more = []; is = refl; ascii = λ k. refl; beyond = λ k. k })
-    (λ h k. record { first = 0x_c0 + c / 64; more = (0x80 + c % 64) ∷ []; is = refl; ascii = omega arith; beyond = omega arith })
-    (λ h k. record { first = 0x_e0 + c / 4096; more = (0x80 + c / 64 % 64) ∷ (0x80 + c % 64) ∷ []; is = refl; ascii = omega arith; beyond = omega arith })
-    (λ h. record { first = 0x_f0 + c / 262144; more = (0x80 + c / 4096 % 64) ∷ (0x80 + c / 64 % 64) ∷ (0x80 + c % 64) ∷ []; is = refl; ascii = omega arith; beyond = omega arith })
+    (λ h k. record { first = 0xC0 + c / 64; more = (0x80 + c % 64) ∷ []; is = refl; ascii = omega arith; beyond = omega arith })
+    (λ h k. record { first = 0xE0 + c / 4096; more = (0x80 + c / 64 % 64) ∷ (0x80 + c % 64) ∷ []; is = refl; ascii = omega arith; beyond = omega arith })
+    (λ h. record { first = 0xF0 + c / 262144; more = (0x80 + c / 4096 % 64) ∷ (0x80 + c / 64 % 64) ∷ (0x80 + c % 64) ∷ []; is = refl; ascii = omega arith; beyond = omega arith })
 
 head_is_lem : (c x : ℕ) (t u : List ℕ) → x ∷ t ≡ encode c ++ u → x ≡ (head_of_lem c).first
 head_is_lem c x t u e =
@@ -287,7 +287,7 @@ number_char s n f = entity_one s (char_of (n / 256) (n % 256)) (entity_at s) f (
 -- ---- what the code reads at a place
 
 -- every character of two bytes is one of XML
-pub two_xml : (c : ℕ) {A : Type 0} → A × ((0x80 ≤ c) × (c ≤ 0x7_fF)) → is_xml_char c ≡ true
+pub two_xml : (c : ℕ) {A : Type 0} → A × ((0x80 ≤ c) × (c ≤ 0x7FF)) → is_xml_char c ≡ true
 two_xml c w = let h = w.1.0 in let k = w.1.1 in xml_char_yes c (low (omega arith) (omega arith))
 
 pub next_end : (s : List ℕ) (i : ℕ) (r : Char) → length s ≤ i → r ≡ char_of 0 0 → NextChar (drop i s) r

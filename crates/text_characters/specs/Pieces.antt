@@ -8,7 +8,7 @@ use Rattle.text_characters.specs.Utf8.{encode}
 -- XML 1.0, production [2] Char
 unfoldable pub is_xml_char : ℕ → Bool
 is_xml_char c =
-    eqb c 0x9 || eqb c 0x_a || eqb c 0x_d || in_range 0x20 0x_d7_fF c || in_range 0x_e000 0x_fFFD c || in_range 0x10000 0x10_fFFF c
+    eqb c 0x9 || eqb c 0xA || eqb c 0xD || in_range 0x20 0xD7FF c || in_range 0xE000 0xFFFD c || in_range 0x10000 0x10FFFF c
 
 -- "`&` only as `&amp; &lt; &gt; &quot; &apos;`"
 pub data Entity : Type 0 where

@@ -46,11 +46,11 @@ fn is_xml_char(c: u32) -> bool
     ensures { result ≡ is_xml_char c }
 {
     match c {
-        0x9..=0x_a => true,
-        0x_d => true,
-        0x20..=0x_d7_fF => true,
-        0x_e000..=0x_fFFD => true,
-        0x10000..=0x10_fFFF => true,
+        0x9..=0xA => true,
+        0xD => true,
+        0x20..=0xD7FF => true,
+        0xE000..=0xFFFD => true,
+        0x10000..=0x10FFFF => true,
         _ => false,
     }
 }

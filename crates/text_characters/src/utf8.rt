@@ -55,7 +55,7 @@ fn is_tail(b: u8) -> bool
     ensures { result ≡ is_tail b }
 {
     match b {
-        0x80..=0x_bF => true,
+        0x80..=0xBF => true,
         _ => false,
     }
 }
@@ -64,8 +64,8 @@ fn is_scalar(c: u32) -> bool
     ensures { result ≡ is_scalar c }
 {
     match c {
-        0..=0x_d7_fF => true,
-        0x_e000..=0x10_fFFF => true,
+        0..=0xD7FF => true,
+        0xE000..=0x10FFFF => true,
         _ => false,
     }
 }
@@ -154,16 +154,16 @@ pub fn decode(s: &[u8], at: usize) -> Char
     if x < BEYOND {
         return char_of(1, wide(x));
     }
-    if x < 0x_c0 {
+    if x < 0xC0 {
         return char_of(0, 0);
     }
-    if x < 0x_e0 {
+    if x < 0xE0 {
         return decode_two(x, byte(s, at, 1));
     }
-    if x < 0x_f0 {
+    if x < 0xF0 {
         return decode_three(x, byte(s, at, 1), byte(s, at, 2));
     }
-    if x < 0x_f8 {
+    if x < 0xF8 {
         return decode_four(x, byte(s, at, 1), byte(s, at, 2), byte(s, at, FOURTH));
     }
     char_of(0, 0)
@@ -176,10 +176,10 @@ pub(crate) fn pair(s: &[u8], at: usize) -> u32
     ensures { Paired (drop at s.now) result }
 {
     let x = s[at];
-    if x < 0x_c2 {
+    if x < 0xC2 {
         return 0;
     }
-    if 0x_dF < x {
+    if 0xDF < x {
         return 0;
     }
     let y = byte(s, at, 1);

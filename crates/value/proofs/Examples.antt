@@ -52,7 +52,7 @@ late cs ds y m d z = record { type = dtm; chars = cs ++ (ascii "T24:00:00" ++ ds
 -- n times `€`
 abbrev euros : ℕ → List ℕ
 euros zero = []
-euros (suc n) = 0x20_aC ∷ euros n
+euros (suc n) = 0x20AC ∷ euros n
 
 abbrev pub examples : List Example
 examples =

@@ -146,9 +146,9 @@ char_calm : (c x : ℕ) (u v : List ℕ) → encode c ++ u ≡ x ∷ v → Calm 
 char_calm c x u v =
     by_length (λ (l : List ℕ). l ++ u ≡ x ∷ v → Calm x → Each Calm l) c
     (λ h e k. (subst Calm (sym (head-eq_of_cons-eq e)) k, tt))
-    (λ h k e y. (high_calm (0x_c0 + c / 64) (omega arith), (high_calm (0x80 + c % 64) (omega arith), tt)))
-    (λ h k e y. (high_calm (0x_e0 + c / 4096) (omega arith), (high_calm (0x80 + c / 64 % 64) (omega arith), (high_calm (0x80 + c % 64) (omega arith), tt))))
-    (λ h e y. (high_calm (0x_f0 + c / 262144) (omega arith), (high_calm (0x80 + c / 4096 % 64) (omega arith), (high_calm (0x80 + c / 64 % 64) (omega arith), (high_calm (0x80 + c % 64) (omega arith), tt)))))
+    (λ h k e y. (high_calm (0xC0 + c / 64) (omega arith), (high_calm (0x80 + c % 64) (omega arith), tt)))
+    (λ h k e y. (high_calm (0xE0 + c / 4096) (omega arith), (high_calm (0x80 + c / 64 % 64) (omega arith), (high_calm (0x80 + c % 64) (omega arith), tt))))
+    (λ h e y. (high_calm (0xF0 + c / 262144) (omega arith), (high_calm (0x80 + c / 4096 % 64) (omega arith), (high_calm (0x80 + c / 64 % 64) (omega arith), (high_calm (0x80 + c % 64) (omega arith), tt)))))
 
 piece_calm : (p : Piece) (x : ℕ) (u v : List ℕ) → spell p ++ u ≡ x ∷ v → Calm x → Each Calm (spell p)
 piece_calm (char c) x u v e k = char_calm c x u v e k
@@ -310,25 +310,25 @@ at_entity table s at i g t n most going within first l z =
     }
 
 -- 0xC3 and a second byte
-second_is : (y : ℕ) → is_second y ≡ true → (is_txt (y + 64) ≡ true) × (0x80 ≤ y) × (y ≤ 0x_bF)
+second_is : (y : ℕ) → is_second y ≡ true → (is_txt (y + 64) ≡ true) × (0x80 ≤ y) × (y ≤ 0xBF)
 unfolding is_second
 second_is y e =
-    let w = and_is (is_txt (y + 64)) (in_range 0x80 0x_bF y) e in
-    let r = in_range_is 0x80 0x_bF y w.1 in
+    let w = and_is (is_txt (y + 64)) (in_range 0x80 0xBF y) e in
+    let r = in_range_is 0x80 0xBF y w.1 in
     (w.0, r.0, r.1)
 
-second_encoded : (y : ℕ) → 0x80 ≤ y → y ≤ 0x_bF → encode (y + 64) ≡ 0x_c3 ∷ y ∷ []
+second_encoded : (y : ℕ) → 0x80 ≤ y → y ≤ 0xBF → encode (y + 64) ≡ 0xC3 ∷ y ∷ []
 second_encoded y a b =
-    let p : 0x_c0 + (y + 64) / 64 ≡ 0x_c3 = omega arith in
+    let p : 0xC0 + (y + 64) / 64 ≡ 0xC3 = omega arith in
     let q : 0x80 + (y + 64) % 64 ≡ y = omega arith in
     encode2 (y + 64) (omega arith) (omega arith) ∙ ap₂ (λ (u v : ℕ). u ∷ v ∷ []) p q
 
-sofar_second : (y : ℕ) → is_second y ≡ true → Sofar (0x_c3 ∷ y ∷ []) 0 1
+sofar_second : (y : ℕ) → is_second y ≡ true → Sofar (0xC3 ∷ y ∷ []) 0 1
 sofar_second y e =
     let w = second_is y e in
     let c = second_encoded y w.1 w.2 in
     let n : length (encode (y + 64)) ≡ 2 = ap length c in
-    let k : Each Calm (encode (y + 64)) = subst (Each Calm) (sym c) (high_calm 0x_c3 (omega arith), (high_calm y (omega (arith, w.1)), tt)) in
+    let k : Each Calm (encode (y + 64)) = subst (Each Calm) (sym c) (high_calm 0xC3 (omega arith), (high_calm y (omega (arith, w.1)), tt)) in
     subst (λ (l : List ℕ). Sofar l 0 1) c
     (sofar_sign (char (y + 64)) 0 1 (xml_char_yes (y + 64) (XmlChar.low (omega (arith, w.1)) (omega (arith, w.2))), (λ z. omega (arith, w.1, z)), (λ z. omega (arith, w.1, z))) w.0 (omega arith) (omega (arith, n)) k)
 
@@ -339,8 +339,8 @@ going_umlaut s at i g t w u =
     let p : suc i ≡ i + 1 = omega arith in
     let q : suc (i + 1) ≡ i + 2 = omega arith in
     let d : drop (i + 1) s ≡ y ∷ drop (i + 2) s = drop-cons s (i + 1) 0 room ∙ ap (λ (n : ℕ). y ∷ drop n s) q in
-    let e : drop i s ≡ 0x_c3 ∷ y ∷ drop (i + 2) s = drop-cons s i 0 (omega (arith, room)) ∙ ap₂ (λ (a : ℕ) (b : List ℕ). a ∷ b) u.first (ap (λ (n : ℕ). drop n s) p ∙ d) in
-    going_more s at i (i + 2) g g t (t + 1) 0 1 (0x_c3 ∷ y ∷ []) w e refl (sofar_second y u.second) (omega arith) refl
+    let e : drop i s ≡ 0xC3 ∷ y ∷ drop (i + 2) s = drop-cons s i 0 (omega (arith, room)) ∙ ap₂ (λ (a : ℕ) (b : List ℕ). a ∷ b) u.first (ap (λ (n : ℕ). drop n s) p ∙ d) in
+    going_more s at i (i + 2) g g t (t + 1) 0 1 (0xC3 ∷ y ∷ []) w e refl (sofar_second y u.second) (omega arith) refl
 
 -- what is counted is no more than was read
 pub going_most : (s : List ℕ) (at i g t : ℕ) → Going s at i g t → (at ≤ i) × (g + t ≤ i - at) × (g ≤ i - at) × (t ≤ i - at - g)

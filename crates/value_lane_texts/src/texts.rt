@@ -50,7 +50,7 @@ fn is_second(b: u8) -> bool
 {
     match b {
         0x84 | 0x96 | 0x9C => true,
-        0x9_f | 0xA4 | 0xB6 | 0xBC => true,
+        0x9F | 0xA4 | 0xB6 | 0xBC => true,
         _ => false,
     }
 }
@@ -60,7 +60,7 @@ fn is_umlaut(s: &[u8], at: usize) -> bool
     requires { at < length s.now }
     ensures { result ≡ true → Umlaut s.now at }
 {
-    if s[at] != 0x_c3 {
+    if s[at] != 0xC3 {
         return false;
     }
     if s.len() <= at + 1 {

@@ -17,13 +17,13 @@ const PAGE: u32 = 64;
 
 const LAST_PAGE: u32 = 3;
 
-const EURO_PAGE: u32 = 0x20_aC / PAGE;
+const EURO_PAGE: u32 = 0x20AC / PAGE;
 
 // The words of TXT's pages: from U+0000 on all but the control characters; from U+0040 on all but the backtick and the last, U+007F; from
 // U+0080 on `§` and `°`; from U+00C0 on `Ä`, `Ö`, `Ü`, `ß`, `ä`, `ö` and `ü`; the euro.
-const SIGNS: u64 = 0x_fFFFFFFF00000000;
+const SIGNS: u64 = 0xFFFFFFFF00000000;
 
-const LETTERS: u64 = 0x7_fFFFFFEFFFFFFFF;
+const LETTERS: u64 = 0x7FFFFFFEFFFFFFFF;
 
 const MARKS: u64 = 0x0001008000000000;
 
@@ -32,11 +32,11 @@ const UMLAUTS: u64 = 0x1040001090400010;
 const EURO: u64 = 0x0000100000000000;
 
 // The words of REF's pages without the slash, and that of TXT's first one without `&` and `<`.
-const REF_SIGNS: u64 = 0x87_fF7_b8100000000;
+const REF_SIGNS: u64 = 0x87FF7B8100000000;
 
-const REF_LETTERS: u64 = 0x07_fFFFFE07_fFFFFE;
+const REF_LETTERS: u64 = 0x07FFFFFE07FFFFFE;
 
-const QUIET_SIGNS: u64 = 0x_eFFFFFBF00000000;
+const QUIET_SIGNS: u64 = 0xEFFFFFBF00000000;
 
 const SPACE: u32 = b' ' as u32;
 

@@ -143,14 +143,14 @@ three_of a b y l h =
 enc2 : (x y c : ℕ) → 194 ≤ x → x < 224 → 128 ≤ y → y ≤ 191 → c ≡ (x - 192) * 64 + (y - 128) → encode c ≡ x ∷ y ∷ []
 unfolding encode
 enc2 x y c a b d e f =
-    let p : 0x_c0 + c / 64 ≡ x = omega arith in
+    let p : 0xC0 + c / 64 ≡ x = omega arith in
     let q : 0x80 + c % 64 ≡ y = omega arith in
     rw (le-ltb c 0x80 (omega arith), lt-ltb c 0x800 (omega arith), p, q)
 
 enc3 : (x y z c : ℕ) → 224 ≤ x → x < 240 → 128 ≤ y → y ≤ 191 → 128 ≤ z → z ≤ 191 → c ≡ (x - 224) * 4096 + (y - 128) * 64 + (z - 128) → 2048 ≤ c → encode c ≡ x ∷ y ∷ z ∷ []
 unfolding encode
 enc3 x y z c a b d e f g h k =
-    let p : 0x_e0 + c / 4096 ≡ x = omega arith in
+    let p : 0xE0 + c / 4096 ≡ x = omega arith in
     let q : 0x80 + c / 64 % 64 ≡ y = omega arith in
     let r : 0x80 + c % 64 ≡ z = omega arith in
     rw (le-ltb c 0x80 (omega arith), le-ltb c 0x800 (omega arith), lt-ltb c 0x10000 (omega arith), p, q, r)
@@ -158,7 +158,7 @@ enc3 x y z c a b d e f g h k =
 enc4 : (x y z w c : ℕ) → 240 ≤ x → x < 245 → 128 ≤ y → y ≤ 191 → 128 ≤ z → z ≤ 191 → 128 ≤ w → w ≤ 191 → c ≡ (x - 240) * 262144 + (y - 128) * 4096 + (z - 128) * 64 + (w - 128) → 65536 ≤ c → encode c ≡ x ∷ y ∷ z ∷ w ∷ []
 unfolding encode
 enc4 x y z w c a b d e f g u v h k =
-    let p : 0x_f0 + c / 262144 ≡ x = omega arith in
+    let p : 0xF0 + c / 262144 ≡ x = omega arith in
     let q : 0x80 + c / 4096 % 64 ≡ y = omega arith in
     let r : 0x80 + c / 64 % 64 ≡ z = omega arith in
     let s : 0x80 + c % 64 ≡ w = omega arith in
@@ -191,7 +191,7 @@ dec3 x y z l a b c d e f h k is = found_char x (val3 x y z) l (omega arith) k (e
 abbrev val4 : ℕ → ℕ → ℕ → ℕ → ℕ
 val4 x y z w = (x - 240) * 262144 + (y - 128) * 4096 + (z - 128) * 64 + (w - 128)
 
-dec4 : (x y z w : ℕ) (l : List ℕ) → 240 ≤ x → x < 245 → 128 ≤ y → y ≤ 191 → 128 ≤ z → z ≤ 191 → 128 ≤ w → w ≤ 191 → 65536 ≤ val4 x y z w → val4 x y z w ≤ 0x10_fFFF → l ≡ y ∷ z ∷ w ∷ [] → Found x l
+dec4 : (x y z w : ℕ) (l : List ℕ) → 240 ≤ x → x < 245 → 128 ≤ y → y ≤ 191 → 128 ≤ z → z ≤ 191 → 128 ≤ w → w ≤ 191 → 65536 ≤ val4 x y z w → val4 x y z w ≤ 0x10FFFF → l ≡ y ∷ z ∷ w ∷ [] → Found x l
 dec4 x y z w l a b c d e f g h k m is = found_char x (val4 x y z w) l (omega arith) (high k m) (enc4 x y z w (val4 x y z w) a b c d e f g h refl k ∙ ap (λ (m : List ℕ). x ∷ m) (sym is))
 
 found_two : (x a b : ℕ) (l : List ℕ) → 224 ≤ x → x < 240 → 128 ≤ a → b ≤ 191 → ((y z : ℕ) → a ≤ y → y ≤ b → 128 ≤ z → z ≤ 191 → (2048 ≤ val3 x y z) × XmlChar (val3 x y z)) → Two a b l → Found x l
@@ -201,7 +201,7 @@ found_two x a b l h k p q f o =
     let s = o.to in
     dec3 x o.y o.then.z l h k (omega arith) (omega arith) o.then.from o.then.to w.0 w.1 (o.is ∙ ap (λ (m : List ℕ). o.y ∷ m) o.then.is)
 
-found_three : (x a b : ℕ) (l : List ℕ) → 240 ≤ x → x < 245 → 128 ≤ a → b ≤ 191 → ((y z w : ℕ) → a ≤ y → y ≤ b → 128 ≤ z → z ≤ 191 → 128 ≤ w → w ≤ 191 → (65536 ≤ val4 x y z w) × (val4 x y z w ≤ 0x10_fFFF)) → Three a b l → Found x l
+found_three : (x a b : ℕ) (l : List ℕ) → 240 ≤ x → x < 245 → 128 ≤ a → b ≤ 191 → ((y z w : ℕ) → a ≤ y → y ≤ b → 128 ≤ z → z ≤ 191 → 128 ≤ w → w ≤ 191 → (65536 ≤ val4 x y z w) × (val4 x y z w ≤ 0x10FFFF)) → Three a b l → Found x l
 found_three x a b l h k p q f o =
     let t = o.then in
     let u = t.then in
@@ -365,13 +365,13 @@ ok2 y z a b p q = tested 128 191 y (z ∷ []) (more one) bad a b (ok1 z p q)
 
 -- a character's bytes
 seen2 : (c : ℕ) → 0x80 ≤ c → c < 0x800 → Seen (char c)
-seen2 c a b = s_long a (0x_c0 + c / 64) ((0x80 + c % 64) ∷ []) one (encode2 c a b) (lead_one (0x_c0 + c / 64) (omega arith) (omega arith)) (ok1 (0x80 + c % 64) (omega arith) (omega arith))
+seen2 c a b = s_long a (0xC0 + c / 64) ((0x80 + c % 64) ∷ []) one (encode2 c a b) (lead_one (0xC0 + c / 64) (omega arith) (omega arith)) (ok1 (0x80 + c % 64) (omega arith) (omega arith))
 
-seen3 : (c : ℕ) (k : Part) → 0x800 ≤ c → c < 0x10000 → lead (0x_e0 + c / 4096) ≡ more k → takes ((0x80 + c / 64 % 64) ∷ (0x80 + c % 64) ∷ []) (more k) ≡ true → Seen (char c)
-seen3 c k a b e h = s_long (omega arith) (0x_e0 + c / 4096) ((0x80 + c / 64 % 64) ∷ (0x80 + c % 64) ∷ []) k (encode3 c a b) e h
+seen3 : (c : ℕ) (k : Part) → 0x800 ≤ c → c < 0x10000 → lead (0xE0 + c / 4096) ≡ more k → takes ((0x80 + c / 64 % 64) ∷ (0x80 + c % 64) ∷ []) (more k) ≡ true → Seen (char c)
+seen3 c k a b e h = s_long (omega arith) (0xE0 + c / 4096) ((0x80 + c / 64 % 64) ∷ (0x80 + c % 64) ∷ []) k (encode3 c a b) e h
 
-seen4 : (c : ℕ) (k : Part) → 0x10000 ≤ c → lead (0x_f0 + c / 262144) ≡ more k → takes ((0x80 + c / 4096 % 64) ∷ (0x80 + c / 64 % 64) ∷ (0x80 + c % 64) ∷ []) (more k) ≡ true → Seen (char c)
-seen4 c k a e h = s_long (omega arith) (0x_f0 + c / 262144) ((0x80 + c / 4096 % 64) ∷ (0x80 + c / 64 % 64) ∷ (0x80 + c % 64) ∷ []) k (encode4 c a) e h
+seen4 : (c : ℕ) (k : Part) → 0x10000 ≤ c → lead (0xF0 + c / 262144) ≡ more k → takes ((0x80 + c / 4096 % 64) ∷ (0x80 + c / 64 % 64) ∷ (0x80 + c % 64) ∷ []) (more k) ≡ true → Seen (char c)
+seen4 c k a e h = s_long (omega arith) (0xF0 + c / 262144) ((0x80 + c / 4096 % 64) ∷ (0x80 + c / 64 % 64) ∷ (0x80 + c % 64) ∷ []) k (encode4 c a) e h
 
 split : {Q : Type 0} (a b : ℕ) → (a < b → Q) → (b ≤ a → Q) → Q
 split {Q} a b f g = go (ltb a b) refl
@@ -387,30 +387,30 @@ seen_ascii c a b n m = s_short c refl (rw (lt-ltb c 128 b, ne_eqb c 38 m, ne_eqb
 seen_control : (c d : ℕ) → c ≡ d → lead d ≡ all → d < 128 → Seen (char c)
 seen_control c d e h k = s_short c refl (ap lead e ∙ h) (encode1 c (omega arith))
 
-seen_low : (c : ℕ) → 32 ≤ c → c ≤ 0x_d7_fF → c ≢ 60 → c ≢ 38 → Seen (char c)
+seen_low : (c : ℕ) → 32 ≤ c → c ≤ 0xD7FF → c ≢ 60 → c ≢ 38 → Seen (char c)
 seen_low c a b n m =
     split c 128 (λ h. seen_ascii c a h n m)
     (λ h. split c 0x800 (λ k. seen2 c h k)
-    (λ h. split c 0x1000 (λ k. seen3 c e0 h (omega arith) (lead_e0 (0x_e0 + c / 4096) (omega arith)) (tested 160 191 (0x80 + c / 64 % 64) ((0x80 + c % 64) ∷ []) (more one) bad (omega arith) (omega arith) (ok1 (0x80 + c % 64) (omega arith) (omega arith))))
-    (λ i. split c 0x_d000 (λ k. seen3 c two h (omega arith) (lead_two (0x_e0 + c / 4096) (omega arith) (omega arith)) (ok2 (0x80 + c / 64 % 64) (0x80 + c % 64) (omega arith) (omega arith) (omega arith) (omega arith)))
-    (λ j. seen3 c ed h (omega arith) (lead_ed (0x_e0 + c / 4096) (omega arith)) (tested 128 159 (0x80 + c / 64 % 64) ((0x80 + c % 64) ∷ []) (more one) bad (omega arith) (omega arith) (ok1 (0x80 + c % 64) (omega arith) (omega arith)))))))
+    (λ h. split c 0x1000 (λ k. seen3 c e0 h (omega arith) (lead_e0 (0xE0 + c / 4096) (omega arith)) (tested 160 191 (0x80 + c / 64 % 64) ((0x80 + c % 64) ∷ []) (more one) bad (omega arith) (omega arith) (ok1 (0x80 + c % 64) (omega arith) (omega arith))))
+    (λ i. split c 0xD000 (λ k. seen3 c two h (omega arith) (lead_two (0xE0 + c / 4096) (omega arith) (omega arith)) (ok2 (0x80 + c / 64 % 64) (0x80 + c % 64) (omega arith) (omega arith) (omega arith) (omega arith)))
+    (λ j. seen3 c ed h (omega arith) (lead_ed (0xE0 + c / 4096) (omega arith)) (tested 128 159 (0x80 + c / 64 % 64) ((0x80 + c % 64) ∷ []) (more one) bad (omega arith) (omega arith) (ok1 (0x80 + c % 64) (omega arith) (omega arith)))))))
 
 efbf_ok : (y z : ℕ) → y ≡ 191 → 128 ≤ z → z ≤ 189 → takes (y ∷ z ∷ []) (more ef) ≡ true
 efbf_ok y z e p q = ap (λ (t : ℕ). takes (t ∷ z ∷ []) (more ef)) e ∙ tested 128 189 z [] all bad p q refl
 
-seen_middle : (c : ℕ) → 0x_e000 ≤ c → c ≤ 0x_fFFD → Seen (char c)
+seen_middle : (c : ℕ) → 0xE000 ≤ c → c ≤ 0xFFFD → Seen (char c)
 seen_middle c a b =
-    split c 0x_f000 (λ k. seen3 c two (omega arith) (omega arith) (lead_ee (0x_e0 + c / 4096) (omega arith)) (ok2 (0x80 + c / 64 % 64) (0x80 + c % 64) (omega arith) (omega arith) (omega arith) (omega arith)))
-    (λ h. split c 0x_fFC0
-    (λ k. seen3 c ef (omega arith) (omega arith) (lead_ef (0x_e0 + c / 4096) (omega arith)) (tested 128 190 (0x80 + c / 64 % 64) ((0x80 + c % 64) ∷ []) (more one) (cond (eqb (0x80 + c / 64 % 64) 191) (more efbf) bad) (omega arith) (omega arith) (ok1 (0x80 + c % 64) (omega arith) (omega arith))))
-    (λ k. seen3 c ef (omega arith) (omega arith) (lead_ef (0x_e0 + c / 4096) (omega arith)) (efbf_ok (0x80 + c / 64 % 64) (0x80 + c % 64) (omega arith) (omega arith) (omega arith))))
+    split c 0xF000 (λ k. seen3 c two (omega arith) (omega arith) (lead_ee (0xE0 + c / 4096) (omega arith)) (ok2 (0x80 + c / 64 % 64) (0x80 + c % 64) (omega arith) (omega arith) (omega arith) (omega arith)))
+    (λ h. split c 0xFFC0
+    (λ k. seen3 c ef (omega arith) (omega arith) (lead_ef (0xE0 + c / 4096) (omega arith)) (tested 128 190 (0x80 + c / 64 % 64) ((0x80 + c % 64) ∷ []) (more one) (cond (eqb (0x80 + c / 64 % 64) 191) (more efbf) bad) (omega arith) (omega arith) (ok1 (0x80 + c % 64) (omega arith) (omega arith))))
+    (λ k. seen3 c ef (omega arith) (omega arith) (lead_ef (0xE0 + c / 4096) (omega arith)) (efbf_ok (0x80 + c / 64 % 64) (0x80 + c % 64) (omega arith) (omega arith) (omega arith))))
 
-seen_high : (c : ℕ) → 0x10000 ≤ c → c ≤ 0x10_fFFF → Seen (char c)
+seen_high : (c : ℕ) → 0x10000 ≤ c → c ≤ 0x10FFFF → Seen (char c)
 seen_high c a b =
     let two_ok : takes ((0x80 + c / 64 % 64) ∷ (0x80 + c % 64) ∷ []) (more two) ≡ true = ok2 (0x80 + c / 64 % 64) (0x80 + c % 64) (omega arith) (omega arith) (omega arith) (omega arith) in
-    split c 0x40000 (λ k. seen4 c f0 a (lead_f0 (0x_f0 + c / 262144) (omega arith)) (tested 144 191 (0x80 + c / 4096 % 64) ((0x80 + c / 64 % 64) ∷ (0x80 + c % 64) ∷ []) (more two) bad (omega arith) (omega arith) two_ok))
-    (λ h. split c 0x100000 (λ k. seen4 c three a (lead_three (0x_f0 + c / 262144) (omega arith) (omega arith)) (tested 128 191 (0x80 + c / 4096 % 64) ((0x80 + c / 64 % 64) ∷ (0x80 + c % 64) ∷ []) (more two) bad (omega arith) (omega arith) two_ok))
-    (λ k. seen4 c f4 a (lead_f4 (0x_f0 + c / 262144) (omega arith)) (tested 128 143 (0x80 + c / 4096 % 64) ((0x80 + c / 64 % 64) ∷ (0x80 + c % 64) ∷ []) (more two) bad (omega arith) (omega arith) two_ok)))
+    split c 0x40000 (λ k. seen4 c f0 a (lead_f0 (0xF0 + c / 262144) (omega arith)) (tested 144 191 (0x80 + c / 4096 % 64) ((0x80 + c / 64 % 64) ∷ (0x80 + c % 64) ∷ []) (more two) bad (omega arith) (omega arith) two_ok))
+    (λ h. split c 0x100000 (λ k. seen4 c three a (lead_three (0xF0 + c / 262144) (omega arith) (omega arith)) (tested 128 191 (0x80 + c / 4096 % 64) ((0x80 + c / 64 % 64) ∷ (0x80 + c % 64) ∷ []) (more two) bad (omega arith) (omega arith) two_ok))
+    (λ k. seen4 c f4 a (lead_f4 (0xF0 + c / 262144) (omega arith)) (tested 128 143 (0x80 + c / 4096 % 64) ((0x80 + c / 64 % 64) ∷ (0x80 + c % 64) ∷ []) (more two) bad (omega arith) (omega arith) two_ok)))
 
 seen_char : (c : ℕ) → XmlChar c → c ≢ 60 → c ≢ 38 → Seen (char c)
 unfolding lead

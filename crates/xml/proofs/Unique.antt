@@ -86,7 +86,7 @@ unfolding encode
 encode_number c h = go (ltb c 0x80) (ltb c 0x800) (ltb c 0x10000) refl refl refl
   where
     go : (a b d : Bool) → ltb c 0x80 ≡ a → ltb c 0x800 ≡ b → ltb c 0x10000 ≡ d
-        → number (cond a (c ∷ []) (cond b ((0x_c0 + c / 64) ∷ (0x80 + c % 64) ∷ []) (cond d ((0x_e0 + c / 4096) ∷ (0x80 + c / 64 % 64) ∷ (0x80 + c % 64) ∷ []) ((0x_f0 + c / 262144) ∷ (0x80 + c / 4096 % 64) ∷ (0x80 + c / 64 % 64) ∷ (0x80 + c % 64) ∷ [])))) ≡ c
+        → number (cond a (c ∷ []) (cond b ((0xC0 + c / 64) ∷ (0x80 + c % 64) ∷ []) (cond d ((0xE0 + c / 4096) ∷ (0x80 + c / 64 % 64) ∷ (0x80 + c % 64) ∷ []) ((0xF0 + c / 262144) ∷ (0x80 + c / 4096 % 64) ∷ (0x80 + c / 64 % 64) ∷ (0x80 + c % 64) ∷ [])))) ≡ c
     go true b d e f g = refl
     go false true d e f g = let p = ltb-false c 0x80 e in let q = ltb-true c 0x800 f in omega arith
     go false false true e f g = let p = ltb-false c 0x800 f in let q = ltb-true c 0x10000 g in let r : c / 4096 ≡ c / 64 / 64 = omega arith in omega arith
@@ -130,7 +130,7 @@ unfolding encode
 encode_head c n = go (ltb c 0x80) (ltb c 0x800) (ltb c 0x10000) refl refl refl
   where
     go : (a b d : Bool) → ltb c 0x80 ≡ a → ltb c 0x800 ≡ b → ltb c 0x10000 ≡ d
-        → get_or (cond a (c ∷ []) (cond b ((0x_c0 + c / 64) ∷ (0x80 + c % 64) ∷ []) (cond d ((0x_e0 + c / 4096) ∷ (0x80 + c / 64 % 64) ∷ (0x80 + c % 64) ∷ []) ((0x_f0 + c / 262144) ∷ (0x80 + c / 4096 % 64) ∷ (0x80 + c / 64 % 64) ∷ (0x80 + c % 64) ∷ [])))) 0 0 ≢ 38
+        → get_or (cond a (c ∷ []) (cond b ((0xC0 + c / 64) ∷ (0x80 + c % 64) ∷ []) (cond d ((0xE0 + c / 4096) ∷ (0x80 + c / 64 % 64) ∷ (0x80 + c % 64) ∷ []) ((0xF0 + c / 262144) ∷ (0x80 + c / 4096 % 64) ∷ (0x80 + c / 64 % 64) ∷ (0x80 + c % 64) ∷ [])))) 0 0 ≢ 38
     go true b d e f g = n
     go false true d e f g = λ h. omega arith
     go false false true e f g = λ h. omega arith

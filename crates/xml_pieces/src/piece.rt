@@ -12,7 +12,7 @@ use text::class::is_blank;
 // A byte that goes on with a sequence is one of these.
 const TAIL: u8 = 0x80;
 
-const LAST_TAIL: u8 = 0x_bF;
+const LAST_TAIL: u8 = 0xBF;
 
 const LAST_ASCII: u8 = TAIL - 1;
 
@@ -63,9 +63,9 @@ fn behind_ef(s: &[u8], at: usize) -> Went
         return Went::Stopped(at);
     }
     if s[at] == LAST_TAIL {
-        return one(s, at + 1, TAIL, 0x_bD);
+        return one(s, at + 1, TAIL, 0xBD);
     }
-    two(s, at, TAIL, 0x_bE)
+    two(s, at, TAIL, 0xBE)
 }
 
 // The least byte that may follow a first byte of three or four.
@@ -73,8 +73,8 @@ fn least(x: u8) -> u8
     ensures { result ≡ least_behind x }
 {
     match x {
-        0x_e0 => 0x_a0,
-        0x_f0 => 0x90,
+        0xE0 => 0xA0,
+        0xF0 => 0x90,
         _ => TAIL,
     }
 }
@@ -84,34 +84,34 @@ fn greatest(x: u8) -> u8
     ensures { result ≡ greatest_behind x }
 {
     match x {
-        0x_eD => 0x9_f,
-        0x_f4 => 0x8_f,
+        0xED => 0x9F,
+        0xF4 => 0x8F,
         _ => LAST_TAIL,
     }
 }
 
 // A character that begins with a byte x that is no ASCII.
 fn long(s: &[u8], at: usize) -> Went
-    requires { (at < length s.now) × (0x7_f < get_or s.now at 0) }
+    requires { (at < length s.now) × (0x7F < get_or s.now at 0) }
     ensures { result ≡ reading lead (drop at s.now) at }
 {
     let x = s[at];
     let i = at + 1;
-    if x < 0x_c2 {
+    if x < 0xC2 {
         return Went::Stopped(at);
     }
-    if x < 0x_e0 {
+    if x < 0xE0 {
         return one(s, i, TAIL, LAST_TAIL);
     }
-    if x == 0x_eF {
+    if x == 0xEF {
         return behind_ef(s, i);
     }
     let low = least(x);
     let high = greatest(x);
-    if x < 0x_f0 {
+    if x < 0xF0 {
         return two(s, i, low, high);
     }
-    if x < 0x_f5 {
+    if x < 0xF5 {
         return three(s, i, low, high);
     }
     Went::Stopped(at)

@@ -22,7 +22,7 @@ use Rattle.text_characters.proofs.Resolving.{XmlChar}
 -- no tab, no line break, no control character
 pub record Ink (x : ℕ) : Type 0 where
   pub low : 32 ≤ x
-  pub high : x ≤ 0x20_aC
+  pub high : x ≤ 0x20AC
 
 pub ink_char : (x : ℕ) → Ink x → XmlChar x
 ink_char x i = XmlChar.low i.low (omega (arith, i.high))
@@ -31,17 +31,17 @@ solid_inks : (x : ℕ) → Solid x → Ink x
 solid_inks x s = record { low = omega (arith, s.low); high = omega (arith, s.high) }
 
 ref_inks : (x : ℕ) → is_ref x ≡ true → Ink x
-ref_inks x e = go (dec_lt x 32) (dec_lt 0x20_aC x)
+ref_inks x e = go (dec_lt x 32) (dec_lt 0x20AC x)
   where
-    go : Dec (x < 32) → Dec (0x20_aC < x) → Ink x
+    go : Dec (x < 32) → Dec (0x20AC < x) → Ink x
     go (yes h) k = absurd (true≢false (sym e ∙ sym (classes.no reference (omega arith))))
     go (no h) (yes k) = absurd (true≢false (sym e ∙ sym (classes.no reference (omega arith))))
     go (no h) (no k) = record { low = omega arith; high = omega arith }
 
 txt_inks : (x : ℕ) → is_txt x ≡ true → Ink x
-txt_inks x e = go (dec_lt x 32) (dec_lt 0x20_aC x)
+txt_inks x e = go (dec_lt x 32) (dec_lt 0x20AC x)
   where
-    go : Dec (x < 32) → Dec (0x20_aC < x) → Ink x
+    go : Dec (x < 32) → Dec (0x20AC < x) → Ink x
     go (yes h) k = absurd (true≢false (sym e ∙ sym (classes.no writing (omega arith))))
     go (no h) (yes k) = absurd (true≢false (sym e ∙ sym (classes.no writing (omega arith))))
     go (no h) (no k) = record { low = omega arith; high = omega arith }

@@ -6,10 +6,10 @@ use Rattle.text_characters.specs.declared.utf8.Char.{Char}
 
 -- a byte of a sequence that is not its first
 unfoldable pub is_tail : ℕ → Bool
-is_tail x = in_range 0x80 0x_bF x
+is_tail x = in_range 0x80 0xBF x
 
 unfoldable pub is_scalar : ℕ → Bool
-is_scalar c = in_range 0 0x_d7_fF c || in_range 0x_e000 0x10_fFFF c
+is_scalar c = in_range 0 0xD7FF c || in_range 0xE000 0x10FFFF c
 
 -- n bytes that spell c: in the shortest form, and a scalar value
 unfoldable pub kept : ℕ → ℕ → ℕ → Char
@@ -30,10 +30,10 @@ four x y z w =
 abbrev pub by_first : ℕ → ℕ → ℕ → ℕ → Char
 by_first x y z w =
     cond (ltb x 0x80) (char_of 1 x)
-    (cond (ltb x 0x_c0) (char_of 0 0)
-    (cond (ltb x 0x_e0) (two x y)
-    (cond (ltb x 0x_f0) (three x y z)
-    (cond (ltb x 0x_f8) (four x y z w)
+    (cond (ltb x 0xC0) (char_of 0 0)
+    (cond (ltb x 0xE0) (two x y)
+    (cond (ltb x 0xF0) (three x y z)
+    (cond (ltb x 0xF8) (four x y z w)
     (char_of 0 0)))))
 
 unfoldable pub decoded : List ℕ → Char
@@ -42,4 +42,4 @@ decoded (x ∷ t) = by_first x (get_or t 0 0) (get_or t 1 0) (get_or t 2 0)
 
 -- a number that, if it is not 0, is a character of two bytes that s begins with
 abbrev pub Paired : List ℕ → ℕ → Type 0
-Paired s r = (r ≡ 0 → ⊥) → Decoded s (char_of 2 r) × ((0x80 ≤ r) × (r ≤ 0x7_fF))
+Paired s r = (r ≡ 0 → ⊥) → Decoded s (char_of 2 r) × ((0x80 ≤ r) × (r ≤ 0x7FF))

@@ -111,5 +111,5 @@ unfolding quiet_txt
 quiet_far x h = rw (sym (ascii_far x (omega arith)))
 
 -- all of them are scalar values
-pub txt_low : (x : ℕ) → is_txt x ≡ true → x < 0x20_aD
-txt_low x e = low writing 0x20_aD refl x e
+pub txt_low : (x : ℕ) → is_txt x ≡ true → x < 0x20AD
+txt_low x e = low writing 0x20AD refl x e

@@ -13,6 +13,6 @@ pub reference : Named is_ref (only 32 or from 39 41 or from 43 58 or only 63 or 
 unfolding is_ref
 reference = record { is = λ x. refl }
 
-pub writing : Named is_txt (from 32 95 or from 97 126 or only 0x_a7 or only 0x_b0 or only 0x_c4 or only 0x_d6 or only 0x_dC or only 0x_dF or only 0x_e4 or only 0x_f6 or only 0x_fC or only 0x20_aC)
+pub writing : Named is_txt (from 32 95 or from 97 126 or only 0xA7 or only 0xB0 or only 0xC4 or only 0xD6 or only 0xDC or only 0xDF or only 0xE4 or only 0xF6 or only 0xFC or only 0x20AC)
 unfolding is_txt
 writing = record { is = λ x. refl }

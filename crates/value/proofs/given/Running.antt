@@ -44,9 +44,9 @@ module _ (t : List ℕ) (i n : ℕ) (w : i + span is_own (drop i t) ≡ n) (h : 
 own_char : (c : ℕ) → c ≢ ampersand → All is_own (encode c)
 own_char c h =
     decoding.by_length (All is_own) c (λ k. (own_yes c h, tt))
-    (λ j k. (own_yes (0x_c0 + c / 64) (omega arith), (own_yes (0x80 + c % 64) (omega arith), tt)))
-    (λ j k. (own_yes (0x_e0 + c / 4096) (omega arith), (own_yes (0x80 + c / 64 % 64) (omega arith), (own_yes (0x80 + c % 64) (omega arith), tt))))
-    (λ k. (own_yes (0x_f0 + c / 262144) (omega arith), (own_yes (0x80 + c / 4096 % 64) (omega arith), (own_yes (0x80 + c / 64 % 64) (omega arith), (own_yes (0x80 + c % 64) (omega arith), tt)))))
+    (λ j k. (own_yes (0xC0 + c / 64) (omega arith), (own_yes (0x80 + c % 64) (omega arith), tt)))
+    (λ j k. (own_yes (0xE0 + c / 4096) (omega arith), (own_yes (0x80 + c / 64 % 64) (omega arith), (own_yes (0x80 + c % 64) (omega arith), tt))))
+    (λ k. (own_yes (0xF0 + c / 262144) (omega arith), (own_yes (0x80 + c / 4096 % 64) (omega arith), (own_yes (0x80 + c / 64 % 64) (omega arith), (own_yes (0x80 + c % 64) (omega arith), tt)))))
 
 -- ---- spans of lists one after the other
 

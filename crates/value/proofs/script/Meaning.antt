@@ -60,9 +60,9 @@ plain_front (x ∷ a) r h = ap₂ (λ (u v : List ℕ). u ++ v) (escape_plain x 
 plain_char : (c : ℕ) → c ≢ 38 → c ≢ 60 → c ≢ 62 → Each (λ x. is_marked x ≡ false) (encode c)
 plain_char c m n o =
     by_length (Each (λ x. is_marked x ≡ false)) c (λ h. (plain c m n o, tt))
-    (λ h k. (high (0x_c0 + c / 64) (omega arith), (high (0x80 + c % 64) (omega arith), tt)))
-    (λ h k. (high (0x_e0 + c / 4096) (omega arith), (high (0x80 + c / 64 % 64) (omega arith), (high (0x80 + c % 64) (omega arith), tt))))
-    (λ h. (high (0x_f0 + c / 262144) (omega arith), (high (0x80 + c / 4096 % 64) (omega arith), (high (0x80 + c / 64 % 64) (omega arith), (high (0x80 + c % 64) (omega arith), tt)))))
+    (λ h k. (high (0xC0 + c / 64) (omega arith), (high (0x80 + c % 64) (omega arith), tt)))
+    (λ h k. (high (0xE0 + c / 4096) (omega arith), (high (0x80 + c / 64 % 64) (omega arith), (high (0x80 + c % 64) (omega arith), tt))))
+    (λ h. (high (0xF0 + c / 262144) (omega arith), (high (0x80 + c / 4096 % 64) (omega arith), (high (0x80 + c / 64 % 64) (omega arith), (high (0x80 + c % 64) (omega arith), tt)))))
 
 -- a character that is marked is one byte
 one_mark : (c : ℕ) (r w : List ℕ) → c < 128 → escape c ≡ w → escaped (encode c ++ r) ≡ w ++ escaped r

@@ -96,15 +96,15 @@ some (txt n) ok = (text (65 ∷ []), IsValue.writing (one_txt n ok.0))
 some (enum ws) ok = (place 1, IsValue.listed {ws = ws} {n = 1} (omega arith) ok.0.0)
 
 -- ---- bytes: no value is a beginning of another
-class_below : (strict : Bool) (x : ℕ) → class_of strict x ≡ true → x < 0x_d800
-class_below true x e = go (dec_lt x 0x_d800)
+class_below : (strict : Bool) (x : ℕ) → class_of strict x ≡ true → x < 0xD800
+class_below true x e = go (dec_lt x 0xD800)
   where
-    go : Dec (x < 0x_d800) → x < 0x_d800
+    go : Dec (x < 0xD800) → x < 0xD800
     go (yes h) = h
     go (no h) = absurd (true≢false (sym e ∙ sym (classes.no reference (omega arith))))
-class_below false x e = go (dec_lt x 0x_d800)
+class_below false x e = go (dec_lt x 0xD800)
   where
-    go : Dec (x < 0x_d800) → x < 0x_d800
+    go : Dec (x < 0xD800) → x < 0xD800
     go (yes h) = h
     go (no h) = absurd (true≢false (sym e ∙ sym (classes.no writing (omega arith))))
 

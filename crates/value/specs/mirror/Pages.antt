@@ -19,7 +19,7 @@ word_in ws p = get_or ws p 0
 
 -- the first four pages: bit k of a page's word is 1 where the page's k-th code point, from 0, is a character of a text
 abbrev pub words : List ℕ
-words = 0x_fFFFFFFF00000000 ∷ 0x7_fFFFFFEFFFFFFFF ∷ 0x0001008000000000 ∷ 0x1040001090400010 ∷ []
+words = 0xFFFFFFFF00000000 ∷ 0x7FFFFFFEFFFFFFFF ∷ 0x0001008000000000 ∷ 0x1040001090400010 ∷ []
 
 -- beyond them the euro's page alone has a word that is not 0
 unfoldable pub word_of : ℕ → ℕ
@@ -30,11 +30,11 @@ looked c = bit_of (word_of c) (c % page)
 
 -- the same of bytes that stand for themselves: of a text, ASCII, and neither `&` nor `<`
 abbrev pub quiet_words : List ℕ
-quiet_words = 0x_eFFFFFBF00000000 ∷ 0x7_fFFFFFEFFFFFFFF ∷ 0 ∷ 0 ∷ []
+quiet_words = 0xEFFFFFBF00000000 ∷ 0x7FFFFFFEFFFFFFFF ∷ 0 ∷ 0 ∷ []
 
 -- of a reference, and no slash
 abbrev pub ref_words : List ℕ
-ref_words = 0x87_fF7_b8100000000 ∷ 0x07_fFFFFE07_fFFFFE ∷ 0 ∷ 0 ∷ []
+ref_words = 0x87FF7B8100000000 ∷ 0x07FFFFFE07FFFFFE ∷ 0 ∷ 0 ∷ []
 
 unfoldable pub looked_in : List ℕ → ℕ → Bool
 looked_in ws x = bit_of (word_in ws (x / page)) (x % page)

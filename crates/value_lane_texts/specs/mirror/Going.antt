@@ -26,12 +26,12 @@ pub record Going (s : List ℕ) (at i g t : ℕ) : Type 0 where
 
 -- the second byte of a character of TXT whose first is 0xC3
 unfoldable pub is_second : ℕ → Bool
-is_second y = is_txt (y + 0x40) && in_range 0x80 0x_bF y
+is_second y = is_txt (y + 0x40) && in_range 0x80 0xBF y
 
 -- one of these stands in s at i
 pub record Umlaut (s : List ℕ) (i : ℕ) : Type 0 where
   pub room : i + 1 < length s
-  pub first : get_or s i 0 ≡ 0x_c3
+  pub first : get_or s i 0 ≡ 0xC3
   pub second : is_second (get_or s (i + 1) 0) ≡ true
 
 -- "REF: 1 to 35"

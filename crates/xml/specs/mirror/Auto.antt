@@ -25,31 +25,31 @@ ascii_lead x = cond (eqb x (code "&")) (more ampersand) (cond (eqb x (code "<"))
 
 abbrev pub long : ℕ → Read
 long x =
-    cond (ltb x 0x_c2) bad
-    (cond (ltb x 0x_e0) (more one)
-    (cond (ltb x 0x_e1) (more e0)
-    (cond (ltb x 0x_eD) (more two)
-    (cond (ltb x 0x_eE) (more ed)
-    (cond (ltb x 0x_eF) (more two)
-    (cond (ltb x 0x_f0) (more ef)
-    (cond (ltb x 0x_f1) (more f0)
-    (cond (ltb x 0x_f4) (more three)
-    (cond (ltb x 0x_f5) (more f4) bad)))))))))
+    cond (ltb x 0xC2) bad
+    (cond (ltb x 0xE0) (more one)
+    (cond (ltb x 0xE1) (more e0)
+    (cond (ltb x 0xED) (more two)
+    (cond (ltb x 0xEE) (more ed)
+    (cond (ltb x 0xEF) (more two)
+    (cond (ltb x 0xF0) (more ef)
+    (cond (ltb x 0xF1) (more f0)
+    (cond (ltb x 0xF4) (more three)
+    (cond (ltb x 0xF5) (more f4) bad)))))))))
 
 -- by its first byte
 unfoldable pub lead : ℕ → Read
 lead x = cond (ltb x 0x80) (ascii_lead x) (long x)
 
 abbrev pub go_on : Part → ℕ → Read
-go_on one y = cond (in_range 0x80 0x_bF y) all bad
-go_on two y = cond (in_range 0x80 0x_bF y) (more one) bad
-go_on three y = cond (in_range 0x80 0x_bF y) (more two) bad
-go_on e0 y = cond (in_range 0x_a0 0x_bF y) (more one) bad
-go_on ed y = cond (in_range 0x80 0x9_f y) (more one) bad
-go_on ef y = cond (in_range 0x80 0x_bE y) (more one) (cond (eqb y 0x_bF) (more efbf) bad)
-go_on efbf y = cond (in_range 0x80 0x_bD y) all bad
-go_on f0 y = cond (in_range 0x90 0x_bF y) (more two) bad
-go_on f4 y = cond (in_range 0x80 0x8_f y) (more two) bad
+go_on one y = cond (in_range 0x80 0xBF y) all bad
+go_on two y = cond (in_range 0x80 0xBF y) (more one) bad
+go_on three y = cond (in_range 0x80 0xBF y) (more two) bad
+go_on e0 y = cond (in_range 0xA0 0xBF y) (more one) bad
+go_on ed y = cond (in_range 0x80 0x9F y) (more one) bad
+go_on ef y = cond (in_range 0x80 0xBE y) (more one) (cond (eqb y 0xBF) (more efbf) bad)
+go_on efbf y = cond (in_range 0x80 0xBD y) all bad
+go_on f0 y = cond (in_range 0x90 0xBF y) (more two) bad
+go_on f4 y = cond (in_range 0x80 0x8F y) (more two) bad
 go_on ampersand y =
     cond (eqb y (code "a")) (more ampersand_a)
     (cond (eqb y (code "l")) (to_word (ascii "t;"))

@@ -34,7 +34,7 @@ ReadsThree s i low high r = (f : ℕ → Read) → Ranged s i low high f (more t
 
 -- the bytes that may follow the first of three or four: Unicode, table 3-7
 abbrev pub least_behind : ℕ → ℕ
-least_behind x = cond (eqb x 0x_e0) 0x_a0 (cond (eqb x 0x_f0) 0x90 0x80)
+least_behind x = cond (eqb x 0xE0) 0xA0 (cond (eqb x 0xF0) 0x90 0x80)
 
 abbrev pub greatest_behind : ℕ → ℕ
-greatest_behind x = cond (eqb x 0x_eD) 0x9_f (cond (eqb x 0x_f4) 0x8_f 0x_bF)
+greatest_behind x = cond (eqb x 0xED) 0x9F (cond (eqb x 0xF4) 0x8F 0xBF)

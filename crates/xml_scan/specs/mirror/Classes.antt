@@ -5,7 +5,7 @@ use Rattle.text.specs.Bytes.{in_range, is_blank, is_name_part}
 
 -- a byte that stands in text for itself, whatever stands beside it: 0x20 to 0x7F without `&`, `<`, `>` and `]`
 unfoldable pub is_plain : ℕ → Bool
-is_plain x = in_range (code " ") (code "%") x || in_range (code "'") (code ";") x || eqb x (code "=") || in_range (code "?") (code "\\") x || in_range (code "^") 0x7_f x
+is_plain x = in_range (code " ") (code "%") x || in_range (code "'") (code ";") x || eqb x (code "=") || in_range (code "?") (code "\\") x || in_range (code "^") 0x7F x
 
 -- 2: a part of a name; 1: any other byte that stands in text for itself; 0: every other byte
 unfoldable pub class_of : ℕ → ℕ

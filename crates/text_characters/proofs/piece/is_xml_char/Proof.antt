@@ -8,7 +8,7 @@ use Rattle.text_characters.proofs.piece.is_xml_char.Statement.{statement}
 use Rattle.text_characters.proofs.piece.is_xml_char.Tie as tie
 
 returns : tie.Need-returns
-returns c = yes xml_char 0x_d 1 refl (omega arith) (omega arith)
+returns c = yes xml_char 0xD 1 refl (omega arith) (omega arith)
 
 returns-2 : tie.Need-returns-2
 returns-2 c = yes xml_char 0x9 2 refl (omega arith) (omega arith)

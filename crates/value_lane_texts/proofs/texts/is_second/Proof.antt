@@ -13,7 +13,7 @@ abbrev keys1 : List ℕ
 keys1 = 0x84 ∷ 0x96 ∷ 0x9C ∷ []
 
 abbrev keys2 : List ℕ
-keys2 = 0x9_f ∷ 0xA4 ∷ 0xB6 ∷ 0xBC ∷ []
+keys2 = 0x9F ∷ 0xA4 ∷ 0xB6 ∷ 0xBC ∷ []
 
 returns : tie.Need-returns
 unfolding is_second is_txt
