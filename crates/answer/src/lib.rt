@@ -1,5 +1,7 @@
 // What every call of the unit hands back: a code, a row and a place. The numbers and names of the codes live here, and a
 // constructor for each case fixes the row and the place that belong to it, so that no caller writes a code by hand.
+#![tactic(auto)]
+
 pub mod hand; // hand.rt: an answer for C
 
 ghost use Rattle.std.specs.Prelude.{◌≡◌};

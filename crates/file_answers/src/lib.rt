@@ -1,4 +1,6 @@
 // What writing answers for an item that no file may say any more, and for the file's length.
+#![tactic(auto)]
+
 ghost use Rattle.std.specs.Prelude.{◌≡◌};
 ghost use Rattle.file_answers.specs.Answers.{gone_by, refused_by, sized_by};
 

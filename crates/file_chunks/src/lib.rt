@@ -1,4 +1,5 @@
 // Bytes at a place as one number, the first the least, with zeros after the end; and two such numbers compared under masks.
+#![tactic(auto)]
 
 ghost use Rattle.std.specs.Prelude.{◌≡◌, ◌&&◌, ◌+◌, ◌≤◌, ◌<◌, eqb, length, get_or};
 ghost use Rattle.std.specs.Int.Bits.{bit_and};

@@ -3,7 +3,7 @@ use mathlib.Core.Path.{◌≡◌, refl, ◌∙◌}
 use mathlib.Core.List.{List, [], ◌∷◌}
 use Prim.Native.Nat.{ℕ, zero, suc, ◌-◌}
 use lib.ListN.{length, get_or, set, length-set}
-use Rattle.list.specs.Listing.{Kind, Row, Listing, no_row, row_at}
+use Rattle.list.specs.Listing.{Row, Listing, no_row, row_at}
 use Rattle.list.specs.Content.{CountOk}
 use Rattle.list.specs.Within.{Within}
 use Rattle.list.specs.Changed.{changed, altered}

@@ -4,7 +4,7 @@ use mathlib.Core.Bool.{true}
 use mathlib.Core.List.{List, [], ◌∷◌}
 use Prim.Native.Nat.{ℕ, ◌≤◌}
 use Rattle.text.specs.Lists.{Each}
-use Rattle.list.specs.Listing.{Leaf, Kind, choice, Rule, Listing, row_at, Child, is_group}
+use Rattle.list.specs.Listing.{Leaf, Kind, Rule, Listing, Child, is_group}
 use Rattle.list.specs.Content.{Content, end, value, node, rows, Keeps, Children, ValueOf, Good, Meets}
 use Rattle.list.specs.Within.{Within}
 

@@ -1,5 +1,5 @@
 -- Lists and parts of lists, compared: the tests are equality, and element by element they go on. Assumes nothing.
-use Rattle.std.proofs.Common.{◌≡◌, ℕ, zero, suc, ◌+◌, ◌-◌, ◌<◌, ◌≤◌, min, true, false, eqb, ◌≢◌, List, [], ◌∷◌, ◌++◌, length, get_or, take, drop, sym, refl, ap, ◌∙◌, true≢false, zero-le, suc-add, zero-add, add-one, arith, length-append, length-drop, take-append-drop, drop_of_length-le, length-take, get_or-drop, take_all, drop-cons, get_or-take, eq-eqb, ne_eqb, eqb-true}
+use Rattle.std.proofs.Common.{◌≡◌, ℕ, zero, suc, ◌+◌, ◌-◌, ◌<◌, ◌≤◌, min, true, false, eqb, ◌≢◌, List, [], ◌∷◌, ◌++◌, length, get_or, take, drop, sym, refl, ap, ◌∙◌, true≢false, suc-add, zero-add, add-one, arith, length-append, length-drop, take-append-drop, drop_of_length-le, length-take, get_or-drop, take_all, drop-cons, get_or-take, eq-eqb, ne_eqb, eqb-true}
 use lib.Seq.{slice, take-nil, take-length, take-append_seam}
 use Rattle.text.specs.Lists.{same, LongestBeginning}
 use Rattle.text.specs.Words.{starts}

@@ -1,5 +1,5 @@
 -- The two rules of a date-time: what each spells, and both together. Assumes nothing.
-use mathlib.Core.Path.{◌≡◌, refl, sym, ◌∙◌, ap, subst}
+use mathlib.Core.Path.{◌≡◌, refl, sym, ◌∙◌, ap}
 use mathlib.Core.List.{List, [], ◌∷◌}
 use mathlib.Core.Logic.{◌↔◌, inr}
 use Prim.Native.Nat.{ℕ, ◌+◌, ◌-◌, ◌/◌, ◌%◌, ◌≤◌, ◌<◌}
@@ -11,7 +11,7 @@ use Rattle.value.specs.parts.Former.{DateRule, former, present, no_fraction, dec
 use Rattle.value.specs.types.Moment.{clock_text, Parts}
 use Rattle.value.specs.Value.{Value, moment, IsValue, Spelt}
 use Rattle.value.specs.parts.Form.{Form}
-use Rattle.value.specs.Rules.{Timeless, FormBy, SpeltBy, InThousandths}
+use Rattle.value.specs.Rules.{FormBy, SpeltBy, InThousandths}
 use Rattle.value.proofs.dates.Dates.{few, moment_parts}
 use Rattle.value.proofs.dates.Spell.{read_day}
 use Rattle.value.proofs.types.Shaped.{form_is, shaped_spelt, spelt_shaped}

@@ -12,7 +12,7 @@ use Rattle.text.specs.Lists.{All, Begins}
 use Rattle.text_characters.specs.Pieces.{Piece, char, spell}
 use Rattle.xml.specs.House.{IsName, IsAttrName, Quote, single_quote, double, mark, GoodValue, Attr, GoodAttr, GoodAttrs, Tag, GoodTag, Markup, no_more, piece, empty_tag, full, OneElement, declaration}
 use Rattle.xml.proofs.Runs.{cuts, brackets, GoodAfter}
-use Rattle.xml.specs.mirror.Auto.{Part, Read, bad, all, more, lead, go_on, takes, At, done, start, first, before, root, name, tail, gap, attr, Mode, early, colon, late, grows, goes_to, may_stop, equals, quote, value, within, slash, content, part, less, close, St, at, member, after, end_step, value_next, content_next, next, step, run}
+use Rattle.xml.specs.mirror.Auto.{Part, Read, bad, all, more, lead, go_on, takes, At, done, start, first, before, root, name, tail, gap, attr, Mode, early, colon, late, grows, goes_to, may_stop, equals, quote, value, within, slash, content, part, less, close, St, at, after, end_step, value_next, content_next, next, step, run}
 use Rattle.xml.proofs.Basics.{by_blank, blank_no_rest, blank_no_start, no_colon, fresh_member, Fresh}
 use Rattle.xml.proofs.Pieces.{Seen, s_short, s_long, seen, plain_brackets}
 use Rattle.xml.proofs.Lang.{Goes, spells_on, attr_on, attrs_on, tag_on, end_on, on}

@@ -12,7 +12,7 @@ use Rattle.text_characters.specs.Utf8.{encode}
 use Rattle.text.specs.Lists.{All, Begins}
 use Rattle.text_characters.specs.Pieces.{Piece, char, spell}
 use Rattle.xml.specs.House.{Quote, single_quote, double, mark, GoodValue, IsAttrName, Attr, GoodAttrs, Tag, GoodTag, Markup, no_more, piece, empty_tag, full, declaration}
-use Rattle.xml.proofs.Runs.{cuts, brackets, GoodAfter}
+use Rattle.xml.proofs.Runs.{GoodAfter}
 use Rattle.xml.specs.mirror.Auto.{Part, one, two, three, e0, ed, ef, efbf, f0, f4, ampersand, ampersand_a, rest, Read, bad, all, more, to_word, lead, go_on, takes, At, done, start, first, before, root, declare, name, tail, gap, attr}
 use Rattle.xml.specs.mirror.Auto.{Mode, early, colon, late, grows, goes_to, may_stop, equals, quote, value, within, slash, content, part, less, close, St, dead, at, member, after, tail_step, end_step, gap_step, equals_step, value_next, content_next, push, close_step, declare_next, next}
 use Rattle.xml.proofs.Basics.{member_fresh, size, many, grown, Fresh}

@@ -6,10 +6,10 @@ use Prim.Native.Nat.{ℕ, zero, suc, ◌≤◌, zero-le, suc-le-suc}
 use native.Mathlib.Nat.{le_of_suc-le-suc}
 use native.Mathlib.Omega.{arith}
 use lib.ListN.{length, take}
-use Rattle.xml.specs.House.{no_more, empty_tag, full, render, declaration, HouseXml, Viable}
+use Rattle.xml.specs.House.{no_more, empty_tag, full, declaration, HouseXml, Viable}
 use Rattle.xml.specs.mirror.Auto.{done, start, St, dead, at, step, run, is_dead, live_len}
 use Rattle.xml.proofs.Runs.{to_after, from_after}
-use Rattle.xml.proofs.Lang.{on, Rest, StartL, BeforeL, RootL, ElementL, e_empty, e_full, element, LS, back, live}
+use Rattle.xml.proofs.Lang.{Rest, StartL, BeforeL, RootL, ElementL, e_empty, e_full, element, LS, back, live}
 use Rattle.xml.proofs.Forward.{start_run}
 use Rattle.xml.proofs.Render.{render_on}
 use Rattle.text.specs.Lists.{LongestBeginning}

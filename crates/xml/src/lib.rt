@@ -1,1 +1,3 @@
+#![tactic(auto)]
+
 // House XML: trees and their bytes, the longest viable beginning, messages with places.

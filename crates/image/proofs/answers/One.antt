@@ -3,7 +3,7 @@ use mathlib.Core.Path.{◌≡◌, refl, sym, ◌∙◌, ap, ap₂, subst}
 use mathlib.Core.Logic.{◌≢◌, ◌⊎◌, ◌↔◌, inl, inr}
 use mathlib.Core.Bool.{Bool, true, false, cond}
 use mathlib.Core.List.{List, [], ◌∷◌, ◌++◌, append_assoc, head-eq_of_cons-eq, tail-eq_of_cons-eq}
-use mathlib.Core.Option.{Option, none, some}
+use mathlib.Core.Option.{Option, some}
 use Prim.Native.Nat.{ℕ, suc, ◌+◌, ◌≤◌, ◌<◌}
 use native.Mathlib.Omega.{arith}
 use lib.Dec.{eqb}
@@ -20,7 +20,7 @@ use Rattle.list.specs.Content.{Content, Meets}
 use Rattle.image.specs.Image.{Values, Lawful, Item, versioned, header, items_bytes, body, image}
 use Rattle.image.specs.Place.{Holds, Breaks, Front, current, Among, Apart, Accepts, Reads, over, foreign, version, kindless, broken, whole_image}
 use Rattle.image.specs.Pick.{rows_of, Picked, Missing, Picks, refused, missing, found}
-use Rattle.image.proofs.content.Rows.{less, same, clash}
+use Rattle.image.proofs.content.Rows.{clash}
 use Rattle.image.proofs.content.Prefix.{body_prefix}
 use Rattle.image.proofs.content.Stops.{breaks_one}
 use Rattle.image.proofs.answers.Heads.{front_long, front_three, front_five, front_six, second_named}

@@ -1,16 +1,15 @@
 -- Items begin some content that meets the list exactly when each may come directly after the one before it. Assumes nothing.
 use mathlib.Core.Path.{◌≡◌, refl, sym, ◌∙◌, subst}
-use mathlib.Core.Logic.{◌≢◌}
 use mathlib.Core.List.{List, [], ◌∷◌, ◌++◌, append-nil, head-eq_of_cons-eq, tail-eq_of_cons-eq, nil≢cons}
-use mathlib.Core.Option.{none, some}
-use Prim.Native.Nat.{ℕ, ◌+◌, ◌≤◌, ◌<◌}
+use mathlib.Core.Option.{none}
+use Prim.Native.Nat.{ℕ, ◌≤◌, ◌<◌}
 use native.Mathlib.Omega.{arith}
-use Rattle.list.specs.Listing.{group, leaf, Listing, size, row_at}
+use Rattle.list.specs.Listing.{Listing, size, row_at}
 use Rattle.list.specs.WellFormed.{WellFormed}
 use Rattle.list.specs.Content.{Content, end, value, node, rows, items, Good, Meets}
 use Rattle.image.specs.Image.{Values, Lawful, Item}
 use Rattle.image.specs.Place.{BeginsContent}
-use Rattle.image.specs.mirror.Follow.{Simple, Compound, Over, top, Trail, Trace, last_row, Whole}
+use Rattle.image.specs.mirror.Follow.{Simple, Compound, Over, Trail, Trace, last_row, Whole}
 use Rattle.image.proofs.content.Rows.{clash, value_is, next_in_lem, Well, well}
 use Rattle.image.proofs.content.Derive.{After, Rest, root, more, Takes, after, inside, fwd, back, rest_over, over_rest}
 use Rattle.image.proofs.content.Levels.{Chain, chain_children, children_chain}

@@ -1,12 +1,11 @@
 -- What each row still takes, as items of contents; a row that may come next takes one item off it. Assumes nothing.
 use mathlib.Core.Path.{◌≡◌, refl, sym, ◌∙◌, ap, subst}
-use mathlib.Core.Logic.{◌≢◌}
 use mathlib.Core.Bool.{true}
 use mathlib.Core.List.{List, [], ◌∷◌, ◌++◌, append_assoc, head-eq_of_cons-eq, tail-eq_of_cons-eq, nil≢cons}
 use mathlib.Core.Option.{Option, none, some}
-use Prim.Native.Nat.{ℕ, zero, suc, ◌+◌, ◌≤◌, ◌<◌}
+use Prim.Native.Nat.{ℕ, zero, suc, ◌≤◌, ◌<◌}
 use native.Mathlib.Omega.{arith}
-use Rattle.list.specs.Listing.{group, leaf, Listing, size, row_at, Child, is_group}
+use Rattle.list.specs.Listing.{Listing, size, row_at, Child, is_group}
 use Rattle.list.specs.Content.{Content, end, value, node, items, ValueOf}
 use Rattle.image.specs.Image.{Values, Item}
 use Rattle.image.specs.mirror.Follow.{parent_of, Simple, Compound, Fits, Shut, Climb, beside, out, Next, down, on, Over, top, ItemOk}

@@ -1,14 +1,14 @@
 -- The items that are taken of a body are one number only, and no more than its bytes. Assumes nothing.
 use mathlib.Core.Path.{◌≡◌, sym, ◌∙◌, ap}
 use mathlib.Core.List.{List, [], ◌∷◌}
-use Prim.Native.Nat.{ℕ, suc, ◌+◌, ◌≤◌}
+use Prim.Native.Nat.{ℕ, suc, ◌≤◌}
 use native.Mathlib.Omega.{arith}
 use lib.ListN.{length, length-append}
 use Rattle.answer.specs.declared.Answer.{Answer}
 use Rattle.list.specs.Listing.{Listing, row_at}
 use Rattle.list.specs.WellFormed.{WellFormed}
 use Rattle.list.specs.Content.{Content, items}
-use Rattle.image.specs.Image.{Values, Lawful, Item, value_bytes, items_bytes, body}
+use Rattle.image.specs.Image.{Values, Lawful, Item, value_bytes, items_bytes}
 use Rattle.image.specs.Place.{Holds}
 use Rattle.image.specs.Count.{Taken, closed, unclosed}
 use Rattle.image.proofs.content.Stops.{holds_content, most_whole}

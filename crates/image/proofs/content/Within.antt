@@ -6,7 +6,7 @@ use Prim.Native.Nat.{ℕ}
 use Rattle.list.specs.Listing.{Kind, group, choice, leaf, Listing, row_at}
 use Rattle.list.specs.Content.{Content, items}
 use Rattle.list.specs.Within.{Within}
-use Rattle.image.specs.Image.{Values, Item, versioned, value_bytes, items_bytes, body, image}
+use Rattle.image.specs.Image.{Values, Item, versioned, value_bytes, items_bytes, image}
 use Rattle.image.proofs.answers.Heads.{header_is}
 
 module _ (vs : Values) (l m : Listing) (w : Within l m) where

@@ -7,7 +7,7 @@ use mathlib.Core.Option.{Option, none, some}
 use Prim.Native.Nat.{ℕ, zero, suc, ◌+◌, ◌-◌, ◌≤◌, ◌<◌}
 use native.Mathlib.Omega.{arith}
 use native.Mathlib.Numerals.{add-one}
-use lib.Dec.{leb, eqb}
+use lib.Dec.{leb}
 use lib.ListN.{length, get_or, take, drop, length-drop, length-append, drop_of_length-le}
 use lib.Seq.{drop-cons, drop-drop, drop-append-le, take_at, slice}
 use borrow.Author.Tests.{eq-eqb, ne_eqb, le-leb, lt-leb}

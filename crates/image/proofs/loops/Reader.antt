@@ -3,7 +3,7 @@ use mathlib.Core.Path.{◌≡◌, refl, sym, ◌∙◌, ap, ap₂, subst}
 use mathlib.Core.Logic.{◌≢◌, ◌⊎◌, inl, inr}
 use mathlib.Core.Bool.{Bool, true, false, cond, true≢false}
 use mathlib.Core.List.{List, [], ◌∷◌, ◌++◌, head-eq_of_cons-eq, tail-eq_of_cons-eq, nil≢cons}
-use mathlib.Core.Option.{Option, none, some}
+use mathlib.Core.Option.{Option}
 use Prim.Native.Nat.{ℕ, zero, suc, ◌+◌, ◌≤◌, ◌<◌}
 use native.Mathlib.Omega.{arith}
 use native.Mathlib.Numerals.{add-one}
@@ -22,7 +22,7 @@ use Rattle.image.specs.mirror.Follow.{Next, ItemOk}
 use Rattle.image.specs.mirror.Reader.{Stuck, Open, Stops, Ends}
 use Rattle.image.specs.mirror.Step.{follows, ended}
 use Rattle.image.specs.Count.{Taken}
-use Rattle.image.specs.mirror.Run.{Turn, stop, next, Comes, halts, moves, steps, closing, turn, Goes, Took, Behind, rootless, rooted}
+use Rattle.image.specs.mirror.Run.{Turn, stop, next, Comes, halts, moves, steps, closing, turn, Goes, Behind, rootless, rooted}
 use Rattle.image.proofs.content.Rows.{next_in_lem, well}
 use Rattle.image.proofs.content.Stops.{stops_on, stops_here, ends_on, ends_here, holds, breaks, breaks_root, ends_taken, stops_taken, root_taken}
 use Rattle.image.proofs.next.Step.{Lines, follows_is, ended_is}

@@ -1,6 +1,6 @@
 -- What the code finds in sound tables is which row may come next. Assumes nothing.
 use mathlib.Core.Path.{◌≡◌, refl, sym, ◌∙◌, subst}
-use mathlib.Core.Logic.{◌≢◌, ◌⊎◌, inl, inr, ⊎_elim}
+use mathlib.Core.Logic.{◌⊎◌, inl, inr, ⊎_elim}
 use mathlib.Core.Bool.{Bool, true, false, cond, ◌&&◌, not, true≢false, false≢true}
 use mathlib.Core.List.{List, [], ◌∷◌}
 use Prim.Native.Nat.{ℕ, zero, suc, ◌≤◌, ◌<◌}
@@ -8,7 +8,7 @@ use native.Mathlib.Omega.{arith}
 use lib.Dec.{leb, ltb, eqb}
 use borrow.Author.Tests.{eq-eqb, ne_eqb, eqb-true, eqb-false, lt-ltb, ltb-true, le-ltb, le-leb, leb-true, lt-leb}
 use Rattle.text.proofs.Classes.{and_is, or_is}
-use Rattle.list.specs.Listing.{Kind, group, choice, leaf, several, Rule, both, Listing, size, row_at, Child, is_group, is_choice, required, next_due, up}
+use Rattle.list.specs.Listing.{Kind, group, choice, leaf, Rule, both, Listing, size, row_at, Child, is_group, is_choice, required, next_due, up}
 use Rattle.list.specs.tables.Table.{cell}
 use Rattle.list.specs.tables.Sound.{first_of, second_of}
 use Rattle.list.proofs.rows.Next.{next_due_lem, none_due}

@@ -21,7 +21,7 @@ use Rattle.value.specs.types.Amount.{Bounded}
 use Rattle.value.specs.parts.Numeral as A
 use Rattle.value.specs.parts.Former.{former, present, Fraction, no_fraction, decimals, FractionOk, micros, Zone, zulu, ahead, behind, ZoneOk, offset, MomentBy, ordinary}
 use Rattle.value.specs.types.Moment.{Parts}
-use Rattle.value.specs.Value.{Value, text, day, moment, IsValue, Spelt}
+use Rattle.value.specs.Value.{Value, moment, IsValue, Spelt}
 use Rattle.value.specs.parts.Form.{Form, Left}
 use Rattle.value.specs.Rules.{InThousandths}
 use Rattle.value.proofs.classes.Classes.{digit_yes}

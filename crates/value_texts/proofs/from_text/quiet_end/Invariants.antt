@@ -1,0 +1,13 @@
+-- `from_text::quiet_end` meets its contract: what is still to come from `i` makes up the answer from `at`. Assumes nothing.
+use mathlib.Core.Path.{◌≡◌}
+use Prim.Native.Nat.{◌+◌, ◌-◌}
+use lib.ListN.{length, drop}
+use Rattle.text.specs.Lists.{span}
+use Rattle.value.specs.mirror.Texts.{quiet_of}
+use Rattle.value_texts.proofs.from_text.quiet_end.Given as goal
+
+abbrev pub invariant-loop-i : goal.invariant-loop-i
+invariant-loop-i l = l.i + span (quiet_of l.strict) (drop l.i l.s) ≡ l.at + span (quiet_of l.strict) (drop l.at l.s)
+
+abbrev pub decreases-loop-i : goal.decreases-loop-i
+decreases-loop-i l = length l.s - l.i
