@@ -1,4 +1,6 @@
 // Whether an image is written at all, and its first bytes, as both passes that write one put them.
+#![tactic(auto)]
+
 ghost use Rattle.std.specs.Prelude.{◌≡◌, ◌≢◌, ◌≤◌, length};
 ghost use Rattle.text.specs.Pasting.{pasted};
 ghost use Rattle.value.specs.Judged.{Exactly};

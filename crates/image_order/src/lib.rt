@@ -1,5 +1,7 @@
 // Which row may come directly after which. The row of the last item is all that is remembered: siblings come in row order and the
 // open groups are the last item's ancestors, so that each level's last child so far is the ancestor on it.
+#![tactic(auto)]
+
 ghost use Rattle.std.specs.Prelude.{◌≡◌};
 ghost use Rattle.image.specs.mirror.Step.{is_leaf, again, owed, before, mated, in_order, beside, inside, climbs, follows, rests, ended};
 

@@ -10,7 +10,7 @@ use lib.Seq.{slice}
 use Rattle.answer.specs.declared.Answer.{Answer}
 use Rattle.answer.specs.Table.{accepted, broken_image, picked}
 use Rattle.text.specs.Bytes.{ascii, is_capital}
-use Rattle.text.specs.Numbers.{big_endian, number_from}
+use Rattle.text.specs.Numbers.{number_from}
 use Rattle.text_characters.specs.mirror.Decoding.{decoded}
 use Rattle.list.specs.tables.Numbers.{is_group_in}
 use Rattle.list.specs.tables.Table.{cell, list_of}
@@ -29,7 +29,7 @@ use Rattle.image.specs.mirror.Run.{Turn, stop, next, Comes, halts, moves, steps,
 use Rattle.image.specs.Example.{printed_body, printed, written}
 use Rattle.image_reading.specs.Reads.{HouseReads, HouseCounts, HousePicks}
 use Rattle.image_reading.specs.Forms.{Begun, Fronts}
-use Rattle.image_reading.specs.mirror.Front.{version_of, Starts}
+use Rattle.image_reading.specs.mirror.Front.{version_of}
 use Rattle.image_reading.specs.declared.front.Reading.{Reading}
 use Rattle.image_reading.proofs.Heads.{good_kind}
 use Rattle.image_reading.proofs.House.{Says, starts_former, starts_current, front_starts, begins_with, begins_not, begun_reads, begun_counts, begun_picks}

@@ -11,7 +11,7 @@ use lib.Seq.{length-take-le, drop_at}
 use Rattle.answer.specs.declared.Answer.{Answer}
 use Rattle.answer.specs.Table.{limit, accepted, too_long, no_header, wrong_version, broken_image, no_such_leaf}
 use Rattle.text.specs.Bytes.{ascii}
-use Rattle.list.specs.Listing.{Listing, row_at, is_group}
+use Rattle.list.specs.Listing.{Listing, row_at}
 use Rattle.list.specs.Content.{Content, Meets}
 use Rattle.list.specs.tables.Table.{list_of}
 use Rattle.list.specs.tables.Sound.{Sound}
@@ -23,7 +23,7 @@ use Rattle.list_house.specs.Kind.{house_kind}
 use Rattle.list_house.proofs.HouseKind.{stored_kind, low_group}
 use Rattle.list_house.proofs.Lists.{house_stored, stored_house_byte, kept_is, kept_sound, kept_well, bytes_tell}
 use Rattle.value.specs.Value.{Value, IsValue}
-use Rattle.image.specs.Image.{versioned, header, body}
+use Rattle.image.specs.Image.{versioned, body}
 use Rattle.image.specs.Kinds.{values}
 use Rattle.image.specs.Place.{Holds, Tells, held, broke, Front, current, earlier, Among, Apart, over, foreign, version, kindless, broken, whole_image}
 use Rattle.image.specs.Count.{Taken, counted, headless, uncounted}

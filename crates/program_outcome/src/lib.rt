@@ -1,4 +1,6 @@
 // What a program writes for an answer: what the call put into the buffer that it was lent, or the line of a refusal.
+#![tactic(auto)]
+
 ghost use Rattle.program_outcome.specs.Outcome.{Outcome};
 
 use answer::Answer;

@@ -1,4 +1,6 @@
 // The lines that answer a feed: the line of an answer, the line of a broken feed. A line is written whole from the start of a buffer on, or not at all.
+#![tactic(auto)]
+
 ghost use Rattle.std.specs.Prelude.{◌≡◌, ◌+◌, ◌≤◌, length};
 ghost use Rattle.text.specs.Pasting.{pasted};
 ghost use Rattle.program_reply.specs.Reply.{answer_line, pair_line, broken_line, Put, longest_answer, longest_pair, longest_broken};

@@ -1,4 +1,5 @@
 // Up to a byte, and over it. A place past the end is its own answer.
+#![tactic(auto)]
 
 ghost use Rattle.std.specs.Prelude.{◌≡◌, ◌+◌, drop};
 ghost use Rattle.text.specs.Lists.{span};

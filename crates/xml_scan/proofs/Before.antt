@@ -6,14 +6,13 @@ use mathlib.Core.List.{List, [], ◌∷◌}
 use Prim.Native.Nat.{ℕ, ◌+◌, ◌≤◌, ◌<◌}
 use native.Mathlib.Decide.{ℕ_discrete, dec_lt}
 use native.Mathlib.Omega.{arith}
-use lib.Dec.{eqb}
 use lib.ListN.{length, get_or, drop}
 use borrow.Author.Tests.{ne_eqb}
 use Rattle.text.specs.Bytes.{ascii, is_blank, is_name_start}
 use Rattle.text.specs.Lists.{span}
 use Rattle.text.specs.Words.{starts}
 use Rattle.text.proofs.Parts.{starts_is, starts_not}
-use Rattle.xml.specs.mirror.Auto.{start, first, before, root, declare, dead, at, declare_next, next}
+use Rattle.xml.specs.mirror.Auto.{start, first, before, root, dead, at, declare_next, next}
 use Rattle.xml_scan.specs.mirror.Goes.{fate, Goes}
 use Rattle.xml_pieces.specs.Over.{Over}
 use Rattle.xml_pieces.specs.Kinds.{IsWord}

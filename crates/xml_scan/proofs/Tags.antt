@@ -6,14 +6,13 @@ use mathlib.Core.List.{List, [], ◌∷◌}
 use Prim.Native.Nat.{ℕ, zero, suc, ◌+◌, ◌-◌, ◌≤◌, ◌<◌}
 use native.Mathlib.Decide.{dec_lt}
 use native.Mathlib.Omega.{arith}
-use lib.Dec.{eqb}
 use lib.ListN.{length, get_or, set, drop}
 use lib.Seq.{slice}
 use borrow.Author.Tests.{ne_eqb}
 use Rattle.text.specs.Bytes.{is_blank, is_name_start}
 use Rattle.text.specs.Lists.{span}
 use Rattle.text.proofs.Spans.{span_go}
-use Rattle.xml.specs.mirror.Auto.{Mode, grows, may_stop, name, tail, gap, attr, equals, slash, content, dead, at, member, after, next}
+use Rattle.xml.specs.mirror.Auto.{Mode, grows, may_stop, tail, gap, attr, equals, slash, content, dead, at, member, after, next}
 use Rattle.xml.proofs.Basics.{blank_no_start}
 use Rattle.xml_scan.specs.mirror.Goes.{fate, GoesEquals}
 use Rattle.xml_scan.specs.mirror.Tags.{names, Held, Named, GoesName, GoesAttribute, GoesEnd, GoesTag}

@@ -1,5 +1,7 @@
 // Where a text stops being house XML. One pass over the bytes, no heap; a function for each construct, which goes over it by
 // spans and answers the place after it, or the place at which no house XML text goes on.
+#![tactic(auto)]
+
 ghost use Rattle.xml_scan.specs.mirror.Classes.{Classed};
 ghost use Rattle.xml_scan.specs.Right.{Right};
 

@@ -31,7 +31,7 @@ seek-requires c κs =
     let pre = at_head.before.before.before.before.before.requires in (
       fill_stands _ _ _ _ _ _ pre at_head.put-head.ensures.0.1 _ _ _ _ at-loop.loop.invariant _ c.blanks-end.ensures,
       fill_bare _ _ _ _ _ _ pre at_head.put-head.ensures.0.1 _ _ _ _ at-loop.loop.invariant _ c.blanks-end.ensures,
-      law.fill-low _ _ _ _ _ _ pre at_head.put-head.ensures.0.1 _ _ _ _ at-loop.loop.invariant _ c.blanks-end.ensures,
+      law.fill_low _ _ _ _ _ _ pre at_head.put-head.ensures.0.1 _ _ _ _ at-loop.loop.invariant _ c.blanks-end.ensures,
     )
 
 mul-info : tie.Need-overflow-mul-info invariant-loop decreases-loop
@@ -118,7 +118,7 @@ loop-less c =
     let at-loop = at-blanks.before in
     let at_head = at-loop.before.before.before in
     let pre = at_head.before.before.before.before.before.requires in
-    law.fill-less _ _ _ _ _ _ pre at_head.put-head.ensures.0.1 _ _ _ _ at-loop.loop.invariant _ at-blanks.blanks-end.ensures _ at-seek.seek.ensures at-if1.if1.false _ _ _ at-put.put.ensures
+    law.fill_less _ _ _ _ _ _ pre at_head.put-head.ensures.0.1 _ _ _ _ at-loop.loop.invariant _ at-blanks.blanks-end.ensures _ at-seek.seek.ensures at-if1.if1.false _ _ _ at-put.put.ensures
 
 loop-again : tie.Need-loop-preserved invariant-loop decreases-loop
 loop-again c =

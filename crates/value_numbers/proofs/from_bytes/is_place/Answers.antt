@@ -1,0 +1,19 @@
+-- `from_bytes::is_place` meets its contract. Assumes nothing.
+use mathlib.Core.Path.{◌∙◌, ap}
+use Prim.Native.Nat.{ℕ}
+use native.Mathlib.Omega.{arith}
+use lib.Dec.{leb}
+use lib.ListN.{get_or}
+use borrow.Author.Tests.{le-leb, lt-leb}
+use Rattle.value.specs.mirror.Judges.{is_place}
+use Rattle.value_numbers.proofs.from_bytes.is_place.Goals as goal
+
+pub returns-then-n-eq0 : goal.returns-then-n-eq0
+unfolding is_place
+returns-then-n-eq0 c =
+    rw (lt-leb 1 (get_or c.args.b.now 0 0) (omega (arith, c.wide-n.ensures ∙ c.byte.ensures, c.if-n-eq0.true)))
+
+pub returns : goal.returns
+unfolding is_place
+returns c =
+    rw (le-leb 1 (get_or c.args.b.now 0 0) (omega (arith, c.wide-n.ensures ∙ c.byte.ensures, c.if-n-eq0.false))) (ap (λ (x : ℕ). leb x c.args.words) (c.wide-n.ensures ∙ c.byte.ensures))
