@@ -78,12 +78,26 @@ fn answer_all<R: Read, P: Print>(
 }
 
 // The longest case, the largest rooms and the longest line.
+const CASE: usize = HEAD + LONGEST;
+
+// Answers the feed in these.
+fn answer_feed<R: Read, P: Print>(
+    input: &mut R,
+    rt: &P,
+    space: &mut [u8; CASE],
+    buffer: &mut [u8; Answer::LIMIT],
+    second: &mut [u8; Answer::LIMIT],
+    line: &mut [u8; LINE],
+) -> Result<()> {
+    answer_all(input, rt, space, buffer, second, line)
+}
+
 fn main(rt: HostRuntime) -> Result<()> {
-    let mut space = [0u8; HEAD + LONGEST];
+    let mut space = [0u8; CASE];
     let mut buffer = [0u8; Answer::LIMIT];
     let mut second = [0u8; Answer::LIMIT];
     let mut line = [0u8; LINE];
-    answer_all(
+    answer_feed(
         &mut rt.stdin(),
         &rt,
         &mut space,
