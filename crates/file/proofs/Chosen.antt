@@ -10,7 +10,7 @@ use Rattle.answer.specs.Table as table
 use Rattle.text.specs.Bytes.{ascii}
 use Rattle.text.specs.Lists.{same}
 use Rattle.text.proofs.Parts.{same_eq, same_of}
-use Rattle.list.specs.Listing.{Listing, row_at}
+use Rattle.list.specs.Listing.{Listing}
 use Rattle.list.specs.Content.{Content}
 use Rattle.list.specs.Within.{Among}
 use Rattle.list_house.specs.House.{house}

@@ -12,7 +12,7 @@ use Rattle.text_characters.proofs.Spelling.{spells_none}
 use Rattle.list.specs.Listing.{Leaf, ref, iban, ccy, bool, num, amt, date, dtm, txt, enum, Kind, group, choice, leaf, Listing, row_at}
 use Rattle.list.specs.WellFormed.{LeafOk, KindOk, WellFormed}
 use Rattle.list.specs.Content.{Content, end, value, node, items}
-use Rattle.xml.specs.House.{IsName, mark, Attr, attr, attrs, Tag, tag, GoodTag, Markup as Tags, no_more as over, piece, empty_tag, full, render, GoodMarkup, OneElement, declaration, whole}
+use Rattle.xml.specs.House.{IsName, mark, Attr, attr, attrs, Tag, tag, GoodTag, Markup as Tags, no_more as over, piece, empty_tag, full, render, GoodMarkup, OneElement, declaration}
 use Rattle.xml.specs.Message.{Attrs, Inside, attrs_of, parts_of, root_at}
 use Rattle.value.specs.Laws.{extra}
 use Rattle.file_walk.specs.Types.{Spelling}

@@ -1,1 +1,3 @@
+#![tactic(auto)]
+
 // Files: which are good, their content, what check may answer, and what follows from that.

@@ -1,5 +1,7 @@
 // The front of a file: a declaration or none, blanks, and the root's tag with its namespace and schema hints in any order. Where the tag is written in
 // another way, nothing is told.
+#![tactic(auto)]
+
 mod spaces; // spaces.rt: the namespaces of the lists
 mod quoted; // quoted.rt: values in quotes
 mod attributes; // attributes.rt: the attributes of the root's tag

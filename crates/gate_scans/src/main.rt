@@ -1,5 +1,7 @@
 // Scans each text of its input, and writes a line for each: `whole`, or `stops` and the place. A text is a 16-bit big-endian
 // length and so many bytes. The answers that it is held to were computed by another program.
+#![tactic(auto)]
+
 ghost use Rattle.std.specs.Prelude.{◌<◌};
 
 use program_input::read_full;

@@ -1,4 +1,6 @@
 // The reader: the items of an image from a place of a run on, one by one. No item is read twice, and the row of the last one is all that is kept.
+#![tactic(auto)]
+
 ghost use Rattle.std.specs.Prelude.{◌≡◌, ◌<◌};
 ghost use Rattle.image.specs.mirror.Ends.{item_end};
 ghost use Rattle.answer.specs.Table.{accepted, broken_image};

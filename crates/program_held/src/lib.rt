@@ -1,4 +1,6 @@
 // What a call's answer hands back, and the lines of answers that hand back no bytes of a buffer.
+#![tactic(auto)]
+
 ghost use Rattle.std.specs.Prelude.{◌≡◌, [], ◌≤◌, length};
 ghost use Rattle.text.specs.Numbers.{big_endian};
 ghost use Rattle.program_reply.specs.Reply.{answer_line, held_length, Put, longest_answer, longest_count};

@@ -30,7 +30,7 @@ use Rattle.file_walk.specs.First.{First, first_violation}
 use Rattle.file_walk.proofs.violation.Accept.{accept}
 use Rattle.file.specs.Instance.{Kinds, house_kinds}
 use Rattle.file.specs.File.{Whole, message_in, File, image_of}
-use Rattle.file.specs.Checks.{Answers, Chosen, Checks, long, bad_bytes, markup, violation, room, imaged}
+use Rattle.file.specs.Checks.{Answers, Chosen, Checks, long, markup, violation, room, imaged}
 use Rattle.file.proofs.answers.House.{spelling, house_judge, deciding}
 use Rattle.file.proofs.answers.One.{message_one, answers_one}
 use Rattle.file.proofs.Chosen.{list_for, list_among, list_chosen}

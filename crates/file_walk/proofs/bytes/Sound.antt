@@ -1,6 +1,6 @@
 -- In sound tables the numbers and tests over cells are those over the list. Assumes nothing.
 use mathlib.Core.Path.{◌≡◌, refl, sym, ◌∙◌, ap, ap₂, subst}
-use mathlib.Core.Logic.{◌≢◌, ◌⊎◌, inl, inr}
+use mathlib.Core.Logic.{◌⊎◌, inl, inr}
 use mathlib.Core.Bool.{Bool, true, false, cond, ◌&&◌, ◌||◌, not, false≢true}
 use mathlib.Core.List.{List, [], ◌∷◌}
 use Prim.Native.Nat.{ℕ, ◌≤◌, ◌<◌}
@@ -11,7 +11,6 @@ use Rattle.answer.specs.Table as table
 use Rattle.list.specs.Listing.{Kind, group, choice, leaf, Listing, size, row_at, Child, is_group, is_choice, at_most_once}
 use Rattle.list.specs.tables.Table.{cell, words_in, list_of}
 use Rattle.list.specs.tables.Sound.{Sound}
-use Rattle.list.specs.tables.Sound.{first_of as mate, second_of as pair}
 use Rattle.list.proofs.rows.Along.{due_after_lem}
 use Rattle.list.proofs.rows.Codes.{single_is, choice_is, group_is}
 use Rattle.list.proofs.rows.Rows.{size_is, kind_is, count_is}

@@ -8,7 +8,7 @@ use Rattle.list.specs.Listing.{Leaf, Kind, group, choice, leaf, Listing, child, 
 use Rattle.list.specs.WellFormed.{KindOk, WellFormed}
 use Rattle.list.specs.Content.{Content, end, value, node, items}
 use Rattle.xml.specs.Message.{Attrs, Inside, nothing_inside, character, element}
-use Rattle.xml_tags.specs.Story.{Event, char as text, leave, events}
+use Rattle.xml_tags.specs.Story.{Event, leave, events}
 use Rattle.file_walk.specs.declared.level.Level.{Level}
 use Rattle.file_walk.specs.Types.{Types}
 use Rattle.file_walk.specs.First.{text_of, currency_given, kind_of}

@@ -1,9 +1,9 @@
 -- The walk with five numbers for each open element finds the first violation. Assumes nothing.
 use mathlib.Core.Path.{◌≡◌, refl, sym, ◌∙◌, ap, subst}
-use mathlib.Core.Logic.{◌≢◌, inl, inr}
+use mathlib.Core.Logic.{inl, inr}
 use mathlib.Core.Bool.{Bool, true, false, cond, ◌&&◌, ◌||◌, not, true≢false, false≢true}
 use mathlib.Core.List.{List, [], ◌∷◌, ◌++◌, append_assoc, append-nil}
-use Prim.Native.Nat.{ℕ, ◌+◌, ◌≤◌, ◌<◌}
+use Prim.Native.Nat.{ℕ, ◌≤◌, ◌<◌}
 use native.Mathlib.Omega.{arith}
 use native.Mathlib.Decide.{ℕ_discrete, dec_lt}
 use lib.Dec.{eqb, ltb}
@@ -17,7 +17,7 @@ use Rattle.list.specs.WellFormed.{WellFormed}
 use Rattle.list.specs.tables.Sound.{first_of as mate, second_of as pair}
 use Rattle.list.proofs.rows.Words.{first_from_ext, times_hit, times_miss, has_of, each_at, each_of}
 use Rattle.xml.specs.Message.{Attrs, Inside, nothing_inside, character, element}
-use Rattle.xml_tags.specs.Story.{Event, char as text, leave, events}
+use Rattle.xml_tags.specs.Story.{Event, leave, events}
 use Rattle.file_walk.specs.declared.level.Level.{Level}
 use Rattle.file_walk.specs.declared.found.Found.{Found}
 use Rattle.file_walk.specs.declared.found.Found.TheVariants.{Fine}

@@ -6,10 +6,10 @@ use mathlib.Core.List.{List, [], ◌∷◌}
 use Prim.Native.Nat.{ℕ, zero, suc, ◌+◌, ◌≤◌, ◌<◌}
 use native.Mathlib.Omega.{arith}
 use native.Mathlib.Decide.{ℕ_discrete, dec_lt}
-use lib.Dec.{eqb, ltb}
+use lib.Dec.{eqb}
 use borrow.Author.Tests.{eqb-true, eq-eqb, ne_eqb, le-ltb}
 use Rattle.text.specs.Lists.{Each}
-use Rattle.list.specs.Words.{times, has, first_from}
+use Rattle.list.specs.Words.{times, has}
 use Rattle.list.specs.Listing.{Listing, row_at, size, Child, required, next_due}
 use Rattle.text.proofs.Classes.{and_is}
 use Rattle.list.proofs.sound.Tests.{by_cases, clash}

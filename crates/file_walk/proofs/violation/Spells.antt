@@ -1,7 +1,7 @@
 -- What `Denotes` asks of a leaf's element, by the kind of its row. Assumes nothing.
 use mathlib.Core.Path.{◌≡◌, refl, sym, subst}
 use mathlib.Core.Bool.{Bool, true, false, false≢true}
-use mathlib.Core.List.{List, [], ◌∷◌, nil≢cons}
+use mathlib.Core.List.{[], nil≢cons}
 use Prim.Native.Nat.{ℕ}
 use Rattle.list.specs.Listing.{Leaf, Kind, group, choice, leaf, Listing, row_at}
 use Rattle.xml.specs.Message.{Attrs, Inside, nothing_inside, character, element}

@@ -1,0 +1,10 @@
+-- `attributes::with_prefix` meets its contract. Assumes nothing.
+use mathlib.Core.Path.{refl}
+use Rattle.file_front.specs.mirror.Attributes.{tied}
+use Rattle.file_front.proofs.attributes.with_prefix.Goals as goal
+
+pub returns-then-seen : goal.returns-then-seen
+returns-then-seen c = λ z. absurd (z c.lost.ensures)
+
+pub returns : goal.returns
+returns c = λ z. record { quoted = c.value_end.ensures z; notes = tied refl c.if-seen.false refl refl refl }

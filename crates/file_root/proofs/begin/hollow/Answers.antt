@@ -1,0 +1,10 @@
+-- `begin::hollow` meets its contract. Assumes nothing.
+use borrow.Author.Tests.{not-true, not-false}
+use Rattle.file_walk.proofs.calls.Root.{hollow_no, hollow_yes}
+use Rattle.file_root.proofs.begin.hollow.Goals as goal
+
+pub returns-then-not-root : goal.returns-then-not-root
+returns-then-not-root c = hollow_no _ _ _ _ _ c.refused.ensures (not-true _ c.if-not-root.true-raw) c.wrong_root.ensures
+
+pub returns : goal.returns
+returns c = hollow_yes _ _ _ _ _ c.refused-2.ensures (not-false _ c.if-not-root.false-raw) c.empty.ensures
