@@ -29,7 +29,7 @@ def files(root):
 
 
 def walked(path):
-    return os.path.basename(path) in ("Proof.antt", "Answers.antt", "Invariants.antt")
+    return os.path.basename(path) == "Proof.antt"
 
 
 def read(path):

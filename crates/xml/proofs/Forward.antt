@@ -167,7 +167,7 @@ module _ (q : Quote) (k : ℕ) (ss : List (List ℕ)) (d : ℕ) (n : List ℕ) (
 
   mark_lead : lead (mark q) ≡ all
   unfolding lead
-  mark_lead = elim q [ single_quote ↦ refl | double ↦ refl ]
+  mark_lead = elim q as (λ z. lead (mark z) ≡ all) [ single_quote ↦ refl | double ↦ refl ]
 
   value_piece : (p : Piece) (w : List ℕ) → p ≢ char (mark q) → Seen p → run (at (value q k ss d n ns)) (spell p ++ w) ≡ run (at (value q k ss d n ns)) w
   unfolding next

@@ -44,11 +44,11 @@ spell_avoids x (char c) a n = encode_avoids x c a.ascii (λ e. n (ap char e))
 spell_avoids x (entity e) a n = all_passed (but x) (word e) (a.words e)
 
 less_apart : Apart less
-less_apart = record { ascii = omega arith; words = λ e. elim e [ amp ↦ refl | lt ↦ refl | gt ↦ refl | quot ↦ refl | apos ↦ refl ] }
+less_apart = record { ascii = omega arith; words = λ e. elim e as (λ z. passed (but less) (word z) ≡ true) [ amp ↦ refl | lt ↦ refl | gt ↦ refl | quot ↦ refl | apos ↦ refl ] }
 
 mark_apart : (q : Quote) → Apart (mark q)
-mark_apart single_quote = record { ascii = omega arith; words = λ e. elim e [ amp ↦ refl | lt ↦ refl | gt ↦ refl | quot ↦ refl | apos ↦ refl ] }
-mark_apart double = record { ascii = omega arith; words = λ e. elim e [ amp ↦ refl | lt ↦ refl | gt ↦ refl | quot ↦ refl | apos ↦ refl ] }
+mark_apart single_quote = record { ascii = omega arith; words = λ e. elim e as (λ z. passed (but (mark single_quote)) (word z) ≡ true) [ amp ↦ refl | lt ↦ refl | gt ↦ refl | quot ↦ refl | apos ↦ refl ] }
+mark_apart double = record { ascii = omega arith; words = λ e. elim e as (λ z. passed (but (mark double)) (word z) ≡ true) [ amp ↦ refl | lt ↦ refl | gt ↦ refl | quot ↦ refl | apos ↦ refl ] }
 
 no_less : (p : Piece) → GoodPiece p → p ≢ char less
 no_less (char c) g e = g.1 (cc)

@@ -22,64 +22,64 @@ use Rattle.list.proofs.rows.Words.{same_eq, same_refl}
 
 -- ---- the first of some answers
 
-pub or-fine : (f g : Found) → or_else f g ≡ Fine → (f ≡ Fine) × (g ≡ Fine)
-or-fine Fine g e = (refl, e)
-or-fine (Violation a) g e = let z : ◌≡◌ {A = ℕ} 0 1 = cc in absurd (omega arith)
+pub or_fine : (f g : Found) → or_else f g ≡ Fine → (f ≡ Fine) × (g ≡ Fine)
+or_fine Fine g e = (refl, e)
+or_fine (Violation a) g e = let z : ◌≡◌ {A = ℕ} 0 1 = cc in absurd (omega arith)
 
 pub or_right : (a : Found) → or_else a Fine ≡ a
 or_right Fine = refl
 or_right (Violation x) = refl
 
-pub or-when : (a x y : Found) → (a ≡ Fine → x ≡ y) → or_else a x ≡ or_else a y
-or-when Fine x y f = f refl
-or-when (Violation v) x y f = refl
+pub or_when : (a x y : Found) → (a ≡ Fine → x ≡ y) → or_else a x ≡ or_else a y
+or_when Fine x y f = f refl
+or_when (Violation v) x y f = refl
 
 pub or_assoc : (a b c : Found) → or_else (or_else a b) c ≡ or_else a (or_else b c)
 or_assoc Fine b c = refl
 or_assoc (Violation v) b c = refl
 
-pub refuse-no : (b : Bool) (a : Answer) → refuse b a ≡ Fine → b ≡ false
-refuse-no true a e = let z : ◌≡◌ {A = ℕ} 0 1 = cc in absurd (omega arith)
-refuse-no false a e = refl
+pub refuse_no : (b : Bool) (a : Answer) → refuse b a ≡ Fine → b ≡ false
+refuse_no true a e = let z : ◌≡◌ {A = ℕ} 0 1 = cc in absurd (omega arith)
+refuse_no false a e = refl
 
 -- ---- both, and not
 
-pub and-not : (a b : Bool) → (a && b) ≡ false → a ≡ true → b ≡ false
-and-not true b e f = e
-and-not false b e f = absurd (false≢true f)
+pub and_not : (a b : Bool) → (a && b) ≡ false → a ≡ true → b ≡ false
+and_not true b e f = e
+and_not false b e f = absurd (false≢true f)
 
-pub imp-and : (a b : Bool) → (a ≡ true → b ≡ false) → (a && b) ≡ false
-imp-and true b f = f refl
-imp-and false b f = refl
+pub imp_and : (a b : Bool) → (a ≡ true → b ≡ false) → (a && b) ≡ false
+imp_and true b f = f refl
+imp_and false b f = refl
 
 -- two tests that imply each other are equal
-pub iff-same : (a b : Bool) → (a ≡ true → b ≡ true) → (b ≡ true → a ≡ true) → a ≡ b
-iff-same true b f g = sym (f refl)
-iff-same false true f g = absurd (false≢true (g refl))
-iff-same false false f g = refl
+pub iff_same : (a b : Bool) → (a ≡ true → b ≡ true) → (b ≡ true → a ≡ true) → a ≡ b
+iff_same true b f g = sym (f refl)
+iff_same false true f g = absurd (false≢true (g refl))
+iff_same false false f g = refl
 
 -- ---- lists and attributes
 
-pub empty-no : (rs : List ℕ) → is_empty rs ≡ false → 0 < length rs
-empty-no [] e = absurd (true≢false e)
-empty-no (r ∷ rs) e = omega arith
+pub empty_no : (rs : List ℕ) → is_empty rs ≡ false → 0 < length rs
+empty_no [] e = absurd (true≢false e)
+empty_no (r ∷ rs) e = omega arith
 
-pub no-empty : (rs : List ℕ) → 0 < length rs → is_empty rs ≡ false
-no-empty [] h = absurd (omega arith)
-no-empty (r ∷ rs) h = refl
+pub no_empty : (rs : List ℕ) → 0 < length rs → is_empty rs ≡ false
+no_empty [] h = absurd (omega arith)
+no_empty (r ∷ rs) h = refl
 
-pub empty-yes : {A : Type 0} (rs : List A) → is_empty rs ≡ true → rs ≡ []
-empty-yes [] e = refl
-empty-yes (r ∷ rs) e = absurd (false≢true e)
+pub empty_yes : {A : Type 0} (rs : List A) → is_empty rs ≡ true → rs ≡ []
+empty_yes [] e = refl
+empty_yes (r ∷ rs) e = absurd (false≢true e)
 
 -- not passed: each is at most r
-pub passed-no : (r : ℕ) (rs : List ℕ) → passed r rs ≡ false → Each (λ q. q ≤ r) rs
-passed-no r [] e = tt
-passed-no r (q ∷ rs) e = let w = or_not (ltb r q) (passed r rs) e in (ltb-false r q w.0, passed-no r rs w.1)
+pub passed_no : (r : ℕ) (rs : List ℕ) → passed r rs ≡ false → Each (λ q. q ≤ r) rs
+passed_no r [] e = tt
+passed_no r (q ∷ rs) e = let w = or_not (ltb r q) (passed r rs) e in (ltb-false r q w.0, passed_no r rs w.1)
 
-pub no-passed : (r : ℕ) (rs : List ℕ) → Each (λ q. q ≤ r) rs → passed r rs ≡ false
-no-passed r [] e = refl
-no-passed r (q ∷ rs) e = rw (le-ltb r q e.0) (no-passed r rs e.1)
+pub no_passed : (r : ℕ) (rs : List ℕ) → Each (λ q. q ≤ r) rs → passed r rs ≡ false
+no_passed r [] e = refl
+no_passed r (q ∷ rs) e = rw (le-ltb r q e.0) (no_passed r rs e.1)
 
 pub only_yes : (n v : List ℕ) (ats : Attrs) → only n v ats ≡ true → ats ≡ (n, v) ∷ []
 only_yes n v [] e = absurd (false≢true e)
@@ -88,19 +88,19 @@ only_yes n v (a ∷ []) e =
     rw (same_eq n a.0 w.0, same_eq v a.1 w.1)
 only_yes n v (a ∷ b ∷ ats) e = absurd (false≢true e)
 
-pub yes-only : (n v : List ℕ) (ats : Attrs) → ats ≡ (n, v) ∷ [] → only n v ats ≡ true
-yes-only n v ats e = rw (e, same_refl n, same_refl v)
+pub yes_only : (n v : List ℕ) (ats : Attrs) → ats ≡ (n, v) ∷ [] → only n v ats ≡ true
+yes_only n v ats e = rw (e, same_refl n, same_refl v)
 
 -- a group has no attributes
-pub group-attrs : (j : Judge) (k : Kind) (ats : Attrs) → is_group k ≡ true → attrs_ok j k ats ≡ true → ats ≡ []
-group-attrs j group ats g e = empty-yes ats e
-group-attrs j choice ats g e = empty-yes ats e
-group-attrs j (leaf f) ats g e = absurd (false≢true g)
+pub group_attrs : (j : Judge) (k : Kind) (ats : Attrs) → is_group k ≡ true → attrs_ok j k ats ≡ true → ats ≡ []
+group_attrs j group ats g e = empty_yes ats e
+group_attrs j choice ats g e = empty_yes ats e
+group_attrs j (leaf f) ats g e = absurd (false≢true g)
 
-pub attrs-group : (j : Judge) (k : Kind) (ats : Attrs) → is_group k ≡ true → ats ≡ [] → attrs_ok j k ats ≡ true
-attrs-group j group ats g e = rw e
-attrs-group j choice ats g e = rw e
-attrs-group j (leaf f) ats g e = absurd (false≢true g)
+pub attrs_group : (j : Judge) (k : Kind) (ats : Attrs) → is_group k ≡ true → ats ≡ [] → attrs_ok j k ats ≡ true
+attrs_group j group ats g e = rw e
+attrs_group j choice ats g e = rw e
+attrs_group j (leaf f) ats g e = absurd (false≢true g)
 
 -- ---- kinds and values
 

@@ -62,7 +62,10 @@ unfolding mate
 mate_ruled [] b h = absurd (h refl)
 mate_ruled (both g x y ∷ qs) b h = elim (ℕ_discrete y b) [
   | yes e ↦ (g, inl (refl, rw (eq-eqb y b e), e))
-  | no e ↦ rw (ne_eqb y b e) (let r = mate_ruled qs b (rw (ne_eqb y b e) at h) in (r.0, inr r.1))
+  | no e ↦
+      let is : mate (both g x y ∷ qs) b ≡ mate qs b = rw (ne_eqb y b e) refl in
+      let r = mate_ruled qs b (λ z. h (is ∙ z)) in
+      (r.0, inr (subst (λ z. Among r.0 z b qs) (sym is) r.1))
 ]
 
 pair_ruled : (qs : List Rule) (a : ℕ) → pair qs a ≢ 0 → (g : ℕ) × Among g a (pair qs a) qs
@@ -70,7 +73,10 @@ unfolding pair
 pair_ruled [] a h = absurd (h refl)
 pair_ruled (both g x y ∷ qs) a h = elim (ℕ_discrete x a) [
   | yes e ↦ (g, inl (refl, e, rw (eq-eqb x a e)))
-  | no e ↦ rw (ne_eqb x a e) (let r = pair_ruled qs a (rw (ne_eqb x a e) at h) in (r.0, inr r.1))
+  | no e ↦
+      let is : pair (both g x y ∷ qs) a ≡ pair qs a = rw (ne_eqb x a e) refl in
+      let r = pair_ruled qs a (λ z. h (is ∙ z)) in
+      (r.0, inr (subst (λ z. Among r.0 a z qs) (sym is) r.1))
 ]
 
 ruled_mate : (l : Listing) (qs : List Rule) (g a b : ℕ) → Each (RuleOk l) qs → BothOk l g a b → Among g a b qs → mate qs b ≡ a

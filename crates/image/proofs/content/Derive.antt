@@ -124,9 +124,9 @@ module _ (vs : Values) (l : Listing) where
         let is : (x, none) ∷ t ≡ (x, none) ∷ ((items c ++ items g.content) ++ g.tail) = cc (et, g.is, append_assoc (items c) (items g.content) g.tail) in
         record { content = node x c g.content; fits = (f, i, a, g.fits); tail = g.tail; is = is; then = g.then }
 
-    rest_back : {q x : ℕ} {v : Option vs.Value} {t : List (Item vs)} → q ≤ size l → Climb l x q → ItemOk vs l x v → Takes x t → Rest q ((x, v) ∷ t)
-    rest_back {q} {x} {v} b (beside h f) i k = let g = put v (0<parent h b) f i k in more h g.content g.fits g.tail g.is g.then
-    rest_back {q} {x} {v} b (out h s c) i k = let p = w.before _ h b in more h end s _ refl (rest_back {v = v} (omega arith) c i k)
+    rest_back : {x q : ℕ} {v : Option vs.Value} {t : List (Item vs)} → q ≤ size l → Climb l x q → ItemOk vs l x v → Takes x t → Rest q ((x, v) ∷ t)
+    rest_back {x} {q} {v} b (beside h f) i k = let g = put v (0<parent h b) f i k in more h g.content g.fits g.tail g.is g.then
+    rest_back {x} {q} {v} b (out h s c) i k = let p = w.before _ h b in more h end s _ refl (rest_back {v = v} (omega arith) c i k)
 
     pub back : {q x : ℕ} {v : Option vs.Value} {t : List (Item vs)} → 0 < q → q ≤ size l → Next l x q → ItemOk vs l x v → Takes x t → Takes q ((x, v) ∷ t)
     back {q} {x} {v} z b (down n f) i k = let g = put v z f i k in inside n g.content g.fits g.tail g.is g.then

@@ -21,6 +21,7 @@ Among g a b (both x y z ∷ qs) = ((x ≡ g) × (y ≡ a) × (z ≡ b)) ⊎ Amon
 
 -- what holds of each rule holds of one among them
 pub each_among : (P : Rule → Type 0) (g a b : ℕ) (qs : List Rule) → Each P qs → Among g a b qs → P (both g a b)
+each_among P g a b [] e x'' = elim x'' [ ]
 each_among P g a b (both x y z ∷ qs) e (inl h) =
     subst (λ k. P (both g a k)) h.2 (subst (λ k. P (both g k z)) h.1 (subst (λ k. P (both k y z)) h.0 e.0))
 each_among P g a b (both x y z ∷ qs) e (inr h) = each_among P g a b qs e.1 h
@@ -88,6 +89,7 @@ Later (both g a b) = 0 < b
 
 second_any : (qs : List Rule) (g a b : ℕ) → Each Later qs → Among g a b qs → 0 < second_of qs a
 unfolding second_of
+second_any [] g a b p x'' = elim x'' [ ]
 second_any (both x y z ∷ qs) g a b p (inl m) = rw (eq-eqb y a m.1) p.0
 second_any (both x y z ∷ qs) g a b p (inr m) = by_cases (eqb y a) (λ i. rw i p.0) (λ n. rw n (second_any qs g a b p.1 m))
 
