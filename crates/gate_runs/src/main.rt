@@ -5,10 +5,14 @@ ghost use Rattle.std.specs.Prelude.{◌<◌};
 
 use answer::Answer;
 use image_first::{pick, picked, read};
-use libc::{STDIN_FILENO, STDOUT_FILENO};
+use program_input::read_full;
+use std::io::{Read, Result};
 
 // How many bytes stand before a run.
 const HEAD: usize = 13;
+
+// The most bytes that a run may have.
+const ROOM: usize = 65536;
 
 // What the third and the fourth byte of a number count.
 const THIRD: usize = 256 * 256;
@@ -28,72 +32,79 @@ fn number(a: u8, b: u8, c: u8, d: u8) -> usize
     wide(a) + 256 * wide(b) + THIRD * wide(c) + FOURTH * wide(d)
 }
 
-fn write_answer(a: Answer) {
-    io::print_decimal(STDOUT_FILENO, a.code as u64);
-    io::write_all(STDOUT_FILENO, b" ");
-    io::print_decimal(STDOUT_FILENO, a.row as u64);
-    io::write_all(STDOUT_FILENO, b" ");
-    io::print_decimal(STDOUT_FILENO, a.place as u64);
-    io::write_all(STDOUT_FILENO, b" ");
+fn write_answer<P: Print>(rt: &P, a: Answer) -> Result<()> {
+    let code = a.code;
+    let row = a.row;
+    let place = a.place;
+    print!(rt; "{code} {row} {place} ")
 }
 
-fn write_part(part: &[u8]) {
+fn write_part<P: Print>(rt: &P, part: &[u8]) -> Result<()> {
     let mut i = 0;
     while i < part.len() {
-        io::print_hex(STDOUT_FILENO, wide(part[i]) as u64, 2);
+        let b = part[i];
+        print!(rt; "{b:02x}")?;
         i += 1;
     }
+    Ok(())
 }
 
 // One run's line; false where it is to be neither read nor picked from.
-fn answer_run(what: u8, row: usize, n: usize, run: &[u8]) -> bool {
+fn answer_run<P: Print>(rt: &P, what: u8, row: usize, n: usize, run: &[u8]) -> Result<bool> {
     if what == 1 {
-        write_answer(read(run));
-        io::write_all(STDOUT_FILENO, b"\n");
-        return true;
+        write_answer(rt, read(run))?;
+        rt.write_all(b"\n")?;
+        return Ok(true);
     }
     if what == 2 {
-        write_answer(pick(run, row, n));
-        write_part(picked(run, row, n));
-        io::write_all(STDOUT_FILENO, b"\n");
-        return true;
+        write_answer(rt, pick(run, row, n))?;
+        write_part(rt, picked(run, row, n))?;
+        rt.write_all(b"\n")?;
+        return Ok(true);
     }
-    false
+    Ok(false)
 }
 
 // Fills `run` from the input and answers for it; false where the input ends before.
-fn fill_run(what: u8, row: usize, n: usize, run: &mut [u8]) -> bool {
-    if io::read_full(STDIN_FILENO, run) < run.len() {
-        return false;
+fn fill_run<R: Read, P: Print>(
+    input: &mut R,
+    rt: &P,
+    what: u8,
+    row: usize,
+    n: usize,
+    run: &mut [u8],
+) -> Result<bool> {
+    if read_full(input, run)? < run.len() {
+        return Ok(false);
     }
-    answer_run(what, row, n, run)
+    answer_run(rt, what, row, n, run)
 }
 
 // The next run; false where there is none, or a longer one than the buffer.
-fn next_run() -> bool {
+fn next_run<R: Read, P: Print>(input: &mut R, rt: &P) -> Result<bool> {
     let mut head = [0u8; HEAD];
-    if io::read_full(STDIN_FILENO, &mut head) < HEAD {
-        return false;
+    if read_full(input, &mut head)? < HEAD {
+        return Ok(false);
     }
     let row = number(head[1], head[2], head[3], head[4]);
     let n = number(head[5], head[6], head[7], head[8]);
     let length = number(head[9], head[10], head[11], head[12]);
-    let mut space = io::large_buffer();
-    let room = io::count(length as isize, &space);
-    if room < length {
-        return false;
+    let mut space = [0u8; ROOM];
+    if space.len() < length {
+        return Ok(false);
     }
-    fill_run(head[0], row, n, &mut space[..room])
+    fill_run(input, rt, head[0], row, n, &mut space[..length])
 }
 
 // A proved loop has to end, and nothing says that an input does: it counts down from a number that no input uses up.
-fn answer_all() {
+fn answer_all<R: Read, P: Print>(input: &mut R, rt: &P) -> Result<()> {
     let mut turns = u64::MAX;
-    while turns > 0 && next_run() {
+    while turns > 0 && next_run(input, rt)? {
         turns -= 1;
     }
+    Ok(())
 }
 
-fn main() {
-    answer_all();
+fn main(rt: HostRuntime) -> Result<()> {
+    answer_all(&mut rt.stdin(), &rt)
 }

@@ -2,19 +2,17 @@
 // length and so many bytes. The answers that it is held to were computed by another program.
 ghost use Rattle.std.specs.Prelude.{◌<◌};
 
-use libc::{STDIN_FILENO, STDOUT_FILENO};
+use program_input::read_full;
+use std::io::Result;
 use xml_scan::Scanned;
 
-fn write_answer(answer: Scanned) {
+// The most bytes that are read.
+const ROOM: usize = 65536;
+
+fn write_answer<P: Print>(rt: &P, answer: Scanned) -> Result<()> {
     match answer {
-        Scanned::Whole => {
-            io::write_all(STDOUT_FILENO, b"whole\n");
-        }
-        Scanned::Stops(n) => {
-            io::write_all(STDOUT_FILENO, b"stops ");
-            io::print_decimal(STDOUT_FILENO, n as u64);
-            io::write_all(STDOUT_FILENO, b"\n");
-        }
+        Scanned::Whole => println!(rt; "whole"),
+        Scanned::Stops(n) => println!(rt; "stops {n}"),
     }
 }
 
@@ -24,24 +22,25 @@ fn wide(x: u8) -> usize
     x as usize
 }
 
-fn scan_all(texts: &[u8]) {
+fn scan_all<P: Print>(rt: &P, texts: &[u8]) -> Result<()> {
     let mut i = 0;
     while i < texts.len() {
         if texts.len() - i < 2 {
-            return;
+            return Ok(());
         }
         let at = i + 2;
         let n = wide(texts[i]) * 256 + wide(texts[i + 1]);
         if texts.len() - at < n {
-            return;
+            return Ok(());
         }
         i = at + n;
-        write_answer(xml_scan::scan(&texts[at..i]));
+        write_answer(rt, xml_scan::scan(&texts[at..i]))?;
     }
+    Ok(())
 }
 
-fn main() {
-    let mut input = io::large_buffer();
-    let n = io::read_full(STDIN_FILENO, &mut input);
-    scan_all(&input[..n]);
+fn main(rt: HostRuntime) -> Result<()> {
+    let mut input = [0u8; ROOM];
+    let n = read_full(&mut rt.stdin(), &mut input)?;
+    scan_all(&rt, &input[..n])
 }

@@ -3,10 +3,11 @@
 // parameter is TXTk's k, and picks the words of an ENUM, those of a report after those of a statement. The answers that it is held to were computed by another program.
 ghost use Rattle.std.specs.Prelude.{◌<◌};
 
-use libc::{STDIN_FILENO, STDOUT_FILENO};
 use list::table::{ENUM, MOST_WORDS};
 use list::word::word_place;
 use list_house::by_byte::{REPORT, rows_of};
+use program_input::read_full;
+use std::io::Result;
 use text::part::part_of;
 use text::width::WIDTH_16;
 use text_bytes::number::get16;
@@ -31,6 +32,11 @@ const HEAD: usize = TEXT + WIDTH_16;
 
 const BASE: u8 = 16;
 
+// The most bytes that are read, and those of a value.
+const ROOM: usize = 65536;
+
+const VALUE_ROOM: usize = 4096;
+
 fn digit(n: u8) -> u8 {
     match n {
         0 => b'0',
@@ -53,9 +59,9 @@ fn digit(n: u8) -> u8 {
 }
 
 // The first n bytes, or that there are none.
-fn write_answer(bytes: &[u8], n: usize) {
+fn write_answer<P: Print>(rt: &P, bytes: &[u8], n: usize) -> Result<()> {
     if n == 0 {
-        io::write_all(STDOUT_FILENO, b"refused");
+        rt.write_all(b"refused")?;
     }
     let mut i = 0;
     while i < bytes.len() {
@@ -64,10 +70,10 @@ fn write_answer(bytes: &[u8], n: usize) {
         }
         let b = bytes[i];
         let pair = [digit(b / BASE), digit(b % BASE)];
-        io::write_all(STDOUT_FILENO, &pair);
+        rt.write_all(&pair)?;
         i += 1;
     }
-    io::write_all(STDOUT_FILENO, b"\n");
+    rt.write_all(b"\n")
 }
 
 // The kind byte of the list whose words a parameter picks.
@@ -96,26 +102,25 @@ fn low(n: usize) -> u8 {
 }
 
 // The place of a word, which is its value.
-fn judge_word(parameter: u8, word: &[u8]) {
+fn judge_word<P: Print>(rt: &P, parameter: u8, word: &[u8]) -> Result<()> {
     let rows = rows_of(words_list(parameter));
     let pool = list_house::tables::pool();
     let n = word_place(&rows, &pool, words_row(parameter), word);
     let byte = [low(n)];
     if n == 0 {
-        write_answer(&byte, 0);
+        write_answer(rt, &byte, 0)
     } else {
-        write_answer(&byte, 1);
+        write_answer(rt, &byte, 1)
     }
 }
 
-fn judge(kind: u8, parameter: u8, ccy: &[u8], t: &[u8]) {
+fn judge<P: Print>(rt: &P, kind: u8, parameter: u8, ccy: &[u8], t: &[u8]) -> Result<()> {
     if kind == ENUM_KIND {
-        judge_word(parameter, t);
-        return;
+        return judge_word(rt, parameter, t);
     }
-    let mut value = io::buffer();
+    let mut value = [0u8; VALUE_ROOM];
     let n = write(kind, parameter as usize, t, ccy, &mut value, 0);
-    write_answer(&value, n);
+    write_answer(rt, &value, n)
 }
 
 fn wide(x: u16) -> usize
@@ -124,31 +129,32 @@ fn wide(x: u16) -> usize
     x as usize
 }
 
-fn judge_all(cases: &[u8]) {
+fn judge_all<P: Print>(rt: &P, cases: &[u8]) -> Result<()> {
     let mut i = 0;
     while i < cases.len() {
         if cases.len() - i < HEAD {
-            return;
+            return Ok(());
         }
         let from = i + HEAD;
         let start = from + wide(get16(cases, i + 2));
         let n = wide(get16(cases, i + TEXT));
         if cases.len() < start {
-            return;
+            return Ok(());
         }
         if cases.len() - start < n {
-            return;
+            return Ok(());
         }
         let end = start + n;
         let ccy = part_of(cases, from, start);
         let t = part_of(cases, start, end);
-        judge(cases[i], cases[i + 1], ccy, t);
+        judge(rt, cases[i], cases[i + 1], ccy, t)?;
         i = end;
     }
+    Ok(())
 }
 
-fn main() {
-    let mut input = io::large_buffer();
-    let n = io::read_full(STDIN_FILENO, &mut input);
-    judge_all(&input[..n]);
+fn main(rt: HostRuntime) -> Result<()> {
+    let mut input = [0u8; ROOM];
+    let n = read_full(&mut rt.stdin(), &mut input)?;
+    judge_all(&rt, &input[..n])
 }

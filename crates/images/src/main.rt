@@ -4,13 +4,14 @@ mod divided; // divided.rt: what it writes, computed on slices
 
 use answer::Answer;
 use divided::{ROOM, divided};
-use libc::{STDIN_FILENO, STDOUT_FILENO};
+use program_input::read_full;
+use std::io::Result;
 
 // One byte more is read than an image's run may have, so that a longer run is known as such.
-fn main() {
+fn main(rt: HostRuntime) -> Result<()> {
     let mut run = [0u8; Answer::LIMIT + 1];
     let mut out = [0u8; ROOM];
-    let got = io::read_full(STDIN_FILENO, &mut run);
+    let got = read_full(&mut rt.stdin(), &mut run)?;
     let n = divided(&run[..got], &mut out);
-    io::write_all(STDOUT_FILENO, &out[..n]);
+    rt.write_all(&out[..n])
 }

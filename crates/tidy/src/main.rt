@@ -2,15 +2,16 @@
 mod shown; // shown.rt: what it writes, computed on slices
 
 use answer::Answer;
-use libc::{STDIN_FILENO, STDOUT_FILENO};
+use program_input::read_full;
 use shown::shown;
+use std::io::Result;
 
 // One byte more is read than a file may have, so that a longer one is known as such; there is room for every image and every file.
-fn main() {
+fn main(rt: HostRuntime) -> Result<()> {
     let mut input = [0u8; Answer::LIMIT + 1];
     let mut image = [0u8; Answer::LIMIT];
     let mut out = [0u8; Answer::LIMIT];
-    let got = io::read_full(STDIN_FILENO, &mut input);
+    let got = read_full(&mut rt.stdin(), &mut input)?;
     let n = shown(&input[..got], &mut image, &mut out);
-    io::write_all(STDOUT_FILENO, &out[..n]);
+    rt.write_all(&out[..n])
 }

@@ -1,4 +1,4 @@
-// The entries for C: the code is the result, the other numbers go out through lent ones. A slice is a pointer and its length.
+// What the entries for C do, which the crate unit_c exports: the code is the result, the other numbers go out through lent ones.
 ghost use Rattle.answer.specs.Handed.{handed};
 ghost use Rattle.image_reading.specs.Reads.{HouseReads, HouseCounts};
 ghost use Rattle.file.specs.Checks.{Checks};
@@ -13,23 +13,20 @@ use crate::tidy::tidy;
 use crate::write::write;
 use answer::hand::{hand, hand_place};
 
-#[unsafe(no_mangle)]
-pub extern "C" fn kto_check(input: &[u8], out: &mut [u8], row: &mut u64, place: &mut u64) -> u64
+pub fn kto_check(input: &[u8], out: &mut [u8], row: &mut u64, place: &mut u64) -> u64
     ensures { Checks input.now out.old (handed result row.new place.new) out.new }
 {
     hand(check(input, out), row, place)
 }
 
-#[unsafe(no_mangle)]
-pub extern "C" fn kto_read(run: &[u8], place: &mut u64) -> u64
+pub fn kto_read(run: &[u8], place: &mut u64) -> u64
     ensures { HouseReads run.now (handed result 0 place.new) }
 {
     hand_place(read(run), place)
 }
 
 // A count without its code does not say whether the items are an image's, so this answers what `kto_read` does, and the count.
-#[unsafe(no_mangle)]
-pub extern "C" fn kto_count(run: &[u8], place: &mut u64, count: &mut u64) -> u64
+pub fn kto_count(run: &[u8], place: &mut u64, count: &mut u64) -> u64
     ensures { HouseReads run.now (handed result 0 place.new) × HouseCounts run.now (handed result 0 place.new) count.new }
 {
     let r = reading(run);
@@ -38,8 +35,7 @@ pub extern "C" fn kto_count(run: &[u8], place: &mut u64, count: &mut u64) -> u64
 }
 
 // The image is gone over once for the answer and once for the part.
-#[unsafe(no_mangle)]
-pub extern "C" fn kto_pick(run: &[u8], row: u64, n: u64, place: &mut u64, size: &mut u64) -> u64
+pub fn kto_pick(run: &[u8], row: u64, n: u64, place: &mut u64, size: &mut u64) -> u64
     ensures { PicksAt run.now row n result place.new size.new }
 {
     let part = picked(run, row as usize, n as usize);
@@ -47,15 +43,13 @@ pub extern "C" fn kto_pick(run: &[u8], row: u64, n: u64, place: &mut u64, size: 
     hand_place(pick(run, row as usize, n as usize), place)
 }
 
-#[unsafe(no_mangle)]
-pub extern "C" fn kto_write(run: &[u8], out: &mut [u8], row: &mut u64, place: &mut u64) -> u64
+pub fn kto_write(run: &[u8], out: &mut [u8], row: &mut u64, place: &mut u64) -> u64
     ensures { Writes run.now out.old (handed result row.new place.new) out.new }
 {
     hand(write(run, out), row, place)
 }
 
-#[unsafe(no_mangle)]
-pub extern "C" fn kto_tidy(
+pub fn kto_tidy(
     input: &[u8],
     image: &mut [u8],
     out: &mut [u8],

@@ -22,8 +22,7 @@ pub fn item_at(run: &[u8], from: usize) -> Item
 }
 
 // The same for C: the place is the result.
-#[unsafe(no_mangle)]
-pub extern "C" fn kto_items(run: &[u8], kind: &mut u64) -> u64
+pub fn kto_items(run: &[u8], kind: &mut u64) -> u64
     ensures { Headed run.now kind.new result }
 {
     let head = items(run);
@@ -32,14 +31,7 @@ pub extern "C" fn kto_items(run: &[u8], kind: &mut u64) -> u64
 }
 
 // The code is the result.
-#[unsafe(no_mangle)]
-pub extern "C" fn kto_item(
-    run: &[u8],
-    from: u64,
-    row: &mut u64,
-    place: &mut u64,
-    size: &mut u64,
-) -> u64
+pub fn kto_item(run: &[u8], from: u64, row: &mut u64, place: &mut u64, size: &mut u64) -> u64
     ensures { HouseItem run.now from (handed result row.new place.new) size.new }
 {
     let item = item_at(run, from as usize);

@@ -6,4 +6,4 @@ pub mod write; // write.rt: the entry for files that are written
 pub mod tidy; // tidy.rt: the entry for files that are tidied
 pub mod size; // size.rt: the entry for a file without a buffer
 pub mod item; // item.rt: the entries for items
-pub mod export; // export.rt: the entries for C
+pub mod export; // export.rt: what the entries for C do, which unit_c exports

@@ -13,8 +13,7 @@ pub fn size(input: &[u8]) -> Answer
 }
 
 // The same for C: the code is the result.
-#[unsafe(no_mangle)]
-pub extern "C" fn kto_size(input: &[u8], row: &mut u64, place: &mut u64) -> u64
+pub fn kto_size(input: &[u8], row: &mut u64, place: &mut u64) -> u64
     ensures { Finds input.now (handed result row.new place.new) }
 {
     hand(size(input), row, place)

@@ -2,14 +2,15 @@
 mod sent; // sent.rt: what it writes, computed on slices
 
 use answer::Answer;
-use libc::{STDIN_FILENO, STDOUT_FILENO};
+use program_input::read_full;
 use sent::sent;
+use std::io::Result;
 
 // One byte more is read than a run may have, so that a longer one is known as such; there is room for every file that may be written.
-fn main() {
+fn main(rt: HostRuntime) -> Result<()> {
     let mut run = [0u8; Answer::LIMIT + 1];
     let mut out = [0u8; Answer::LIMIT];
-    let got = io::read_full(STDIN_FILENO, &mut run);
+    let got = read_full(&mut rt.stdin(), &mut run)?;
     let n = sent(&run[..got], &mut out);
-    io::write_all(STDOUT_FILENO, &out[..n]);
+    rt.write_all(&out[..n])
 }
