@@ -420,7 +420,7 @@ def page(definitions, besides):
         '`.ci/believe.py` makes this page from the imports; the gate fails where it is stale, where a mirror of the code is among the '
         'files, and where one name has two meanings in them, but for the exceptions at the end.'), '']
     out += ['## The promises', '']
-    out += [wrapped('Each function with what it ensures of its `result`: `x.now` is what a shared reference x refers to; of a lent one `x.old` is that before the call and `x.new` after it.'), '']
+    out += [wrapped('Each function with what it ensures of its `result`: `x.now` is what a shared reference x refers to; of a lent one `x.old` is that before the call and `x.new` after it; `x.entry` is x itself as it was passed.'), '']
     out += ['```']
     for name, _, head, said in (f for crate in PROMISING for f in functions(crate)):
         out += [wrapped(name + head, '', '        ')] + [wrapped(c, '    ', '        ') for c in said]

@@ -55,7 +55,7 @@ def width(page):
 
 def architecture():
     listed = {word for cells in rows((DOCS / 'ARCHITECTURE.md').read_text()) if len(cells) == 3 for word in ticked(cells[1])}
-    crates = {line.split(':')[0] for line in (ROOT / 'crates.txt').read_text().splitlines() if line and not line.startswith('#')}
+    crates = {line.split(':')[0].split()[0] for line in (ROOT / 'crates.txt').read_text().splitlines() if line and not line.startswith('#')}
     yield from (f'{crate}: no row for this crate' for crate in sorted(crates - listed))
 
 
