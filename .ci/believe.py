@@ -1,5 +1,5 @@
 #!/usr/bin/env python3
-"""docs/BELIEVE.md: every definition that a promise of `unit`, `image_hold`, `kto`, `write` or `tidy` rests on, so that a reader must believe it.
+"""docs/BELIEVE.md: every definition that a promise of `unit`, `unit_c`, `image_hold`, `kto`, `write` or `tidy` rests on, so that a reader must believe it.
 
 From the names in the contracts of these crates the definitions of specs/ are followed by name: a definition counts where a promise,
 or a definition that counts, names it. The page has these contracts, and the files in reading order, each after those that it uses, with
@@ -15,12 +15,12 @@ ROOT = pathlib.Path(__file__).resolve().parent.parent
 CRATES = ROOT / 'crates'
 PAGE = ROOT / 'docs' / 'BELIEVE.md'
 
-# The crates whose promises count: the entries with their C exports, the held reader, the programs that make images and files.
-PROMISING = ('unit', 'image_hold', 'kto', 'write', 'tidy')
+# The crates whose promises count: the entries, their C exports, the held reader, the programs that make images and files.
+PROMISING = ('unit', 'unit_c', 'image_hold', 'kto', 'write', 'tidy')
 
 # Of these, the functions that document 01 asks for by itself: what they rest on is counted apart.
 FIRST = (
-    'unit::check unit::read unit::pick unit::picked unit::kto_check unit::kto_read unit::kto_pick '
+    'unit::check unit::read unit::pick unit::picked unit_c::kto_check unit_c::kto_read unit_c::kto_pick '
     'image_hold::hold image_hold::next image_hold::next_at image_hold::pick image_hold::picked kto::said'
 ).split()
 
