@@ -1,5 +1,5 @@
 #!/usr/bin/env python3
-"""docs/BELIEVE.md: every definition that a promise of `unit`, `image_hold`, `kto`, `write` or `tidy` rests on, so that a reader must believe it.
+"""docs/BELIEVE.md: every definition that a promise of `unit`, `unit_c`, `image_hold`, `kto`, `write` or `tidy` rests on, so that a reader must believe it.
 
 From the names in the contracts of these crates the definitions of specs/ are followed by name: a definition counts where a promise,
 or a definition that counts, names it. The page has these contracts, and the files in reading order, each after those that it uses, with
@@ -15,12 +15,12 @@ ROOT = pathlib.Path(__file__).resolve().parent.parent
 CRATES = ROOT / 'crates'
 PAGE = ROOT / 'docs' / 'BELIEVE.md'
 
-# The crates whose promises count: the entries with their C exports, the held reader, the programs that make images and files.
-PROMISING = ('unit', 'image_hold', 'kto', 'write', 'tidy')
+# The crates whose promises count: the entries, their C exports, the held reader, the programs that make images and files.
+PROMISING = ('unit', 'unit_c', 'image_hold', 'kto', 'write', 'tidy')
 
 # Of these, the functions that document 01 asks for by itself: what they rest on is counted apart.
 FIRST = (
-    'unit::check unit::read unit::pick unit::picked unit::kto_check unit::kto_read unit::kto_pick '
+    'unit::check unit::read unit::pick unit::picked unit_c::kto_check unit_c::kto_read unit_c::kto_pick '
     'image_hold::hold image_hold::next image_hold::next_at image_hold::pick image_hold::picked kto::said'
 ).split()
 
@@ -46,7 +46,7 @@ IMPORT = re.compile(r'^(?:unfoldable |abbrev )*(pub )?use (?P<path>\S+?)(?:\.\{(
 DECLARATION = re.compile(r'^(?:unfoldable |abbrev )*(?:pub )?(?:(data|record) )?(\S+)(.*)$')
 
 # Cases of the library's types, which bind nothing in a pattern.
-LIBRARY_CASES = {'[]', '∷', 'zero', 'suc', 'true', 'false', 'none', 'some', 'inl', 'inr'}
+LIBRARY_CASES = {'[]', '∷', 'zero', 'suc', 'true', 'false', 'none', 'some', 'None', 'Some', 'inl', 'inr'}
 
 
 class Fault(Exception):
@@ -76,8 +76,13 @@ def run(ts, i):
     return i
 
 
+def leads(ts, i):
+    """Whether a dot stands there that leads to a name: a binder's dot has a blank behind it."""
+    return i + 1 < len(ts) and ts[i].text == '.' and ts[i + 1].joined and ts[i + 1].named
+
+
 def free(ts, bound=()):
-    """The names that a clause uses and does not bind, each as (what stands before its dot or None, name). Fields of records are left out."""
+    """The names that a clause uses and does not bind, each as (what stands before its dot or None, name). Fields of what is bound are left out."""
     frames, i = [(set(bound), set())], 0
     while i < len(ts):
         t, end = ts[i], run(ts, i + 1)
@@ -93,14 +98,15 @@ def free(ts, bound=()):
         elif t.text == 'λ' and after == '.' or t.text == 'let' and after in ('=', ':'):
             frames[-1][0].update(x.text for x in ts[i + 1:end])
             i = end
-        elif t.named and i + 2 < len(ts) and ts[i + 1].text == '.' and ts[i + 1].joined and ts[i + 2].joined and ts[i + 2].named:
+        elif t.named and leads(ts, i + 1):
             path = [t.text]
-            while i + 2 < len(ts) and ts[i + 1].text == '.' and ts[i + 1].joined and ts[i + 2].joined and ts[i + 2].named:
+            while leads(ts, i + 1):
                 path.append(ts[i + 2].text)
                 i += 2
-            yield '.'.join(path[:-1]), path[-1]
+            if not any(path[0] in frame for frame, _ in frames):  # else a field that is read
+                yield '.'.join(path[:-1]), path[-1]
             i += 1
-        elif t.text == '.' and not t.joined:
+        elif leads(ts, i):
             i += 2  # a field that is read
         elif t.named and i > 0 and ts[i - 1].text in '{;' and after == '=' and end == i + 1:
             i += 1  # a field that is given
@@ -222,11 +228,11 @@ class File:
         """What a name stands for here: a definition, or the path and the name of what is no file of specs/; None where nothing brings it."""
         if qualifier in self.aliases:
             return found(self.aliases[qualifier], name)
-        if qualifier is not None:
-            return self.meaning(None, qualifier) or (qualifier, name)
+        if qualifier is not None:  # a field of what a name stands for
+            return self.meaning(None, qualifier.partition('.')[0]) or (qualifier, name)
         if name in self.definitions or name in self.cases:
             return self.definitions.get(name) or self.cases[name]
-        own = next((own for own in self.imports if own == name or own.strip('_') == name), None)
+        own = next((own for own in self.imports if own == name or own.strip('◌') == name), None)
         return found(*self.imports[own]) if own else None
 
     def is_case(self, qualifier, name):
@@ -236,7 +242,7 @@ class File:
 
 def found(path, name):
     """What an import names."""
-    m = re.match(r'^Rattle·(\w+?)(?:·specs)?\.(specs|proofs)\.(.+)$', path)
+    m = re.match(r'^Rattle\.(\w+)\.(specs|proofs)\.(.+)$', path)
     if not m or not (CRATES / m[1]).is_dir():
         return path, name
     if m[2] == 'proofs':
@@ -275,7 +281,7 @@ def functions(crate):
     for path in sorted((CRATES / crate / 'src').glob('**/*.rt')):
         text = path.read_text()
         brought = re.findall(r'^ghost use (\S+?)\.\{([^}]*)\};', text, re.M)
-        ghost = {n.strip('_'): (path, n) for path, names in brought for n in re.split(r',\s*', names.strip())}
+        ghost = {n.strip('◌'): (path, n) for path, names in brought for n in re.split(r',\s*', names.strip())}
         for m in re.finditer(rf'^ *{pub} (?:extern "C" )?fn (\w+)', text, re.M):
             head = re.match(r'.*?(?=\s+ensures\b)', text[m.end():], re.S)[0]
             yield f'{crate}::{m[1]}', ghost, re.sub(r'(?<=\()\s+|,?\s+(?=\))', '', head), list(clauses(text, m.end()))
@@ -284,7 +290,8 @@ def functions(crate):
 def promises(crate):
     """These functions, with what their promises name."""
     for name, ghost, _, said in functions(crate):
-        cited = dict.fromkeys(n for c in said for _, n in free(tokens(c)) if n in ghost)
+        names = [q.partition('.')[0] if q else n for c in said for q, n in free(tokens(c))]
+        cited = dict.fromkeys(n for n in names if n in ghost)
         yield name, [(n, found(*ghost[n])) for n in cited]
 
 
@@ -413,7 +420,7 @@ def page(definitions, besides):
         '`.ci/believe.py` makes this page from the imports; the gate fails where it is stale, where a mirror of the code is among the '
         'files, and where one name has two meanings in them, but for the exceptions at the end.'), '']
     out += ['## The promises', '']
-    out += [wrapped('Each function with what it ensures of its result: `now x` is what x refers to, `.entry` before the call and `.exit` after it.'), '']
+    out += [wrapped('Each function with what it ensures of its `result`: `x.now` is what a shared reference x refers to; of a lent one `x.old` is that before the call and `x.new` after it; `x.entry` is x itself as it was passed.'), '']
     out += ['```']
     for name, _, head, said in (f for crate in PROMISING for f in functions(crate)):
         out += [wrapped(name + head, '', '        ')] + [wrapped(c, '    ', '        ') for c in said]

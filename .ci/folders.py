@@ -1,19 +1,20 @@
 #!/usr/bin/env python3
 """Says which folders of definitions or laws have more than a dozen files, and which folders of code have more than a dozen modules.
 
-Files that only declare what is in a folder (Lib.antt, and FOLDER.antt beside FOLDER/) are not counted, nor are the answers of functions
-(FUNCTION/Proof.antt), of which a folder holds those of one module.
+Files that only declare what is in a folder (Lib.antt, and FOLDER.antt beside FOLDER/) are not counted, nor are the invariants and answers of
+functions (FUNCTION/Invariants.antt, FUNCTION/Answers.antt), of which a folder holds those of one module.
 """
 import pathlib
 import sys
 
 MOST = 12
+PROOFS = ('Invariants', 'Answers', 'Proof')
 
 
 def counted(folder):
     """The files of a folder that hold something."""
     for file in folder.iterdir():
-        if file.suffix == '.rt' or file.suffix == '.antt' and file.stem not in ('Lib', 'Proof') and not file.with_suffix('').is_dir():
+        if file.suffix == '.rt' or file.suffix == '.antt' and file.stem not in ('Lib', *PROOFS) and not file.with_suffix('').is_dir():
             yield file
 
 

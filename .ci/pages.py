@@ -1,7 +1,8 @@
 #!/usr/bin/env python3
 """The pages are held to the tree.
 
-Every page: a file that it names is there, and prose is at most 100 columns wide. docs/ARCHITECTURE.md has a row for each crate.
+Every page but docs/PORT.md, which has what was beside what is: a file that it names is there, and prose is at most 100 columns wide.
+docs/ARCHITECTURE.md has a row for each crate.
 docs/DECISIONS.md has each decision once, and those that pages name. docs/RULES.md: a definition stands in a file of its section, and
 each file of docs/BELIEVE.md but a mirror is in some section. docs/CODES.md: numbers and names are those of `answer`, of the C header, of
 `grade` and of the Python module, and each example gets the code that examples/ANSWERS.txt says. docs/GLOSSARY.md: each word
@@ -24,7 +25,7 @@ WIDE = 100
 
 
 def pages():
-    return [ROOT / 'README.md', *sorted(DOCS.glob('**/*.md'))]
+    return [ROOT / 'README.md', *(page for page in sorted(DOCS.glob('**/*.md')) if page != DOCS / 'PORT.md')]
 
 
 def ticked(text):
@@ -55,7 +56,7 @@ def width(page):
 
 def architecture():
     listed = {word for cells in rows((DOCS / 'ARCHITECTURE.md').read_text()) if len(cells) == 3 for word in ticked(cells[1])}
-    crates = {line.split(':')[0] for line in (ROOT / 'crates.txt').read_text().splitlines() if line and not line.startswith('#')}
+    crates = {line.split(':')[0].split()[0] for line in (ROOT / 'crates.txt').read_text().splitlines() if line and not line.startswith('#')}
     yield from (f'{crate}: no row for this crate' for crate in sorted(crates - listed))
 
 

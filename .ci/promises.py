@@ -2,7 +2,7 @@
 """Every public function of every crate has a promise and asks nothing, and docs/PROMISES.md is held to the code.
 
 Reads crates/*/src/**/*.rt as text. A public function is `pub fn` or `pub extern "C" fn` (a `pub(crate) fn` is none); `main` is left
-out. Its head, up to the line of its opening brace, must have an `ensures` and no `requires`. Its name stands in backquotes on the page,
+out. Its head, up to the brace of its body, must have an `ensures` and no `requires`. Its name stands in backquotes on the page,
 as `crate::name` (a method as `crate::Type::name`), and so does every edit of must-fail/. What the page names is there: functions, edits,
 laws. The section `Contracts that cite a mirror` lists exactly those that do. Every public function has an edit in its crate that must
 fail, or stands in UNEDITED with a reason: an edit is a function's if it changes its code, a function or constant of the crate that this
@@ -21,6 +21,7 @@ PAGE = ROOT / 'docs' / 'PROMISES.md'
 EXCEPTED = '### Contracts that cite a mirror'
 FUNCTION = re.compile(r'^(?P<indent> *)pub (?:extern "C" )?fn (?P<name>\w+)', re.M)
 ITEM = re.compile(r'^(?P<indent> *)(?:pub(?:\(crate\))? )?(?:extern "C" )?(?P<sort>fn|const) (?P<name>\w+)', re.M)
+SNAKE = r'[a-z0-9]+(_[a-z0-9]+)+'
 IMPL = re.compile(r'^impl(?:<[^>]*>)? (\w+)', re.M)
 
 # Public functions that no edit of their crate is for, each with the reason.
@@ -28,16 +29,35 @@ UNEDITED = {
     'it hands on what a lower crate promises, and the edits for that are there':
         'unit::check unit::size unit::read unit::reading unit::pick unit::picked unit::items unit::item_at unit::write '
         'unit::tidy unit::kto_read '
+        'unit_c::kto_check unit_c::kto_size unit_c::kto_read unit_c::kto_count unit_c::kto_pick unit_c::kto_items unit_c::kto_item '
+        'unit_c::kto_write unit_c::kto_tidy '
         'xml_skim::is_close xml_skim::text_end',
+    'it promises no bytes, and no more than the library does of reading':
+        'program_input::read_full',
 }
+
+
+CLAUSE = re.compile(r'\b(?:ensures|requires)(?: \w+)? \{$')
+
+
+def body(text, start):
+    """Where the body of a function begins, whose head begins at start: at the first brace that opens no clause."""
+    depth = 0
+    for at in range(start, len(text)):
+        if text[at] == '{':
+            if not depth and not CLAUSE.search(text, start, at + 1):
+                return at
+            depth += 1
+        elif text[at] == '}':
+            depth -= 1
+    return len(text)
 
 
 def functions(path):
     """Name, enclosing type or None, and head of each public function of a file."""
     text = path.read_text()
     for m in FUNCTION.finditer(text):
-        brace = re.compile(r'^' + m['indent'] + r'\{|\{$', re.M).search(text, m.end())
-        head = text[m.start():brace.start() if brace else len(text)]
+        head = text[m.start():body(text, m.end())]
         owner = None
         if m['indent']:
             owner = [i[1] for i in IMPL.finditer(text, 0, m.start())][-1:]
@@ -63,17 +83,34 @@ def words(pattern, files):
     return {w for f in files for w in re.findall(pattern, f.read_text(), re.M)}
 
 
+def declared(side):
+    """What the files of definitions, or those of laws, declare: with its cases and fields, which are declared as it is."""
+    files = (f for f in CRATES.glob(f'*/{side}/**/*.antt') if f.name not in ('Proof.antt', 'Answers.antt', 'Invariants.antt'))
+    return words(r'^ *(?:unfoldable |abbrev )*(?:pub )?(?:(?:data|record) )?(\S+)(?: [({][^:(){}]*:[^)}]*[)}])* :', files)
+
+
+def claims(text):
+    """The cells of the page where theorems are named: under `Theorem`, and under `Only one ..`."""
+    columns = ()
+    for line in text.splitlines():
+        cells = [cell.strip() for cell in line.strip('|').split('|')] if line.startswith('|') else []
+        heads = [at for at, cell in enumerate(cells) if cell == 'Theorem' or cell.startswith('Only one ')]
+        columns = heads or (columns if cells else ())
+        yield from (cells[at] for at in columns if at < len(cells) and not heads)
+
+
 def unknown(text):
-    """What the page names and nothing is called: calls, functions and edits (a_b), laws (a-b)."""
+    """What the page names and nothing is called: calls; functions, edits, definitions and laws; and where theorems are named nothing but these two."""
     calls = {full for full, _ in public()}
     edits = {f.stem for f in CRATES.glob('*/must-fail/*.edit')}
-    known = edits | words(r'\bfn (\w+)', CRATES.glob('*/src/**/*.rt')) | {p.name for p in CRATES.iterdir()}
-    laws = words(r'^ *(?:pub )?(\S+)(?: \{[^}]*\})? :', (f for f in CRATES.glob('*/proofs/**/*.antt') if f.name != 'Proof.antt'))
+    stated = declared('proofs') | declared('specs')
+    known = edits | words(r'\bfn (\w+)', CRATES.glob('*/src/**/*.rt')) | {p.name for p in CRATES.iterdir()} | stated
     for word in sorted(named(text)):
-        if re.fullmatch(r'\w+(::\w+)+', word) and word not in calls or re.fullmatch(r'[a-z0-9]+(_[a-z0-9]+)+', word) and word not in known:
+        if re.fullmatch(r'\w+(::\w+)+', word) and word not in calls or re.fullmatch(SNAKE, word) and word not in known:
             yield f'{word}: named in docs/PROMISES.md, and nothing is called so'
-        if re.fullmatch(r'[a-z0-9]+(-[a-z0-9]+)+', word) and word not in laws:
-            yield f'{word}: named in docs/PROMISES.md, and no law is called so'
+    for word in sorted({word for cell in claims(text) for word in named(cell) if re.fullmatch(SNAKE, word)}):
+        if word not in stated:
+            yield f'{word}: named in docs/PROMISES.md as a theorem, and no law or definition is called so'
     yield from (f'{edit}: an edit that docs/PROMISES.md does not list' for edit in sorted(edits - named(text)))
 
 

@@ -5,7 +5,7 @@
  * picked from an image (kto_pick); an image is gone over item by item (kto_items, kto_item); the file of an image is written (kto_write), or a
  * file is tidied, which is both at once (kto_tidy). What an image's bytes say is docs/IMAGE.md, what the codes say docs/CODES.md, the rows
  * docs/LIST.md; examples/c/entries.c prints the entries of a statement or a report.
- * Link with libunit.a, which `rt staticlib unit` makes (x86-64 Linux); it needs the C library and nothing else.
+ * Link with libunit.a, which `tools/staticlib` makes (x86-64 Linux); it needs the C library and nothing else.
  *
  * Every call takes any bytes and any numbers. There is nothing to set up, no memory is allocated, nothing is kept between calls, and
  * calls from several threads do not meet as long as they lend different buffers. What a call uses of the stack does not hang on what is lent:

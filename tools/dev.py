@@ -1,38 +1,35 @@
 #!/usr/bin/env python3
-"""The proof loop: rt dev, with its output cut down to what one works on.
+"""The proof loop: rt check, with its output cut down to what one works on.
 
     tools/dev.py CRATE [-s] [-v] [WORDS..]
 
-    -s      writes each Proof.antt that the check prints and that does not exist yet; without it they are only named
-    -v      leaves in antt's notes on what it tried
-    WORDS   go to rt dev, as --allow-holes
+    -s      writes each Invariants.antt and Answers.antt that the check prints and that does not exist yet; without it they are only named
+    -v      leaves in what rt says of libraries, and its help and notes that name no goal
+    WORDS   go to rt check, as --allow-holes or --only FUNCTION
 
-Run it from the repository's root. It cuts the printed lines of proof files, the notes, the lists of what a goal was computed from, and
-the modules' names in front of the library's symbols.
+Run it from the repository's root. It cuts the printed lines of proof files, the general notes, and the paths in front of names.
 """
 import argparse
-import os
 import pathlib
 import re
 import subprocess
 
-WRITE = re.compile(r'help: write (\S+Proof\.antt) with these lines')
-MODULE = re.compile(
-    r'(mathlib\.Core\.\w+|Prim\.Native\.Nat|lib\.\w+|Rattle·\w+·specs\.specs\.\w+|borrow\.\w+\.\w+|denote\.\w+)\.(?=[^\s.])'
-)
+WRITE = re.compile(r'help: write (\S+\.antt) with these lines')
+MODULE = re.compile(r'(?:mathlib|Prim|lib|borrow|denote|native|Rattle)\.(?:[\w+]+\.)+(?=[^\s.])')
+ASIDE = re.compile(r'(?:logic|statements|library|axioms|crate) \S+[: ]|checked |help: |note: (?!`)|rt: ')
 LONGEST = 1800
 
 
 class Loop:
     """Goes over the lines of a check, and keeps those that are to be shown."""
 
-    def __init__(self, scaffold, whole):
+    def __init__(self, folder, scaffold, whole):
+        self.folder = folder
         self.scaffold = scaffold
         self.whole = whole
         self.shown = []
         self.file = None  # the proof file whose lines are being printed, and the lines so far
         self.lines = []
-        self.hidden = None  # how the lines begin that go on with what is left out
 
     def end_file(self):
         """The lines of a proof file are over: it is written, or named."""
@@ -50,20 +47,13 @@ class Loop:
         begins = WRITE.match(line)
         if begins:
             self.end_file()
-            self.file, self.lines = pathlib.Path(begins[1]), []
-            return
-        if self.file is not None:
-            if line.startswith('    ') or not line.strip():
-                self.lines.append(line[4:])
-                return
+            self.file, self.lines = self.folder / begins[1], []
+        elif self.file is not None and (line.startswith('    ') or not line.strip()):
+            self.lines.append(line[4:])
+        else:
             self.end_file()
-        if line.startswith('note:') and not self.whole:
-            self.hidden = '  '
-        elif line.startswith('    (computed from:'):
-            self.hidden = '      '
-        elif self.hidden is None or not line.startswith(self.hidden):
-            self.hidden = None
-            self.shown.append(MODULE.sub('', line)[:LONGEST])
+            if self.whole or not ASIDE.match(line):
+                self.shown.append(MODULE.sub('', line)[:LONGEST])
 
 
 def main():
@@ -72,9 +62,10 @@ def main():
     parser.add_argument('-s', dest='scaffold', action='store_true')
     parser.add_argument('-v', dest='whole', action='store_true')
     given, words = parser.parse_known_args()
-    done = subprocess.run(['rt', 'dev', given.crate, *words], capture_output=True, text=True, env=dict(os.environ, RT_CUT='0'))
-    loop = Loop(given.scaffold, given.whole)
-    for line in (done.stdout + done.stderr).split('\n'):
+    folder = pathlib.Path('crates', given.crate)
+    done = subprocess.run(['rt', 'check', *words], cwd=folder, stdout=subprocess.PIPE, stderr=subprocess.STDOUT, text=True)
+    loop = Loop(folder, given.scaffold, given.whole)
+    for line in done.stdout.split('\n'):
         loop.take(line)
     loop.end_file()
     print('\n'.join(loop.shown))

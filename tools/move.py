@@ -9,7 +9,7 @@
 From the repository's root. What follows the module: its `pub mod` line with the comment above it, which goes to the node file of its
 folder (`specs/mirror.antt` for `specs/mirror/`, declared in turn where it is new); `use` paths in code, definitions, proofs and edits;
 the path of an edited file; files that pages, comments and the lists' writer name. A pair that is done already is passed over, so that a
-table may be run on any state of the tree, and twice. A paragraph of a page that grew too wide by it is wrapped again. Then run `rt fmt`.
+table may be run on any state of the tree, and twice. A paragraph of a page that grew too wide by it is wrapped again. Then run `rt fmt` in each crate's folder.
 """
 import pathlib
 import re
@@ -98,13 +98,13 @@ def mentions(every):
     table = {}
     for crate, side, path, target in every:
         old, new = path.replace('/', '.'), target.replace('/', '.')
-        for library in (f'Rattle·{crate}·{side}.{side}.', f'Rattle·{crate}.{side}.'):
-            table[library + old] = library + new
+        library = f'Rattle.{crate}.{side}.'
+        table[library + old] = library + new
         table[f'{crate}/{side}/{path}.antt'] = f'{crate}/{side}/{target}.antt'
     if not table:
         return None, table
     longest_first = sorted(table, key=len, reverse=True)
-    return re.compile('(?<![\\w·/])(?:crates/)?(?:' + '|'.join(map(re.escape, longest_first)) + r')(?![\w·])'), table
+    return re.compile('(?<![\\w./])(?:crates/)?(?:' + '|'.join(map(re.escape, longest_first)) + r')(?!\w)'), table
 
 
 def texts():

@@ -6,7 +6,8 @@
 Each fault changes one operand or one test on one line of src/ (a numeral by one, < and <=, == and !=, true and false, + and -), never a
 contract; which ones is by chance, or by the seed. It says of each: refused at a fact; refused only because the proof file no longer
 fits the code's shape, which shows nothing; or SURVIVED: the crate is still proved, so either the fault changes nothing that anyone
-can see, or a promise is too weak. Each costs one check of the crate. It works on a copy.
+can see, or a promise is too weak. Each costs one check of the crate. It works on a copy, over what `rt check` kept here. `rt plant` puts
+in other faults: whole bodies that do something else.
 """
 import argparse
 import pathlib
@@ -14,8 +15,7 @@ import random
 import re
 import shutil
 import subprocess
-
-from edits import copy_with_edits
+import tempfile
 
 NUMERAL = re.compile(r'(?<![\w.])(\d[\d_]*)(?![\w.])')
 SWAPS = [(' < ', ' <= '), (' > ', ' >= '), (' == ', ' != '), (' + ', ' - '), ('true', 'false')]
@@ -29,7 +29,7 @@ HEAD = re.compile(r'(pub )?(extern "C" )?(fn|struct|enum) ')
 def is_code(line):
     """Whether a line is code that may be changed: no comment, no import, no contract, no head of a function."""
     text = line.strip()
-    return bool(text) and not text.startswith(NO_CODE) and not HEAD.match(text) and not any(sign in line for sign in 'λ⌜⌝⟦≡')
+    return bool(text) and not text.startswith(NO_CODE) and not HEAD.match(text) and not any(sign in line for sign in 'λ≡')
 
 
 def faults(line, chance):
@@ -60,16 +60,14 @@ def all_faults(crate, part, chance):
     return first + more
 
 
-def verdict(folder, label):
-    """What became of an edit, by what rt wrote."""
-    said, log = folder / f'{label}.out', folder / label / '.log'
-    said = said.read_text() if said.exists() else ''
-    if 'NOT REFUSED' in said:
+def verdict(said, label):
+    """What became of an edit, by the line that rt wrote of it."""
+    line = next((line for line in said if f'/{label}.edit: ' in line), '')
+    if 'NOT REFUSED' in line:
         return 'SURVIVED'
-    if 'refused, as it must be' not in said:
+    if 'refused, as it must be' not in line:
         return 'no verdict'
-    error = next((line for line in log.read_text(errors='replace').split('\n') if ': error' in line), '')
-    return 'shape only' if 'has no `Need-' in error else 'refused'
+    return 'shape only' if 'only because a proof file names' in line else 'refused'
 
 
 def main():
@@ -81,19 +79,19 @@ def main():
     given = parser.parse_args()
     chosen = all_faults(pathlib.Path('crates', given.crate), given.file, random.Random(given.seed))[:given.count]
     counts = dict.fromkeys(['refused', 'shape only', 'SURVIVED', 'no verdict'], 0)
-    with copy_with_edits([]) as copy:
+    with tempfile.TemporaryDirectory() as room:
+        copy = pathlib.Path(room)
+        shutil.copy('crates.txt', copy)
+        shutil.copytree('crates', copy / 'crates', ignore=shutil.ignore_patterns('out', 'must-fail'))
         edits = copy / 'crates' / given.crate / 'must-fail'
         edits.mkdir()
         for at, (file, old, new) in enumerate(chosen):
             (edits / f'fault{at:03}.edit').write_text(f'file: {file}\nold: {old}\nnew: {new}\n')
-        subprocess.run(['rt', 'must-fail', given.crate], cwd=copy, capture_output=True)
-        tried = copy / 'target/must-fail' / given.crate
+        said = subprocess.run(['rt', 'must-fail', given.crate], cwd=copy, capture_output=True, text=True).stdout.splitlines()
         for at, (file, old, new) in enumerate(chosen):
-            what = verdict(tried, f'fault{at:03}')
+            what = verdict(said, f'fault{at:03}')
             counts[what] += 1
             print(f'{what:10}  {file}: {old.strip()}   ->   {new.strip()}')
-        for left in tried.glob('fault*'):
-            shutil.rmtree(left) if left.is_dir() else left.unlink()
     print(', '.join(f'{count} {what}' for what, count in counts.items()))
 
 

@@ -15,37 +15,37 @@ import sys
 
 # Why numerals may stand, the code in which they do (an expression), and the files of crates/ where that is so. Documents 01 and 02 are quoted.
 ALLOWED = (
-    ('base of decimal digits', r'[/%*<-]=? 10\b|\b10 ([\^*≤]|<=)|ltb n 10\b', '*'),
+    ('base of decimal digits', r'[/%*<-]=? 10\b|\b10 ([\^*≤]|<=)|(nat_lt|ltb) n 10\b', '*'),
     ('base of two decimal digits', r'[/%*] 100\b|≤ 99\b|≤ 9\b', 'value/*'),
-    ('base of bytes', r'[/%*<]=? 256\b|\b256 \*|ltb x 256\b', '*'),
-    ('words of four bytes, of eight, and of two times eight', r'(Loaded|at \+|j ≤) (4|8|12)\b|r < 4294967296\b', '*chunk*'),
+    ('base of bytes', r'[/%*<]=? 256\b|\b256 \*|(nat_lt|ltb) x 256\b', '*'),
+    ('words of four bytes, of eight, and of two times eight', r'(Loaded|at \+|j ≤) (4|8|12)\b|result < 4294967296\b', '*chunk*'),
     ('base of hexadecimal digits', r'[/%<] 16\b', 'program_line/*'),
     ('UTF-8 (RFC 3629), "XML 1.0 characters"', r'\b0x[0-9A-F]{1,6}\b|kept [34]\b', '*'),
     ('"Replace the inside by a lookup": words of 64 bits', r'\b0x[0-9A-F]{16}\b', 'value/specs/mirror/Pages.antt'),
-    ('the codes of "Numbers handed back"', r'= answer \d+( \d+)*|CodeFrom 4 13|eqb code 4\b|\.code\)? ([≡≢] )?\d+', '*'),
+    ('the codes of "Numbers handed back"', r'= answer \d+( \d+)*|CodeFrom 4 13|(nat_eq|eqb) code 4\b|\.code\)? ([≡≢] )?\d+', '*'),
     ('"at most 255 rows and 16 levels", "one to 255 different words"', r'\b(255|16)\b', 'list/*'),
-    ('"at most 255 rows and 16 levels", "one to 255 different words"', r'(p <|row ≤) 255\b|(t|entry\)\)|n <|ltb) 16\b', '[fi]*/*'),
+    ('"at most 255 rows and 16 levels", "one to 255 different words"', r'(p <|row ≤) 255\b|(t|rows\.now|n <|nat_lt|ltb) 16\b', '[fi]*/*'),
     ('"k at most 140"', r'\b140\b', 'list/*'),
-    ('"At most four attributes"', r'(GoodAttrs|tailStep|Held|tail|n ≤) 4\b|\(4 -', 'xml*/*'),
+    ('"At most four attributes"', r'(GoodAttrs|tail_step|Held|tail|n ≤) 4\b|\(4 -', 'xml*/*'),
     ('"Nesting is at most 16, the root being 1"', r'(GoodMarkup|Held) 16\b|\(16 -', 'xml*/*'),
-    ('"REF: 1 to 35"', r'(isRef|true|leb \(length b\)) 35\b', 'value/*'),
+    ('"REF: 1 to 35"', r'(is_ref|true|(nat_le|leb) \(length b\)) 35\b', 'value/*'),
     ('"IBAN: two capitals, two digits, 1 to 30"', r'2 \+ 2 \+ 30\b', 'value/*'),
     ('"CCY: three capitals", "three currency letters"', r'length (cs ≡|t\)|b\)) 3\b|take 3 b|i \+ 3\b', '*'),
-    ('"NUM: 1 to 18 digits", "coefficient below 10^18"', r'length t ≤ 18\b|inRange 1 18\b|10 \^ 18\b', 'value*/*'),
-    ('"scale is at most 5"', r'(k ≤|z <|10 \^|leb (k|\(getD b storedScale 0\))) 5\b', 'value*/*'),
+    ('"NUM: 1 to 18 digits", "coefficient below 10^18"', r'length t ≤ 18\b|in_range 1 18\b|10 \^ 18\b', 'value*/*'),
+    ('"scale is at most 5"', r'(k ≤|z <|10 \^|(nat_le|leb) (k|\(get_or b stored_scale 0\))) 5\b', 'value*/*'),
     ('"a real Gregorian day, year 0001 to 9999"', r'\b\d+\b', 'value*/[Dd]ay.*'),
-    ('"`YYYY-MM-DD`"', r'threeRaw 4\b', 'value/*'),
+    ('"`YYYY-MM-DD`"', r'three_raw 4\b', 'value/*'),
     ('"up to 23:59:59", "24:00:00", "minutes at most 59, up to 14:00", "offset minutes plus 840"', r'\b(23|24|59|60|840)\b', 'value/*'),
     ('"three or six digits", "one to three digits", "fractions count in microseconds"',
-     r'k [≡≤] [36]\b|inRange 1 3\b|\(6 - (k|\d)\)|10 \^ [36]\b|(padded|decimals) [36]\b|getD l 3\b', '*'),
-    ('"NUM: 64 bits", "coefficient in 64 bits", "32-bit microseconds"', r'bigEndian [48]\b|take [48] \(drop|w ≤ 8\b|at \+ 4 ≤', '*'),
+     r'k [≡≤] [36]\b|in_range 1 3\b|\(6 - (k|\d)\)|10 \^ [36]\b|(padded|decimals) [36]\b|get_or l 3\b', '*'),
+    ('"NUM: 64 bits", "coefficient in 64 bits", "32-bit microseconds"', r'big_endian [48]\b|take [48] \(drop|w ≤ 8\b|at \+ 4 ≤', '*'),
     ('"`KTO`, version 1 in 16 bits", "fewer than five bytes", "place 5", "count from 6"',
-     r'take [356] (run|s)\b|length \w+ < 5\b|\b5 ≤ length|brokenImage 5\b|getD s [345]\b', 'image*/*'),
-    ('the bench\'s feed: "3 write, 6 count, 8 tidy"', r'eqb op [368]\b', 'program_feed/*'),
+     r'take [356] (run|s)\b|length \w+ < 5\b|\b5 ≤ length|broken_image 5\b|get_or s [345]\b', 'image*/*'),
+    ('the bench\'s feed: "3 write, 6 count, 8 tidy"', r'(nat_eq|eqb) op [368]\b', 'program_feed/*'),
     ('the rows of "The house list"', r'\b\d+\b', 'list_house/src/kinds.rt'),
     ('the programs of the gate: hexadecimal digits, the bytes of a head, numbers of 16 and of 32 bits',
      r'\d+ =>|head\[\d+\]|< (65536|4294967296)\b', 'gate_*/*'),
-    ('a case that is given its number', r'^numberOf \w+ = \d$', 'file_walk/*'),
+    ('a case that is given its number', r'^number_of \w+ = \d$', 'file_walk/*'),
 )
 
 SHOWN = ('Example.antt', 'Stars.antt')
@@ -54,7 +54,7 @@ PASSED = re.compile(r'''b?"(?:\\.|[^"\\])*"|b'(?:\\.|[^'\\])'|(?:^|(?<=\s))(?:--
 IMPORT = re.compile(r'\s*(?:(?:unfoldable|abbrev|ghost|pub) )*(?:use|mod) ')
 CONSTANT = re.compile(r'\s*(?:pub(?:\(\w+\))? )?const ')
 NAMED = re.compile(r'\S+ = [\d\s^*+()-]+$')
-NUMERAL = re.compile(r"(?<![\w\-′'.·])(?:0x[0-9A-Fa-f_]+|\d[\d_]*)(?:[ui](?:8|16|32|64|size))?(?![\w\-′'])")
+NUMERAL = re.compile(r"(?<![\w\-'.])(?:0x[0-9A-Fa-f_]+|\d[\d_]*)(?:[ui](?:8|16|32|64|size))?(?![\w\-'])")
 
 
 def files(crates):

@@ -4,9 +4,9 @@
     tools/repeats.py [DIR] [--min N] [--most M] [--shape]
 
 Lists pairs of places below DIR (default: crates) that share N or more lines in a row (default 7), the longest first. Blank lines,
-comments, imports and the lines that the checker prints itself (a need's signature, `.. = search needs`, the closing list) are passed
-over. With --shape, lines count as equal when they differ in names and numbers only: two proofs of one shape are often one lemma over
-what differs. A pair is a place to look, not a verdict.
+comments, imports and the lines that the checker prints itself (a goal's signature, `.. = search rules`) are passed over. With --shape,
+lines count as equal when they differ in names and numbers only: two proofs of one shape are often one lemma over what differs. A pair is
+a place to look, not a verdict.
 """
 import argparse
 import collections
@@ -15,10 +15,10 @@ import re
 
 PASSED_OVER = re.compile(r'^(--|//|use |pub use |mod |pub mod |ghost use |unfolding |\{|\}|\)|$)')
 PRINTED = re.compile(
-    r'(: tie\.Need-|= search needs$|= omega arith$|tie\.close|tie\.spec|: \{M : Type 1\} → statement M$|: tie\.(InvT|MeasureT)-)'
+    r'(: goal\.\S+$|= search rules$|= omega arith$)'
 )
 COMMENT = re.compile(r'\s*(--|//) .*$')
-NAME = re.compile(r"[A-Za-zα-ωΑ-Ωκμλ₀-₉′][\w\-′·₀-₉]*")
+NAME = re.compile(r"[A-Za-zα-ωΑ-Ωκμλ₀-₉][\w\-'₀-₉]*")
 MOST_PLACES = 12  # lines that stand in more places than this are a form, not a repeat
 
 
@@ -73,7 +73,7 @@ def main():
     parser.add_argument('--most', type=int, default=20, metavar='M', help='how many pairs are shown')
     parser.add_argument('--shape', action='store_true')
     given = parser.parse_args()
-    files = [path for path in sorted(pathlib.Path(given.dir).rglob('*')) if path.suffix in ('.rt', '.antt') and 'target' not in path.parts]
+    files = [path for path in sorted(pathlib.Path(given.dir).rglob('*')) if path.suffix in ('.rt', '.antt') and 'out' not in path.parts]
     found = sorted(pairs({path: lines_of(path, given.shape) for path in files}, given.min), reverse=True)
     print(f'{len(found)} pairs in {len(files)} files' + (' (by shape)' if given.shape else ''))
     for count, places in found[:given.most]:

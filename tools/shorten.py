@@ -3,11 +3,10 @@
 
     tools/shorten.py --check [CRATE..]      names each line of proofs/ with more than 400 characters; fails where there is one in a file that
                                             is no exception of the table below, and where an exception is no longer needed
-    tools/shorten.py FILE..                 in a Proof.antt gives the places of such an answer names, and breaks it between arguments
+    tools/shorten.py FILE..                 in an Answers.antt breaks such an answer between arguments
 
-An `unfolding` line, which can't be broken, is left out. The second command is a beginning: `let at-f = c .before .before in` for each
-place that the answer cites, named after its fact. Where several answers cite one path, a record of what was told on it says it once
-(docs/PROVING.md).
+An `unfolding` line, which can't be broken, is left as it is. Where several answers cite the same facts, a record of what was told on the way
+says them once (docs/PROVING.md).
 """
 import pathlib
 import re
@@ -16,9 +15,7 @@ import sys
 LONGEST = 400
 
 BROKEN = 150
-PLACE = re.compile(r'(?<![\w\-′₀])c((?: \.before(?![\w\-]))+)')
-HEAD = re.compile(r'([\w\-]+ c(?: κs)? =) ')
-FACT = re.compile(PLACE.pattern + r' \.([\w\-]+)')
+HEAD = re.compile(r"([\w\-']+ c(?: \S+)* =) ")
 
 
 def too_long(crates):
@@ -43,29 +40,11 @@ def split(text, mark):
 
 
 def arguments(text):
-    """A term's words, each with what stands in its brackets; a projection belongs to the word before it. Of a tuple its members."""
+    """A term's words, each with what stands in its brackets. Of a tuple its members."""
     members = split(text, ', ')
     if len(members) > 1:
         return members
-    words = []
-    for word in split(text, ' '):
-        if word.startswith('.') and words:
-            words[-1] += ' ' + word
-        else:
-            words.append(word)
-    return words
-
-
-def named(body):
-    """The `let` lines for the places of an answer, and the answer with their names."""
-    depth_of = {}
-    for steps, fact in FACT.findall(body):
-        depth_of.setdefault(steps.count('.before'), 'start' if fact in ('args', 'pre') else f'at-{fact}')
-    lets, last, name = [], 0, 'c'
-    for depth in sorted(depth for depth in depth_of if depth > 1):
-        lets.append(f'let {depth_of[depth]} = {name}' + ' .before' * (depth - last) + ' in')
-        last, name = depth, depth_of[depth]
-    return lets, PLACE.sub(lambda found: depth_of[found[1].count('.before')] if found[1].count('.before') > 1 else found[0], body)
+    return split(text, ' ')
 
 
 def broken(words):
@@ -96,13 +75,12 @@ def shortened(line):
 
 
 def laid(body):
-    """A term with its places named, in lines."""
-    lets, body = named(body)
-    return lets + broken(arguments(body))
+    """A term in lines."""
+    return broken(arguments(body))
 
 
 def hinted(facts):
-    """A call of omega with a fact a line. Names stand inside a fact: omega reads what is in scope, and finds less under many names."""
+    """A call of omega with a fact a line."""
     lines = ['omega (', '  arith,']
     for fact in facts:
         inner = laid(fact.rstrip(',')) if len(fact) > LONGEST else [fact.rstrip(',')]

@@ -152,12 +152,12 @@ def entries(lists):
     text = f'''\
 -- A mirror: the nodes of each list, the one after the root's tag being 1. Assumes nothing.
 -- {MADE}
-use mathlib.Core.List.{{List, [], _∷_}}
-use Rattle·file_nodes·specs.specs.Entries.{{Entry, noEntry, plain, doubly, singly, shuts}}
+use Rattle.std.specs.Prelude.{{List, [], ◌∷◌}}
+use Rattle.file_nodes.specs.Entries.{{Entry, no_entry, plain, doubly, singly, shuts}}
 '''
     for name, nodes, order in asked(lists):
         lines = ''.join(f'    {entry(nodes, node)} ∷  -- {name} {at}\n' for at, node in enumerate(order, 1))
-        text += f'\n-- {nodes.found.message()}\nunfoldable pub {name}Entries : List Entry\n{name}Entries =\n    noEntry ∷\n{lines}    []\n'
+        text += f'\n-- {nodes.found.message()}\nunfoldable pub {name}_entries : List Entry\n{name}_entries =\n    no_entry ∷\n{lines}    []\n'
     return text
 
 
@@ -171,16 +171,15 @@ def table(lists):
     text = f'''\
 -- A mirror: the numbers of the code's constants, {WIDTH} a node. Assumes nothing.
 -- {MADE}
-use mathlib.Core.List.{{List, [], _∷_}}
-use Prim.Native.Nat.{{ℕ}}
+use Rattle.std.specs.Prelude.{{List, [], ◌∷◌, ℕ}}
 
 -- how many nodes a table has; the first is none
-abbrev pub nodeCount : ℕ
-nodeCount = {len(rows(lists)[0][1])}
+abbrev pub node_count : ℕ
+node_count = {len(rows(lists)[0][1])}
 '''
     for name, cells in rows(lists):
         lines = ''.join('    ' + ' ∷ '.join(map(str, line)) + f' ∷  -- {name} {at}\n' for at, line in enumerate(cells))
-        text += f'\nunfoldable pub {name}Table : List ℕ\n{name}Table =\n{lines}    []\n'
+        text += f'\nunfoldable pub {name}_table : List ℕ\n{name}_table =\n{lines}    []\n'
     return text
 
 
@@ -192,13 +191,14 @@ def mask(name, at, k, cell):
 def constants(lists):
     """src/tables.rt"""
     made = rows(lists)
-    mirrors = ', '.join(f'{name}Table' for name, _ in made)
+    mirrors = ', '.join(f'{name}_table' for name, _ in made)
     text = f'''\
 // The nodes of the lists as numbers, {WIDTH} a node.
 // {MADE}
+ghost use Rattle.std.specs.Prelude.{{◌≡◌}};
+ghost use Rattle.file_nodes.specs.mirror.Tables.{{{mirrors}}};
+
 use crate::fields::WIDTH;
-ghost use mathlib.Core.Path.{{_≡_}};
-ghost use Rattle·file_nodes·specs.specs.mirror.Tables.{{{mirrors}}};
 
 // How many nodes a table has; the first is none.
 pub const NODES: usize = {len(made[0][1])};
@@ -213,7 +213,7 @@ pub type Table = [u64; NUMBERS];
     for name, _ in made:
         text += f'''
 pub(crate) fn {name}_table() -> Table
-    ensures {{ λ r. ⌜ r ≡ {name}Table ⌝ }}
+    ensures {{ result ≡ {name}_table }}
 {{
     {name.upper()}
 }}
@@ -226,28 +226,27 @@ def spaces(lists):
     text = f'''\
 -- A mirror: the namespaces of the code's constants. Assumes nothing.
 -- {MADE}
-use mathlib.Core.List.{{List}}
-use Prim.Native.Nat.{{ℕ}}
-use Rattle·text.specs.Bytes.{{ascii}}
+use Rattle.std.specs.Prelude.{{List, ℕ}}
+use Rattle.text.specs.Bytes.{{ascii}}
 '''
     for found in lists:
-        text += f'\nunfoldable pub {found.name}Space : List ℕ\n{found.name}Space = ascii "{found.space}"\n'
+        text += f'\nunfoldable pub {found.name}_space : List ℕ\n{found.name}_space = ascii "{found.space}"\n'
     return text
 
 
 def named(lists):
     """src/spaces.rt of file_front"""
-    mirrors = ', '.join(f'{found.name}Space' for found in lists)
+    mirrors = ', '.join(f'{found.name}_space' for found in lists)
     text = f'''\
 // The namespaces of the lists.
 // {MADE}
-ghost use mathlib.Core.Path.{{_≡_}};
-ghost use Rattle·file_front·specs.specs.mirror.Spaces.{{{mirrors}}};
+ghost use Rattle.std.specs.Prelude.{{◌≡◌}};
+ghost use Rattle.file_front.specs.mirror.Spaces.{{{mirrors}}};
 '''
     for found in lists:
         text += f'''
 pub(crate) fn {found.name}_space() -> [u8; {len(found.space)}]
-    ensures {{ λ r. ⌜ r ≡ {found.name}Space ⌝ }}
+    ensures {{ result ≡ {found.name}_space }}
 {{
     *b"{found.space}"
 }}

@@ -26,12 +26,12 @@ const USAGE: &str =
   --first I      the number of the first case (0)
   --ops LIST     the ops that are asked for, as 0,1,2 (those that the unit knows): 0 check, 1 read, 2 pick, 3 write
   --keep FILE    where to write the bytes of a case that differs
-  --replay PATH  the proved program replay (target/bin/replay, or what REPLAY names)
+  --replay PATH  the proved program replay (crates/replay/out/replay, or what REPLAY names)
   --independent  the independent program in place of the unit, to try compare itself";
 
 fn options() -> Option<Options> {
     let fresh = SystemTime::now().duration_since(UNIX_EPOCH).map_or(1, |time| time.as_nanos() as u64 % 1_000_000_000);
-    let path = std::env::var("REPLAY").unwrap_or("target/bin/replay".to_string());
+    let path = std::env::var("REPLAY").unwrap_or("crates/replay/out/replay".to_string());
     let (mut known, mut seed, mut lane, mut count) = (KNOWN_OPS.to_vec(), fresh, false, None);
     let asked = Asked { what: What::Lane, first: 0, count: 0 };
     let mut options = Options { asked, keep: None, unit: Unit::Replay(path.into()) };

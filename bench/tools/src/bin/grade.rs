@@ -29,7 +29,7 @@ options:
   --write DIR    keep the images of accepted files, as DIR/NAME.kto
   --json         one JSON object for each file, a line each, and nothing else
   --html FILE    also write a report that a browser shows
-  --replay PATH  the proved program replay (target/bin/replay, or what REPLAY names)
+  --replay PATH  the proved program replay (crates/replay/out/replay, or what REPLAY names)
   --independent  ask the independent program instead of the unit
 of make:
   --report       intraday reports (camt.052) instead of statements (camt.053)
@@ -63,7 +63,7 @@ struct Options {
 
 impl Options {
     fn new() -> Options {
-        let path = std::env::var("REPLAY").unwrap_or("target/bin/replay".to_string());
+        let path = std::env::var("REPLAY").unwrap_or("crates/replay/out/replay".to_string());
         Options {
             unit: Unit::Replay(path.into()),
             verb: Verb::Judge,
