@@ -19,7 +19,7 @@ use Rattle.list_house.proofs.Retired.{Narrowed, stored_narrowed}
 use Rattle.value.specs.parts.Former.{present}
 use Rattle.value.specs.Value.{Value, IsValue}
 use Rattle.value.specs.Spelled.{Spelled}
-use Rattle.xml.specs.House.{Tree, GoodTree, whole, HouseXml}
+use Rattle.xml.specs.House.{Tree, GoodTree, HouseXml}
 use Rattle.xml.specs.Message.{message_of}
 use Rattle.xml.proofs.Unique.{tree_one}
 use Rattle.xml.proofs.Coded.{house_utf8}

@@ -2,7 +2,6 @@
 use mathlib.Core.Path.{◌≡◌, refl, sym, ◌∙◌, ap, subst}
 use mathlib.Core.Logic.{◌⊎◌, inl, inr}
 use mathlib.Core.List.{List, [], ◌∷◌, ◌++◌, head-eq_of_cons-eq, tail-eq_of_cons-eq}
-use mathlib.Core.Option.{Option, none, some}
 use Prim.Native.Nat.{ℕ, zero, suc, ◌+◌}
 use native.Mathlib.Omega.{arith}
 use lib.ListN.{length}
@@ -14,14 +13,14 @@ use Rattle.list.specs.Within.{Among, Within}
 use Rattle.list.specs.Changed.{Gone}
 use Rattle.list.proofs.Within.{child_without}
 use Rattle.list.proofs.Retired.{present_of}
-use Rattle.list_house.specs.Lists.{asked, asked_of, stored}
+use Rattle.list_house.specs.Lists.{asked_of, stored}
 use Rattle.list_house.proofs.Lists.{kept_well}
 use Rattle.list_house.proofs.Retired.{GoneRows, gone_rows, Narrowed, stored_narrowed}
 use Rattle.value.specs.parts.Former.{present}
 use Rattle.value.specs.Value.{Value, IsValue}
 use Rattle.value.specs.Spelled.{Spelled}
 use Rattle.xml.specs.House.{IsName, Markup as Tags, no_more as over, piece, empty_tag, full, render, tag, GoodMarkup, OneElement, Tree, GoodTree}
-use Rattle.xml.specs.Message.{Inside, nothing_inside, attrs_of, parts_of, root_at, message_of}
+use Rattle.xml.specs.Message.{nothing_inside, attrs_of, parts_of, root_at, message_of}
 use Rattle.file_walk.proofs.violation.Attrs.{root_tag}
 use Rattle.file_walk.specs.Denotes.{Denotes, Has}
 use Rattle.image.specs.Kinds.{values}

@@ -1,4 +1,5 @@
 // Texts and tags of a message that is known to be good, by no more of their places than its image needs.
+#![tactic(auto)]
 
 ghost use Rattle.std.specs.Prelude.{◌≡◌, ◌+◌, drop};
 ghost use Rattle.text.specs.Lists.{span};
