@@ -45,7 +45,7 @@ def snake(name):
         if k == 0 and part[:1].isupper():
             out.append(part)
             continue
-        out.append(re.sub(r"(?<=[a-z0-9'])([A-Z])", lambda m: "_" + m.group(1).lower(), part))
+        out.append(re.sub(r"(?<=[a-z0-9'])[A-Z]|(?<=[A-Z])[A-Z](?=[a-z])", lambda m: "_" + m.group(0).lower(), part))
     if parts[0][:1].isupper():
         return name if len(parts) == 1 else out[0] + "-" + "_".join(out[1:])
     return "_".join(out)

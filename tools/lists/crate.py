@@ -15,7 +15,7 @@ class Form:
         plain = own == lists[0].name
         self.found = found
         self.list = f'stored_{own}' if stored else own
-        self.label = f'stored{own.capitalize()}' if stored else own  # beside its rows
+        self.label = f'stored_{own}' if stored else own  # beside its rows
         self.said = found.message() + (' as images keep to it' if stored else ' as files are asked' if found.narrower else '')
         self.table = f'{self.list}_rows'
         self.function = ('stored_' if stored else '') + ('rows' if plain else f'{own}_rows')

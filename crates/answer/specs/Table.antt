@@ -34,8 +34,8 @@ abbrev pub wrong_root : ℕ → Answer
 wrong_root p = answer 4 1 p
 
 -- "not a child of its parent .. parent .. its `<`"
-abbrev pub not_aChild : ℕ → ℕ → Answer
-not_aChild r p = answer 5 r p
+abbrev pub not_a_child : ℕ → ℕ → Answer
+not_a_child r p = answer 5 r p
 
 -- "later sibling already seen .. own .. its `<`"
 abbrev pub out_of_order : ℕ → ℕ → Answer

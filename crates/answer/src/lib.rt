@@ -5,7 +5,7 @@
 pub mod hand; // hand.rt: an answer for C
 
 ghost use Rattle.std.specs.Prelude.{◌≡◌};
-ghost use Rattle.answer.specs.Table.{accepted, picked, too_long, not_utf8, not_house_xml, wrong_root, not_aChild, out_of_order, too_many, absent, wrong_attributes, text_in_group, empty, bad_value, rule_broken, no_room, no_header, wrong_version, broken_image, no_such_leaf, too_large, too_fine, retired};
+ghost use Rattle.answer.specs.Table.{accepted, picked, too_long, not_utf8, not_house_xml, wrong_root, not_a_child, out_of_order, too_many, absent, wrong_attributes, text_in_group, empty, bad_value, rule_broken, no_room, no_header, wrong_version, broken_image, no_such_leaf, too_large, too_fine, retired};
 
 #[derive(Clone, Copy)]
 pub struct Answer {
@@ -129,7 +129,7 @@ impl Answer {
 
     // The row is the parent's: what stands there has none.
     pub fn not_a_child(parent: usize, place: usize) -> Self
-        ensures { result ≡ not_aChild parent place }
+        ensures { result ≡ not_a_child parent place }
     {
         Self {
             code: Self::NOT_A_CHILD,

@@ -95,9 +95,9 @@ module _ (l : Listing) (wf : WellFormed l) where
     opening_means : (q : ℕ) (seen : List ℕ) (r : ℕ) (ats : Attrs) (o : ℕ) → ((AttrsOf (row_at l r).kind ats → ⊥) → BadAttributes l p m r o) → Means (Cause p m) (opening j l q seen r ats o)
     opening_means q seen r ats o h = subst (Means (Cause p m)) (sym (opening_is j l q seen r ats o)) (
         first (Cause p m)
-        (refuse (eqb r 0) (table.not_aChild q o) ∷ refuse (not (is_choice (kind_of l q)) && passed r seen) (table.out_of_order r o)
+        (refuse (eqb r 0) (table.not_a_child q o) ∷ refuse (not (is_choice (kind_of l q)) && passed r seen) (table.out_of_order r o)
         ∷ refuse (over_count l (kind_of l q) seen r) (table.too_many r o) ∷ refuse (not (attrs_ok j (kind_of l r) ats)) (table.wrong_attributes r o) ∷ []) (
-          other (eqb r 0) (table.not_aChild q o) refl,
+          other (eqb r 0) (table.not_a_child q o) refl,
           (
             other (not (is_choice (kind_of l q)) && passed r seen) (table.out_of_order r o) refl,
             (other (over_count l (kind_of l q) seen r) (table.too_many r o) refl, (refused (Cause p m) (not (attrs_ok j (kind_of l r) ats)) (table.wrong_attributes r o) bad, tt)),

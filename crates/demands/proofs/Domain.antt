@@ -112,7 +112,7 @@ module _ (j : Judge) (l : Listing) (g : GoneRows l) where
           let b = refuse (not (is_choice (kind_of l p)) && passed r seen) (table.out_of_order r o) in
           let c = refuse (over_count l (kind_of l p) seen r) (table.too_many r o) in
           let d = refuse (not (attrs_ok j (kind_of l r) ats)) (table.wrong_attributes r o) in
-          let t = fine_not (eqb r 0) (table.not_aChild p o) (both_fine (refuse (eqb r 0) (table.not_aChild p o)) (or_else b (or_else c (or_else d Fine))) (sym (opening_is j l p seen r ats o) ∙ z)).0 in
+          let t = fine_not (eqb r 0) (table.not_a_child p o) (both_fine (refuse (eqb r 0) (table.not_a_child p o)) (or_else b (or_else c (or_else d Fine))) (sym (opening_is j l p seen r ats o) ∙ z)).0 in
           let f = child_found l p n r refl (positive r t) in
           (f.its, λ w. h.0 (sym f.name ∙ w))
         where
@@ -164,11 +164,11 @@ module _ (j : Judge) (l : Listing) (g : GoneRows l) where
 
   opening_eight : (q : ℕ) (seen : List ℕ) (r : ℕ) (ats : Attrs) (o : ℕ) → Means NoEight (opening j l q seen r ats o)
   opening_eight q seen r ats o =
-      let a = refuse (eqb r 0) (table.not_aChild q o) in
+      let a = refuse (eqb r 0) (table.not_a_child q o) in
       let b = refuse (not (is_choice (kind_of l q)) && passed r seen) (table.out_of_order r o) in
       let c = refuse (over_count l (kind_of l q) seen r) (table.too_many r o) in
       let d = refuse (not (attrs_ok j (kind_of l r) ats)) (table.wrong_attributes r o) in
-      subst (Means NoEight) (sym (opening_is j l q seen r ats o)) (then_means NoEight a (or_else b (or_else c (or_else d Fine))) (other (eqb r 0) (table.not_aChild q o) refl) (λ e.
+      subst (Means NoEight) (sym (opening_is j l q seen r ats o)) (then_means NoEight a (or_else b (or_else c (or_else d Fine))) (other (eqb r 0) (table.not_a_child q o) refl) (λ e.
       then_means NoEight b (or_else c (or_else d Fine)) (other (not (is_choice (kind_of l q)) && passed r seen) (table.out_of_order r o) refl) (λ e.
       then_means NoEight c (or_else d Fine) (other (over_count l (kind_of l q) seen r) (table.too_many r o) refl) (λ e.
       then_means NoEight d Fine (other (not (attrs_ok j (kind_of l r) ats)) (table.wrong_attributes r o) refl) (λ e. tt)))))

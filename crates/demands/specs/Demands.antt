@@ -1,14 +1,14 @@
 -- The three demands on the unit, each as one statement. Read this first: `demand1`, `demand2` and `demand3` of proofs/Demands prove them. Assumes nothing.
 --
 -- What the statements speak of, and where it is defined, in the documents' words:
---   Answer, accepted, tooLong ..   an answer, and each line of the table "Numbers handed back"          answer/specs/Table
+--   Answer, accepted, too_long ..   an answer, and each line of the table "Numbers handed back"          answer/specs/Table
 --   asked, asked_of b, stored       the lists, one for each kind: those of files, those of images        list_house/specs/Lists
 --   Withdrawn l i                  an item of a row that no file of the list has any more               file_letter/specs/Stale
 --   Checks s d a d'                what `check` answers to a file s and a buffer d, and leaves there     file/specs/Checks
 --   Finds s a                      what it answers to every buffer that is as long as the file           file/specs/Checks
 --   Filed s l c                    a good file with its list and its content                             file/specs/Checks
 --   Chosen m l                     "The namespace chooses the list"                                      file/specs/Checks
---   Whole s, messageIn w           a file within the limit, of UTF-8, of house XML; its message          file/specs/File
+--   Whole s, message_in w           a file within the limit, of UTF-8, of house XML; its message          file/specs/File
 --   image_of .. l c                 the image of a content of a list, of version 2                        file/specs/File, image/specs/Image
 --   First .. l m f                 what is found first in a message in document order, 4 to 13           file_walk/specs/First
 --   Meets IsValue l c              a content that meets the list, its types and its rules                list/specs/Content

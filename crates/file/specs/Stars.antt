@@ -2,7 +2,7 @@
 use Rattle.std.specs.Prelude.{List, [], ◌∷◌, ◌++◌, ℕ, ◌≤◌, ◌<◌, length, drop}
 use Prim.Native.String.{String}
 use Rattle.answer.specs.declared.Answer.{Answer}
-use Rattle.answer.specs.Table.{accepted, not_house_xml, wrong_root, not_aChild, absent, bad_value, no_room}
+use Rattle.answer.specs.Table.{accepted, not_house_xml, wrong_root, not_a_child, absent, bad_value, no_room}
 use Rattle.text.specs.Bytes.{ascii}
 use Rattle.text.specs.Numbers.{big_endian}
 use Rattle.file.specs.Checks.{Checks}
@@ -62,12 +62,12 @@ balanced b scale coefficient =
     0x14 ∷ 0x01 ∷ 0x15 ∷ 0x16 ∷ 0x07 ∷ 0xE8 ∷ 0x02 ∷ 0x1D ∷ []))
 
 -- the bytes of document 01's date-time
-abbrev pub six_oClock : List ℕ
-six_oClock = 0x07 ∷ 0xE8 ∷ 0x03 ∷ 0x01 ∷ 0x06 ∷ 0x00 ∷ 0x00 ∷ 0x00 ∷ 0x00 ∷ 0x00 ∷ 0x00 ∷ 0x03 ∷ 0x48 ∷ []
+abbrev pub six_o_clock : List ℕ
+six_o_clock = 0x07 ∷ 0xE8 ∷ 0x03 ∷ 0x01 ∷ 0x06 ∷ 0x00 ∷ 0x00 ∷ 0x00 ∷ 0x00 ∷ 0x00 ∷ 0x00 ∷ 0x03 ∷ 0x48 ∷ []
 
 -- document 01's image, with this MsgId, scale and coefficient
 abbrev pub printed : List ℕ → ℕ → ℕ → List ℕ
-printed m scale coefficient = pictured 1 six_oClock m (balanced 2 scale coefficient)
+printed m scale coefficient = pictured 1 six_o_clock m (balanced 2 scale coefficient)
 
 -- refused whatever the buffer is
 abbrev pub refused : List ℕ → Answer → Star
@@ -154,7 +154,7 @@ entered b =
 
 -- a good report and the bytes of what stands after its account
 abbrev pub reported : List ℕ → ℕ → List ℕ → Star
-reported rest n x = good (intraday rest) n (pictured 2 six_oClock (ascii "M1") x)
+reported rest n x = good (intraday rest) n (pictured 2 six_o_clock (ascii "M1") x)
 
 -- beside the starred ones: intraday reports, by document 02, section 5
 unfoldable pub reports : List Star
@@ -169,6 +169,6 @@ reports =
     reported (entry "PDNG") 85 (entered 2) ∷
     refused (booked (balance "CLBD" "5.00" ++ entry "PDNG")) (bad_value 28 414) ∷
     -- "The namespace chooses the list"
-    refused (of_kind "052.001.08" "BkToCstmrStmt" "Stmt" (balance "CLBD" "5.00")) (not_aChild 1 65) ∷
+    refused (of_kind "052.001.08" "BkToCstmrStmt" "Stmt" (balance "CLBD" "5.00")) (not_a_child 1 65) ∷
     refused (of_kind "054.001.08" "BkToCstmrStmt" "Stmt" (balance "CLBD" "5.00")) (wrong_root 0) ∷
     []

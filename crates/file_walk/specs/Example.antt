@@ -1,7 +1,7 @@
 -- Small messages against the house list with their first violations, one or more for each code; the judge is a stand-in. Assumes nothing.
 use Rattle.std.specs.Prelude.{false, not, List, [], ◌∷◌, ℕ, suc}
 use Prim.Native.String.{String}
-use Rattle.answer.specs.Table.{wrong_root, not_aChild, out_of_order, too_many, absent, wrong_attributes, text_in_group, empty, bad_value, rule_broken}
+use Rattle.answer.specs.Table.{wrong_root, not_a_child, out_of_order, too_many, absent, wrong_attributes, text_in_group, empty, bad_value, rule_broken}
 use Rattle.text.specs.Bytes.{ascii}
 use Rattle.list.specs.Listing.{ref, iban, ccy, bool, num, amt, date, dtm, txt, enum}
 use Rattle.xml.specs.Message.{Attrs, Inside, nothing_inside, character, element}
@@ -89,8 +89,8 @@ examples =
     (document ((ascii "xsi:schemaLocation", ascii "a b") ∷ (ascii "xmlns:xsi", []) ∷ space) nothing_inside, Violation (empty 1 0)) ∷
     (document ((ascii "xmlns:xsi", ascii "a") ∷ space) nothing_inside, Violation (empty 1 0)) ∷
     -- 5: no child of its parent; an element in a leaf
-    (statement (lf 290 "Oops" "" nothing_inside), Violation (not_aChild 6 290)) ∷
-    (message (el 110 "Id" (lf 112 "Id" "1" nothing_inside) nothing_inside), Violation (not_aChild 7 112)) ∷
+    (statement (lf 290 "Oops" "" nothing_inside), Violation (not_a_child 6 290)) ∷
+    (message (el 110 "Id" (lf 112 "Id" "1" nothing_inside) nothing_inside), Violation (not_a_child 7 112)) ∷
     -- 6: also a row that comes again after a later sibling
     (statement (lf 290 "Id" "S2" nothing_inside), Violation (out_of_order 7 290)) ∷
     -- 7: over its count; second child in a choice, whichever it is

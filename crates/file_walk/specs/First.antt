@@ -116,7 +116,7 @@ module _ (judge : Judge) (l : Listing) where
   -- being r (0: "not a child of its parent")
   abbrev pub opening : ℕ → List ℕ → ℕ → Attrs → ℕ → Found
   opening p seen r ats o = first_of (
-      refuse (eqb r 0) (table.not_aChild p o) ∷
+      refuse (eqb r 0) (table.not_a_child p o) ∷
       among_siblings l (kind_of l p) seen r o ∷
       refuse (not (attrs_ok judge (kind_of l r) ats)) (table.wrong_attributes r o) ∷ [])
 

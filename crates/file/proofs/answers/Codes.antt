@@ -40,7 +40,7 @@ later b a g h i = test_coded b a g (omega arith, i, λ e. absurd (omega arith))
 module _ (j : Judge) (l : Listing) where
   opening_coded : (p : ℕ) (seen : List ℕ) (r : ℕ) (ats : Attrs) (o : ℕ) → Coded (opening j l p seen r ats o)
   opening_coded p seen r ats o = subst Coded (sym (opening_is j l p seen r ats o)) (
-      later (eqb r 0) (table.not_aChild p o) _ (omega arith) (omega arith)
+      later (eqb r 0) (table.not_a_child p o) _ (omega arith) (omega arith)
       (later (not (is_choice (kind_of l p)) && passed r seen) (table.out_of_order r o) _ (omega arith) (omega arith)
       (later (over_count l (kind_of l p) seen r) (table.too_many r o) _ (omega arith) (omega arith)
       (later (not (attrs_ok j (kind_of l r) ats)) (table.wrong_attributes r o) Fine (omega arith) (omega arith) tt))))

@@ -39,7 +39,7 @@ module _ (t : List ℕ) (lv : Level) where
 
   -- x is the answer that is handed on
   module _ (r : ℕ) (own : Bool) (o : ℕ) (x : Answer) where
-    pub says_not_a_child : r ≡ 0 → x ≡ table.not_aChild lv.row o → Violation x ≡ opening_in t lv r own o
+    pub says_not_a_child : r ≡ 0 → x ≡ table.not_a_child lv.row o → Violation x ≡ opening_in t lv r own o
     unfolding opening_in
     says_not_a_child e f = rw (eq-eqb r 0 e) (ap Violation f)
 

@@ -111,12 +111,12 @@ module _ (T : Speller) (l : Listing) where
   over_latest (leaf k) p r seen pos c a e = refl
 
   open_same : (kp kr : Kind) (p last r o : ℕ) (seen : List ℕ) (ats : Attrs) → Each (Child l p) seen → Each (λ x. x ≤ latest seen) seen → last ≡ latest seen
-      → first_of (refuse (eqb r 0) (table.not_aChild p o) ∷ refuse (not (is_choice kp) && ltb r last) (table.out_of_order r o) ∷ refuse (again l kp last r) (table.too_many r o) ∷ refuse (not (attrs_ok j kr ats)) (table.wrong_attributes r o) ∷ [])
+      → first_of (refuse (eqb r 0) (table.not_a_child p o) ∷ refuse (not (is_choice kp) && ltb r last) (table.out_of_order r o) ∷ refuse (again l kp last r) (table.too_many r o) ∷ refuse (not (attrs_ok j kr ats)) (table.wrong_attributes r o) ∷ [])
       ≡ open_tests j l kp kr p seen r ats o
   open_same kp kr p last r o seen ats c a e =
       rw (e, passed_latest r seen a)
-      (or_when (refuse (eqb r 0) (table.not_aChild p o)) _ _ (λ z. or_when (refuse (not (is_choice kp) && passed r seen) (table.out_of_order r o)) _ _ (λ y.
-      ap (λ b. or_else (refuse b (table.too_many r o)) (or_else (refuse (not (attrs_ok j kr ats)) (table.wrong_attributes r o)) Fine)) (over_latest kp p r seen (pos (refuse_no (eqb r 0) (table.not_aChild p o) z)) c a (refuse_no (not (is_choice kp) && passed r seen) (table.out_of_order r o) y)))))
+      (or_when (refuse (eqb r 0) (table.not_a_child p o)) _ _ (λ z. or_when (refuse (not (is_choice kp) && passed r seen) (table.out_of_order r o)) _ _ (λ y.
+      ap (λ b. or_else (refuse b (table.too_many r o)) (or_else (refuse (not (attrs_ok j kr ats)) (table.wrong_attributes r o)) Fine)) (over_latest kp p r seen (pos (refuse_no (eqb r 0) (table.not_a_child p o) z)) c a (refuse_no (not (is_choice kp) && passed r seen) (table.out_of_order r o) y)))))
     where
       pos : eqb r 0 ≡ false → 0 < r
       pos z = elim (dec_lt 0 r) [ yes h ↦ h | no h ↦ absurd (eqb-false r 0 z (omega arith)) ]

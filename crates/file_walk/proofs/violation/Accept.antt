@@ -40,8 +40,8 @@ module _ (t : Types) (y : Spelling t) (j : Judge) (d : Decides t j) (l : Listing
   leaf_plain (character o x k) p seen f h e z =
       leaf_plain k p seen f h e (or_fine (inside j l p seen k) Fine (or_fine (refuse (is_group (kind_of l p) && not (is_blank x)) (table.text_in_group p o)) _ z).1).0
   leaf_plain (element o n ats i k) p seen f h e z =
-      let a = or_fine (refuse (eqb (child l p n) 0) (table.not_aChild p o)) _ (or_fine (opening j l p seen (child l p n) ats o) _ z).0 in
-      clash (eqb (child l p n) 0) (eq-eqb (child l p n) 0 (no_child l p n w f h e)) (refuse_no (eqb (child l p n) 0) (table.not_aChild p o) a.0)
+      let a = or_fine (refuse (eqb (child l p n) 0) (table.not_a_child p o)) _ (or_fine (opening j l p seen (child l p n) ats o) _ z).0 in
+      clash (eqb (child l p n) 0) (eq-eqb (child l p n) 0 (no_child l p n w f h e)) (refuse_no (eqb (child l p n) 0) (table.not_a_child p o) a.0)
 
   -- what no violation among p's parts comes to
   record Clean (p : ℕ) (seen : List ℕ) (i : Inside) : Type 0 where

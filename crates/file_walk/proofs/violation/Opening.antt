@@ -34,10 +34,10 @@ module _ (j : Judge) (l : Listing) where
   -- four tests: 5, 6, 7, 9
   abbrev pub open_tests : Kind → Kind → ℕ → List ℕ → ℕ → Attrs → ℕ → Found
   open_tests kp kr p seen r ats o = first_of (
-      refuse (eqb r 0) (table.not_aChild p o) ∷
+      refuse (eqb r 0) (table.not_a_child p o) ∷
       refuse (not (is_choice kp) && passed r seen) (table.out_of_order r o) ∷
       refuse (over_count l kp seen r) (table.too_many r o) ∷
       refuse (not (attrs_ok j kr ats)) (table.wrong_attributes r o) ∷ [])
 
   pub opening_is : (p : ℕ) (seen : List ℕ) (r : ℕ) (ats : Attrs) (o : ℕ) → opening j l p seen r ats o ≡ open_tests (kind_of l p) (kind_of l r) p seen r ats o
-  opening_is p seen r ats o = ap (or_else (refuse (eqb r 0) (table.not_aChild p o))) (siblings l (kind_of l p) seen r o (or_else (refuse (not (attrs_ok j (kind_of l r) ats)) (table.wrong_attributes r o)) Fine))
+  opening_is p seen r ats o = ap (or_else (refuse (eqb r 0) (table.not_a_child p o))) (siblings l (kind_of l p) seen r o (or_else (refuse (not (attrs_ok j (kind_of l r) ats)) (table.wrong_attributes r o)) Fine))

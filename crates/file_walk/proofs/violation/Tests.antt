@@ -51,11 +51,11 @@ module _ (j : Judge) (l : Listing) where
   module _ (kp kr : Kind) (p : ℕ) (seen : List ℕ) (r : ℕ) (ats : Attrs) (o : ℕ) where
     pub opened : is_group kp ≡ true → open_tests j l kp kr p seen r ats o ≡ Fine → Opened j l kp kr seen r ats
     opened g e =
-        let a = or_fine (refuse (eqb r 0) (table.not_aChild p o)) _ e in
+        let a = or_fine (refuse (eqb r 0) (table.not_a_child p o)) _ e in
         let b = or_fine (refuse (not (is_choice kp) && passed r seen) (table.out_of_order r o)) _ a.1 in
         let c = or_fine (refuse (over_count l kp seen r) (table.too_many r o)) _ b.1 in
         let d = or_fine (refuse (not (attrs_ok j kr ats)) (table.wrong_attributes r o)) _ c.1 in
-        let z = eqb-false r 0 (refuse_no (eqb r 0) (table.not_aChild p o) a.0) in
+        let z = eqb-false r 0 (refuse_no (eqb r 0) (table.not_a_child p o) a.0) in
         record {
           row = elim (dec_lt 0 r) [ yes h ↦ h | no h ↦ absurd (z (omega arith)) ];
           fits = fits_of kp seen r g (refuse_no (not (is_choice kp) && passed r seen) (table.out_of_order r o) b.0) (refuse_no (over_count l kp seen r) (table.too_many r o) c.0);

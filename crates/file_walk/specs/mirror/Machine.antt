@@ -107,7 +107,7 @@ module _ (l : Listing) where
 module _ (T : Speller) (l : Listing) where
   unfoldable pub open_test : Level → ℕ → Attrs → ℕ → Found
   open_test lv r ats o = first_of (
-      refuse (eqb r 0) (table.not_aChild lv.row o) ∷
+      refuse (eqb r 0) (table.not_a_child lv.row o) ∷
       refuse (not (is_choice (kind_of l lv.row)) && ltb r lv.last) (table.out_of_order r o) ∷
       refuse (again l (kind_of l lv.row) lv.last r) (table.too_many r o) ∷
       refuse (not (attrs_ok (judge_of T) (kind_of l r) ats)) (table.wrong_attributes r o) ∷ [])

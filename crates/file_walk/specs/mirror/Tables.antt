@@ -32,7 +32,7 @@ module _ (t : List ℕ) where
 
   unfoldable pub opening_in : Level → ℕ → Bool → ℕ → Found
   opening_in lv r own o = first_of (
-      refuse (eqb r 0) (table.not_aChild lv.row o) ∷
+      refuse (eqb r 0) (table.not_a_child lv.row o) ∷
       refuse (passed_in lv r) (table.out_of_order r o) ∷
       refuse (again_in lv r) (table.too_many r o) ∷
       refuse (not own) (table.wrong_attributes r o) ∷ [])
