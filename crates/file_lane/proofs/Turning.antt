@@ -4,7 +4,7 @@ use mathlib.Core.Logic.{◌≢◌, inl, inr, ⊎_elim}
 use mathlib.Core.Bool.{Bool, true, false, cond, ◌||◌, false≢true, true≢false}
 use mathlib.Core.List.{List, [], ◌∷◌, ◌++◌, append_assoc, append-nil, head-eq_of_cons-eq, tail-eq_of_cons-eq, nil≢cons}
 use mathlib.Core.Option.{Option, none, some}
-use Prim.Native.Nat.{ℕ, zero, suc, ◌+◌, ◌*◌, ◌/◌, ◌%◌, ◌^◌, ◌≤◌, ◌<◌}
+use Prim.Native.Nat.{ℕ, zero, suc, ◌+◌, ◌/◌, ◌%◌, ◌^◌, ◌≤◌, ◌<◌}
 use native.Mathlib.Omega.{arith}
 use native.Mathlib.Decide.{ℕ_discrete}
 use lib.Dec.{eqb, leb}
@@ -26,7 +26,7 @@ use Rattle.value.specs.parts.Form.{WordAt, Form}
 use Rattle.value.proofs.types.Numbered.{code_low, code_high}
 use Rattle.value.proofs.types.Shaped.{shaped_spelt}
 use Rattle.value_leaf.specs.declared.found.Found.{Found}
-use Rattle.value_leaf.specs.Took.{Uncut, Took}
+use Rattle.value_leaf.specs.Took.{Uncut}
 use Rattle.value_leaf.specs.Leafed.{is_inside, Leafed}
 use Rattle.value_leaf.proofs.Taking.{Weighed, weighed_coin, weighed_plain}
 use Rattle.file_nodes.specs.Run.{Sort, over, shut, group, leaf, Node}

@@ -1,4 +1,6 @@
 // A file measured: by one fast pass that says that it is good and how long its image is, and where that pass says nothing by the exact ones.
+#![tactic(auto)]
+
 mod tag; // tag.rt: which of the tags that may come stands at a place
 mod turn; // turn.rt: from a tag to the next
 mod along; // along.rt: from the root's tag to the end

@@ -12,7 +12,7 @@ use Rattle.text.specs.Pasting.{pasted}
 use Rattle.text.specs.Puts.{Puts}
 use Rattle.text.proofs.Pasting.{length_pasted}
 use Rattle.text.proofs.Puts.{puts_none, puts_pasted, puts_then}
-use Rattle.list.specs.Listing.{Leaf, leaf, is_group}
+use Rattle.list.specs.Listing.{Leaf, is_group}
 use Rattle.list.specs.tables.Table.{cell, words_in}
 use Rattle.list.proofs.rows.Codes.{group_is}
 use Rattle.list.specs.tables.Numbers.{is_group_in}

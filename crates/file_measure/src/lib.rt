@@ -1,4 +1,6 @@
 // Codes 1 to 13 of a file, or the length of its image, without a byte written; and which list the file chooses.
+#![tactic(auto)]
+
 ghost use Rattle.std.specs.Prelude.{◌≡◌};
 ghost use Rattle.file.specs.File.{Whole};
 ghost use Rattle.file_measure.specs.Measures.{Measures};

@@ -8,7 +8,7 @@ use Rattle.text.specs.Bytes.{is_blank}
 use Rattle.text.specs.Lists.{All}
 use Rattle.answer.specs.Table.{limit}
 use Rattle.text.specs.Numbers.{big_endian}
-use Rattle.list.specs.Listing.{Listing, row_at}
+use Rattle.list.specs.Listing.{Listing}
 use Rattle.list.specs.WellFormed.{WellFormed}
 use Rattle.list.specs.Content.{Content, end, node, rows}
 use Rattle.xml.specs.House.{GoodMarkup, Tree, HouseXml}

@@ -18,7 +18,7 @@ use Rattle.list.specs.tables.Test.{begins}
 use Rattle.list.proofs.sound.Sound.{begins_is}
 use Rattle.xml.specs.House.{Quote}
 use Rattle.image.specs.mirror.Follow.{repeats, parent_of, count_of, kind_of, paired, ruled, due, Clear, Fits, Shut}
-use Rattle.file_nodes.specs.Run.{Sort, over, shut, group, leaf, Node}
+use Rattle.file_nodes.specs.Run.{Sort, over, shut, group, Node}
 use Rattle.file_nodes.specs.Fitting.{coined, given, front, opening, closing, Enters, Fit, NodesFit}
 use Rattle.file_nodes.specs.Entries.{Form, opens, closes, Entry, no_entry, entry_at, open_sort, sort_of, group_of, node_of, node_at}
 

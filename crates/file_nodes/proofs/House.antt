@@ -11,7 +11,7 @@ use Rattle.answer.specs.Table.{accepted}
 use Rattle.text.specs.Bytes.{is_capital, is_name_start, is_name_part}
 use Rattle.text.specs.Numbers.{big_endian}
 use Rattle.text_characters.specs.Pieces.{less, greater, solidus}
-use Rattle.list.specs.Listing.{ccy, Listing, row_at}
+use Rattle.list.specs.Listing.{Listing, row_at}
 use Rattle.list.specs.Content.{Content}
 use Rattle.list.specs.tables.Test.{begins, every}
 use Rattle.list.specs.Within.{Among}
@@ -26,7 +26,6 @@ use Rattle.file.specs.File.{image_of}
 use Rattle.file.specs.Checks.{Checks, Filed, imaged}
 use Rattle.file.proofs.Chosen.{filed_chosen}
 use Rattle.file.proofs.answers.House.{spelling, one_content}
-use Rattle.file_nodes.specs.Run.{Node}
 use Rattle.file_nodes.specs.Fitting.{front, NodesFit}
 use Rattle.file_nodes.specs.Entries.{Form, opens, closes, Entry, entry_at, tag_of, node_at}
 use Rattle.file_nodes.specs.Ran.{Ran}

@@ -4,9 +4,8 @@ use mathlib.Core.Bool.{true, false, true≢false}
 use mathlib.Core.List.{List, [], ◌∷◌, ◌++◌, append_assoc, append-nil}
 use mathlib.Core.Option.{Option, none, some}
 use Prim.Native.Nat.{ℕ, suc, ◌<◌}
-use lib.ListN.{length}
 use Rattle.text.specs.Bytes.{ascii, is_blank, is_name_start, is_name_part}
-use Rattle.text_characters.specs.Pieces.{less, greater, solidus, spells}
+use Rattle.text_characters.specs.Pieces.{less, greater, solidus}
 use Rattle.list.specs.Listing.{Leaf, ref, iban, ccy, bool, num, amt, date, dtm, txt, enum, Listing, row_at, Child, is_group}
 use Rattle.list.specs.Listing as list
 use Rattle.list.specs.WellFormed.{WellFormed}
@@ -16,9 +15,9 @@ use Rattle.file_walk.specs.Types.{Spelling, LeafAttrs, priced, unpriced}
 use Rattle.value.specs.types.Code.{Ccy}
 use Rattle.value_leaf.specs.Took.{TookAs, Uncut}
 use Rattle.file_walk.specs.First.{currency_given}
-use Rattle.image.specs.mirror.Follow.{Fits, parent_of}
+use Rattle.image.specs.mirror.Follow.{parent_of}
 use Rattle.file.specs.Instance.{Kinds}
-use Rattle.file_nodes.specs.Run.{Sort, shut, leaf, Node, Head, Run, blank, else, ends, closes, opens, tells}
+use Rattle.file_nodes.specs.Run.{Sort, Node, Head, Run, blank, else, ends, closes, opens, tells}
 use Rattle.file_nodes.specs.Fitting.{coined, given, front, opening, closing, Enters, Fit, NodesFit}
 use Rattle.file_nodes.proofs.Rooms.{room, deeper}
 use Rattle.file_nodes.proofs.Texting.{text_good, pieced, pieced_is, pieced_chars, pieced_good, capitals_unmarked, attr_bytes}

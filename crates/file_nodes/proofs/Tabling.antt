@@ -1,9 +1,9 @@
 -- A table of eleven numbers a node that passes a computed test has the nodes of a list. Assumes nothing.
 use mathlib.Core.Path.{◌≡◌, refl, sym, ◌∙◌, ap, subst}
 use mathlib.Core.Logic.{⊎_elim}
-use mathlib.Core.Bool.{Bool, true, false, ◌&&◌, ◌||◌, not, false≢true, true≢false}
+use mathlib.Core.Bool.{Bool, true, false, ◌&&◌, ◌||◌, false≢true}
 use mathlib.Core.List.{List, [], ◌∷◌}
-use Prim.Native.Nat.{ℕ, zero, suc, ◌+◌, ◌*◌, ◌-◌, ◌/◌, ◌%◌, ◌^◌, ◌≤◌, ◌<◌}
+use Prim.Native.Nat.{ℕ, zero, suc, ◌+◌, ◌*◌, ◌-◌, ◌/◌, ◌%◌, ◌^◌, ◌<◌}
 use native.Mathlib.Omega.{arith}
 use lib.Dec.{eqb, ltb, leb}
 use lib.ListN.{length, get_or, take, drop}
@@ -18,7 +18,7 @@ use Rattle.list.specs.Listing.{ref, iban, ccy, bool, num, amt, date, dtm, txt, e
 use Rattle.file_nodes.proofs.Fitted.{agree, agree_is}
 use Rattle.file_nodes.specs.Run.{Sort, over, shut, group, leaf, Node}
 use Rattle.file_nodes.specs.Fitting.{coined, given}
-use Rattle.file_nodes.specs.Entries.{Entry, no_entry, entry_at, node_of, node_at}
+use Rattle.file_nodes.specs.Entries.{Entry, entry_at, node_of, node_at}
 use Rattle.text.specs.Little.{little}
 use Rattle.file_nodes.specs.mirror.Kept.{Inked, Masked, number, after, most, item, Word, Words, Plain, Kept, In, Leading, Tabled}
 

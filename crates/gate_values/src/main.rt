@@ -1,6 +1,8 @@
 // Writes the value of each raw text of its input, a line for each: `refused`, or the value's bytes as an image has them, in lower-case
 // hexadecimal. A case is a kind, its parameter, two 16-bit big-endian lengths, and so many bytes of a currency and of a text; the
 // parameter is TXTk's k, and picks the words of an ENUM, those of a report after those of a statement. The answers that it is held to were computed by another program.
+#![tactic(auto)]
+
 ghost use Rattle.std.specs.Prelude.{◌<◌};
 
 use list::table::{ENUM, MOST_WORDS};

@@ -1,4 +1,6 @@
 // The image that a run begins with: its length, or why it begins with none, and the values in it.
+#![tactic(auto)]
+
 ghost use Rattle.std.specs.Prelude.{◌≡◌};
 ghost use Rattle.list.specs.tables.Laid.{zeros, laid};
 ghost use Rattle.list_house.specs.mirror.Rows.{kept_rows};

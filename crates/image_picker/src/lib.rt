@@ -1,4 +1,6 @@
 // The picker: the n-th leaf of a row in an image whose items begin at a place of a run.
+#![tactic(auto)]
+
 ghost use Rattle.std.specs.Prelude.{◌≡◌};
 ghost use Rattle.image.specs.mirror.Ends.{item_end};
 ghost use Rattle.image.specs.Pick.{Lies};

@@ -11,7 +11,6 @@ use lib.ListN.{length, get_or, take, drop, length-append, length-drop, take-appe
 use lib.Seq.{drop-cons, drop-drop, get_or-drop, get_or-take, length-take-le}
 use Rattle.text.specs.Bytes.{is_capital, is_digit}
 use Rattle.text.specs.Lists.{Each, All}
-use Rattle.text_characters.specs.Utf8.{encode_all}
 use Rattle.list.specs.Listing.{Leaf, iban, amt, date}
 use Rattle.value.specs.types.Code.{Iban, Ccy, is_letter_or_digit}
 use Rattle.value.specs.Judged.{Formed, formed, formless, FormedAny}

@@ -1,7 +1,7 @@
 -- TXTk and REF, read by runs of bytes that stand for themselves. Assumes nothing.
 use mathlib.Core.Path.{◌≡◌, refl, sym, ◌∙◌, ap, ap₂, subst}
 use mathlib.Core.Bool.{Bool, true, false, ◌&&◌, not, true≢false}
-use mathlib.Core.Logic.{◌≢◌, inl, inr}
+use mathlib.Core.Logic.{◌≢◌, inl}
 use mathlib.Core.List.{List, [], ◌∷◌, ◌++◌, append_assoc, append-nil, head-eq_of_cons-eq, nil≢cons}
 use Prim.Native.Nat.{ℕ, suc, ◌+◌, ◌-◌, ◌/◌, ◌%◌, ◌≤◌, ◌<◌}
 use native.Mathlib.Omega.{arith}
@@ -27,12 +27,12 @@ use Rattle.value.specs.mirror.Tests.{not_space}
 use Rattle.value.specs.mirror.Texts.{is_ascii_txt, quiet_txt, quiet_ref, text_from, width_of}
 use Rattle.value.proofs.classes.Classes.{each_all, each_append}
 use Rattle.value.proofs.classes.Ink.{ink_not}
-use Rattle.value.proofs.classes.Computed.{besides, Own, ref_low, ref_own, slash_ref, quiet_is, ascii_is, quiet_txt_lem}
+use Rattle.value.proofs.classes.Computed.{besides, ref_low, ref_own, slash_ref, quiet_is, ascii_is, quiet_txt_lem}
 use Rattle.value.proofs.classes.References.{ref_to}
 use Rattle.value.proofs.raw.Encoding.{encoded_most}
 use Rattle.value.proofs.raw.Sizes.{width_one, next_width, width_least}
 use Rattle.value.proofs.types.Values.{text_bytes_lem}
-use Rattle.value_leaf.specs.Leafed.{found_of, Weighs, Leafed}
+use Rattle.value_leaf.specs.Leafed.{found_of, Leafed}
 use Rattle.value_leaf.specs.declared.found.Found.{Found}
 use Rattle.value_levels.specs.mirror.Levels.{reaches, Leveled, Ran}
 use Rattle.value_lane_texts.specs.mirror.Going.{Sofar, Going, is_second, Umlaut, Slashed}

@@ -2,10 +2,9 @@
 use mathlib.Core.Path.{◌≡◌, refl, sym, ◌∙◌, ap, subst}
 use mathlib.Core.Bool.{Bool, true, false, true≢false, false≢true, not}
 use mathlib.Core.Logic.{◌≢◌}
-use mathlib.Core.List.{List, [], ◌∷◌, ◌++◌, append_assoc}
+use mathlib.Core.List.{List, [], ◌∷◌, ◌++◌}
 use Prim.Native.Nat.{ℕ, ◌+◌, ◌≤◌, ◌<◌}
 use native.Mathlib.Omega.{arith}
-use lib.Dec.{eqb}
 use lib.ListN.{length, get_or, take, drop, length-append, take-append-drop}
 use lib.Seq.{slice, drop_at}
 use borrow.Author.Tests.{eq-eqb, ne_eqb}
@@ -16,7 +15,7 @@ use Rattle.text.proofs.Parts.{starts_is, starts_not}
 use Rattle.text_characters.specs.Pieces.{less, bracket, greater}
 use Rattle.value.specs.given.Giving.{Sized}
 use Rattle.value_leaf.specs.Took.{Uncut}
-use Rattle.value_leaf.specs.Leafed.{is_inside, found_of, Weighs, Leafed, CutTold}
+use Rattle.value_leaf.specs.Leafed.{is_inside, found_of, Leafed, CutTold}
 use Rattle.value_leaf.specs.declared.found.Found.{Found}
 
 -- ---- `<`

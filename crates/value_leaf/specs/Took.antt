@@ -2,7 +2,7 @@
 use Rattle.std.specs.Prelude.{◌≡◌, List, ◌∷◌, ◌++◌, ℕ}
 use Rattle.text_characters.specs.Pieces.{greater, bracket, Spells}
 use Rattle.list.specs.Listing.{Leaf}
-use Rattle.value.specs.Value.{Value, Spelt, bytes}
+use Rattle.value.specs.Value.{Spelt, bytes}
 
 -- nowhere `]]>`
 pub record Uncut (s : List ℕ) : Type 0 where

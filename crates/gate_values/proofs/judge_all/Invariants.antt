@@ -1,9 +1,9 @@
--- `judge_all` is safe and ends: each case moves the place on.
-use Rattle.std.proofs.Common.{length, ◌-◌, ◌≤◌, ◌<◌, ◌^◌}
+-- `judge_all` stays within its bytes, and goes on at each turn. Assumes nothing.
+use Rattle.std.proofs.Common.{◌≤◌, ◌-◌, length}
 use Rattle.gate_values.proofs.judge_all.Given as goal
 
 abbrev pub invariant-loop-i : goal.invariant-loop-i
-invariant-loop-i g l = (l.i ≤ length l.cases) × (length l.cases < 2 ^ 63)
+invariant-loop-i g l = l.i ≤ length l.cases
 
 abbrev pub decreases-loop-i : goal.decreases-loop-i
 decreases-loop-i g l = length l.cases - l.i
