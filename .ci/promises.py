@@ -32,8 +32,6 @@ UNEDITED = {
         'unit_c::kto_check unit_c::kto_size unit_c::kto_read unit_c::kto_count unit_c::kto_pick unit_c::kto_items unit_c::kto_item '
         'unit_c::kto_write unit_c::kto_tidy '
         'xml_skim::is_close xml_skim::text_end',
-    'it promises no bytes, and no more than the library does of reading':
-        'program_input::read_full',
 }
 
 

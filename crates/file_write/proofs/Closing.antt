@@ -5,7 +5,7 @@ use mathlib.Core.List.{List, [], ◌∷◌, ◌++◌, append_assoc, append-nil}
 use Prim.Native.Nat.{ℕ, ◌+◌, ◌-◌, ◌*◌, ◌≤◌, ◌<◌}
 use native.Mathlib.Omega.{arith}
 use lib.ListN.{length, length-append}
-use Rattle.list.specs.Listing.{Listing, size, row_at, Child}
+use Rattle.list.specs.Listing.{Listing, row_at}
 use Rattle.list.specs.tables.Table.{cell, name_in, list_of}
 use Rattle.list.proofs.rows.Rows.{size_is, parent_is}
 use Rattle.file_letter.specs.mirror.Tell.{shuts, closes}

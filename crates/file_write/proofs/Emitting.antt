@@ -1,43 +1,33 @@
 -- The pass over an image that puts its file: what is put so far, with what the items to come tell, is the whole file. Assumes nothing.
-use mathlib.Core.Path.{◌≡◌, refl, sym, ◌∙◌, ap, ap₂, subst}
+use mathlib.Core.Path.{◌≡◌, sym, ◌∙◌, ap, ap₂, subst}
 use mathlib.Core.Logic.{◌≢◌}
-use mathlib.Core.Bool.{Bool, true, false, true≢false}
-use mathlib.Core.List.{List, [], ◌∷◌, ◌++◌, append_assoc, append-nil, head-eq_of_cons-eq, tail-eq_of_cons-eq}
-use mathlib.Core.Option.{Option, none, some}
+use mathlib.Core.Bool.{Bool, true, false}
+use mathlib.Core.List.{List, [], ◌∷◌, ◌++◌, append_assoc}
+use mathlib.Core.Option.{Option, none}
 use Prim.Native.Nat.{ℕ, ◌+◌, ◌*◌, ◌≤◌, ◌<◌}
 use native.Mathlib.Omega.{arith}
-use native.Mathlib.Numerals.{add-one}
-use lib.ListN.{length, get_or, drop, length-append, length-drop}
-use lib.Seq.{drop-cons, drop-drop, drop_at}
+use lib.ListN.{length, get_or, drop}
 use Rattle.answer.specs.Table.{limit}
 use Rattle.text.specs.Bytes.{ascii}
-use Rattle.text.specs.Lists.{Each}
 use Rattle.text.specs.Puts.{Puts}
 use Rattle.text.proofs.Puts.{puts_none, puts_then, puts_as}
-use Rattle.list.specs.Listing.{Leaf, Kind, group, choice, leaf, Listing, size, row_at, Child, is_group}
-use Rattle.list.specs.WellFormed.{LeafOk, KindOk}
-use Rattle.list.specs.Content.{Content, end, value, node, rows, items, Good, Meets}
-use Rattle.list.specs.tables.Table.{cell, kind_of, words_in, list_of}
-use Rattle.list.specs.tables.Sound.{word_count, Sound}
-use Rattle.list.proofs.rows.Rows.{size_is, parent_is, kind_is}
-use Rattle.value.specs.Value.{Value, IsValue, bytes as valued}
+use Rattle.list.specs.Listing.{Leaf, Kind, Listing, size, row_at}
+use Rattle.list.specs.Content.{Content, end, value, node, items}
+use Rattle.list.specs.tables.Table.{cell, list_of}
+use Rattle.list.specs.tables.Sound.{Sound}
+use Rattle.value.specs.Value.{Value, bytes as valued}
 use Rattle.value.specs.script.Script.{script_of}
-use Rattle.value.specs.given.Stands.{taken}
 use Rattle.value.specs.mirror.Ends.{width}
-use Rattle.value.proofs.stored.Meaning.{ends_one}
 use Rattle.xml.specs.House.{render}
-use Rattle.image.specs.Image.{Item, value_bytes, items_bytes, body}
+use Rattle.image.specs.Image.{Item, value_bytes}
 use Rattle.image.specs.Kinds.{values}
 use Rattle.image.specs.Place.{Holds}
-use Rattle.image.specs.mirror.Follow.{OfKind, ItemOk}
 use Rattle.list.specs.tables.Numbers.{is_group_in}
-use Rattle.file_walk.proofs.bytes.Sound.{group_in}
 use Rattle.file_letter.specs.Letter.{text_in, coin_of, words_in as in_words, letter_of}
 use Rattle.file_letter.specs.mirror.Tell.{opens, shuts, closes, tell}
-use Rattle.file_letter.proofs.tree.Has.{rooted}
 use Rattle.file_letter.proofs.tree.Telling.{letter_told}
 use Rattle.file_write.specs.mirror.Tags.{start_in, open_in, shut_in, root_in, Opened}
-use Rattle.file_write.specs.mirror.Emit.{coin_text, ValueAt, leaf_in, LeafPut, Held, Emits}
+use Rattle.file_write.specs.mirror.Emit.{coin_text, leaf_in, LeafPut, Held, Emits}
 use Rattle.file_write.proofs.Standing.{Standing, kids, is_root_lem, stand_first, stand_start, stand_in, stand_end, Ahead, ahead, row_parent, row_parent_in, group_none, group_after, Leafed, leafed, value_at_lem, end_is, leaf_after}
 use Rattle.file_write.proofs.Tagging.{closes_most, open_most, root_most, open_is, shut_is, root_is, leaf_open}
 

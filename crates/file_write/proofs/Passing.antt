@@ -3,11 +3,11 @@ use mathlib.Core.Path.{◌≡◌, refl, sym, ◌∙◌, ap, ap₂, subst}
 use mathlib.Core.Logic.{◌≢◌}
 use mathlib.Core.Bool.{Bool, true, false, not, cond, true≢false}
 use mathlib.Core.List.{List, [], ◌∷◌, ◌++◌, append_assoc, append-nil}
-use mathlib.Core.Option.{Option, none, some}
+use mathlib.Core.Option.{Option, none}
 use Prim.Native.Nat.{ℕ, ◌+◌, ◌%◌, ◌≤◌, ◌<◌}
 use native.Mathlib.Omega.{arith}
 use lib.Dec.{eqb}
-use lib.Seq.{drop-drop, slice}
+use lib.Seq.{drop-drop}
 use borrow.Author.Tests.{eq-eqb, ne_eqb, eqb-true}
 use lib.ListN.{length, get_or, take, drop, length-append}
 use Rattle.text.specs.Bytes.{is_name_start, is_name_part}
@@ -19,7 +19,7 @@ use Rattle.list.specs.Changed.{Gone}
 use Rattle.list.specs.tables.Table.{cell, name_in, list_of}
 use Rattle.list.specs.tables.Sound.{Sound}
 use Rattle.list.proofs.rows.Rows.{size_is, name_is}
-use Rattle.value.specs.Value.{Value, text, place, truth, natural, amount, day, moment, IsValue, bytes as valued}
+use Rattle.value.specs.Value.{Value, moment, IsValue, bytes as valued}
 use Rattle.value.specs.Rules.{InThousandths}
 use Rattle.value.specs.Kind.{code}
 use Rattle.value.specs.mirror.Ends.{width}

@@ -7,7 +7,7 @@ use lib.ListN.{length}
 use lib.Seq.{slice}
 use Rattle.text.specs.Pasting.{pasted}
 use Rattle.text.proofs.Parts.{part_length}
-use Rattle.list.specs.tables.Table.{cell, name_in}
+use Rattle.list.specs.tables.Table.{cell}
 use Rattle.text.specs.Puts.{Puts}
 use Rattle.file_write.specs.mirror.Tags.{start_in}
 use Rattle.text.proofs.Puts.{puts_pasted, puts_then}

@@ -10,7 +10,7 @@ use lib.ListN.{length, length-append}
 use lib.Seq.{slice}
 use borrow.Author.Tests.{lt-ltb}
 use Rattle.text.specs.Bytes.{ascii, is_unmarked, is_capital}
-use Rattle.text.specs.Lists.{Each, All}
+use Rattle.text.specs.Lists.{Each}
 use Rattle.text.proofs.Classes as classes
 use Rattle.text_characters.specs.Utf8.{encode}
 use Rattle.text_characters.proofs.Unmarked.{unmarked}
@@ -25,7 +25,7 @@ use Rattle.value.proofs.classes.Classes.{each_all}
 use Rattle.file_letter.proofs.tree.Trees.{plainly}
 use Rattle.file_letter.specs.Letter.{attr_of, coin_of}
 use Rattle.file_letter.specs.mirror.Tell.{opens, shuts, closes}
-use Rattle.file_write.specs.mirror.Tags.{start_in, open_in, shut_in, root_in, coin_in}
+use Rattle.file_write.specs.mirror.Tags.{start_in, open_in, shut_in, root_in}
 use Rattle.file_write.specs.mirror.Emit.{coin_text}
 use Rattle.file_write.proofs.Putting.{part_most}
 

@@ -13,10 +13,9 @@ use Rattle.answer.specs.Table.{limit, accepted, no_room, too_large, too_fine, re
 use Rattle.text.specs.Lists.{Each}
 use Rattle.text.specs.Puts.{Puts}
 use Rattle.text.proofs.Pasting.{pasted_yes}
-use Rattle.list.specs.Listing.{Kind, Listing, size, is_group}
+use Rattle.list.specs.Listing.{Kind, Listing, is_group}
 use Rattle.list.specs.Content.{Content, end, node, items, Good, Meets}
 use Rattle.list.specs.Within.{Within}
-use Rattle.list.specs.Changed.{Gone}
 use Rattle.list.specs.tables.Table.{list_of}
 use Rattle.list.specs.tables.Sound.{Sound}
 use Rattle.list.specs.tables.Laid.{laid}

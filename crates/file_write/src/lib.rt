@@ -1,4 +1,6 @@
 // The statement file of the image that a run begins with: measured, then written into a lent buffer.
+#![tactic(auto)]
+
 ghost use Rattle.file_letter.specs.Writes.{Writes};
 
 use answer::Answer;

@@ -3,5 +3,3 @@
 pub mod Division
 -- the reader that holds its run
 pub mod Holding
--- a held reader is taken apart, and another function is called
-pub mod Apart

@@ -1,5 +1,5 @@
 -- A mirror: a leaf's element as the tables and the run say it, and what the pass over an image puts. Assumes nothing.
-use Rattle.std.specs.Prelude.{◌≡◌, cond, List, [], ◌∷◌, ◌++◌, ℕ, ◌+◌, ◌≤◌, eqb, length, drop}
+use Rattle.std.specs.Prelude.{◌≡◌, cond, List, [], ◌++◌, ℕ, ◌+◌, ◌≤◌, eqb, length, drop}
 use Rattle.std.proofs.Math.Seq.{slice}
 use Rattle.answer.specs.Table.{limit}
 use Rattle.text.specs.Bytes.{ascii}

@@ -1,5 +1,5 @@
 -- A mirror: the tags of a row, as the two tables say them. Assumes nothing.
-use Rattle.std.specs.Prelude.{List, [], ◌∷◌, ◌++◌, ℕ, ◌≤◌, length}
+use Rattle.std.specs.Prelude.{List, ◌++◌, ℕ, ◌≤◌, length}
 use Rattle.std.proofs.Math.Seq.{slice}
 use Rattle.text.specs.Bytes.{ascii}
 use Rattle.list.specs.Listing.{size}
