@@ -12,7 +12,7 @@ use Rattle.answer.specs.declared.Answer.{Answer}
 use Rattle.answer.specs.Table.{accepted, limit, not_utf8, not_house_xml, no_room, broken_image}
 use Rattle.answer.specs.Table as table
 use Rattle.text_characters.specs.Utf8.{Utf8}
-use Rattle.list.specs.Listing.{Leaf, Listing}
+use Rattle.list.specs.Listing.{Listing}
 use Rattle.list.specs.WellFormed.{WellFormed}
 use Rattle.list.specs.Content.{Content, items, Meets}
 use Rattle.list.specs.Within.{Among}

@@ -1,7 +1,7 @@
 -- Of a file, 8 never names row 35: a BkTxCd with a child has Domn, since nothing else may stand there. And in a good file each has exactly one. Assumes nothing.
 use mathlib.Core.Path.{◌≡◌, refl, sym, ◌∙◌, ap, subst}
 use mathlib.Core.Logic.{◌≢◌}
-use mathlib.Core.Bool.{Bool, true, false, cond, ◌&&◌, not, true≢false, false≢true}
+use mathlib.Core.Bool.{Bool, true, false, ◌&&◌, not, true≢false, false≢true}
 use mathlib.Core.List.{List, [], ◌∷◌}
 use Prim.Native.Nat.{ℕ, zero, suc, ◌+◌, ◌<◌}
 use native.Mathlib.Omega.{arith}
@@ -15,7 +15,7 @@ use Rattle.text.specs.Lists.{Each}
 use Rattle.text.proofs.Classes.{and_is}
 use Rattle.text_characters.specs.Pieces.{spell}
 use Rattle.list.specs.Words.{times, has}
-use Rattle.list.specs.Listing.{Leaf, Kind, group, choice, leaf, Count, Listing, size, row_at, Child, child, is_group, is_choice, required}
+use Rattle.list.specs.Listing.{Kind, group, choice, leaf, Count, Listing, size, row_at, Child, child, is_group, is_choice, required}
 use Rattle.list.specs.Content.{CountOk, Children}
 use Rattle.list.specs.Within.{Among}
 use Rattle.list.specs.Changed.{Gone}
@@ -30,7 +30,7 @@ use Rattle.text.specs.Bytes.{is_blank}
 use Rattle.file_walk.specs.declared.found.Found.{Found}
 use Rattle.file_walk.specs.declared.found.Found.TheVariants.{Fine, Violation}
 use Rattle.file_walk.specs.Types.{Judge}
-use Rattle.file_walk.specs.First.{First, refuse, or_else, is_empty, passed, breaks, text_of, currency_given, attrs_ok, kind_of, is_root, absent_row, child_rows, opening, group_end, closing, inside, first_violation}
+use Rattle.file_walk.specs.First.{refuse, or_else, is_empty, passed, breaks, text_of, currency_given, attrs_ok, kind_of, is_root, absent_row, child_rows, opening, group_end, closing, inside, first_violation}
 use Rattle.file_walk.proofs.violation.Opening.{over_count, opening_is}
 use Rattle.file.specs.Instance.{house_kinds}
 use Rattle.file.specs.File.{message_in}

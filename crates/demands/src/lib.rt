@@ -1,1 +1,3 @@
+#![tactic(auto)]
+
 // The three demands on the unit, each as one theorem.

@@ -6,10 +6,10 @@ use mathlib.Core.List.{List}
 use Prim.Native.Nat.{ℕ, ◌-◌, ◌≤◌, ◌<◌}
 use native.Mathlib.Decide.{ℕ_discrete, dec_lt}
 use native.Mathlib.Omega.{arith}
-use lib.Dec.{eqb, ltb}
+use lib.Dec.{ltb}
 use borrow.Author.Tests.{eq-eqb, ne_eqb, lt-ltb, le-ltb}
 use Rattle.text.specs.Lists.{same}
-use Rattle.list.specs.Listing.{Listing, row_at, size, Child, child}
+use Rattle.list.specs.Listing.{Listing, row_at, Child, child}
 use Rattle.list.specs.tables.Table.{cell, name_in, list_of}
 use Rattle.list.specs.tables.Sound.{next_child}
 use Rattle.list.proofs.rows.Words.{same_eq, same_of}

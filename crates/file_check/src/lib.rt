@@ -1,4 +1,6 @@
 // A file checked: its image at the start of a lent buffer, or the one answer that says why there is none.
+#![tactic(auto)]
+
 ghost use Rattle.file.specs.Checks.{Checks};
 
 use answer::Answer;

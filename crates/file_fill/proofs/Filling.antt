@@ -1,32 +1,30 @@
 -- The pass that writes, turn by turn: what a run still has to come is put from here on. Assumes nothing.
-use mathlib.Core.Path.{◌≡◌, refl, sym, ◌∙◌, ap, ap₂, subst}
+use mathlib.Core.Path.{◌≡◌, refl, sym, ◌∙◌, ap, subst}
 use mathlib.Core.Bool.{Bool, true, false, not, false≢true}
 use mathlib.Core.Logic.{◌≢◌}
-use mathlib.Core.List.{List, [], ◌∷◌, ◌++◌, append_assoc, append-nil}
+use mathlib.Core.List.{List, [], ◌∷◌, ◌++◌, append_assoc}
 use mathlib.Core.Option.{Option, none, some}
-use Prim.Native.Nat.{ℕ, suc, ◌+◌, ◌*◌, ◌-◌, ◌/◌, ◌%◌, ◌≤◌, ◌<◌}
+use Prim.Native.Nat.{ℕ, ◌+◌, ◌*◌, ◌-◌, ◌/◌, ◌%◌, ◌≤◌, ◌<◌}
 use native.Mathlib.Omega.{arith}
 use native.Mathlib.Decide.{ℕ_discrete}
 use lib.ListN.{length, get_or, take, drop, take-append-drop, length-append, length-drop}
-use lib.Seq.{slice, drop-drop, take_all, drop-append_seam}
+use lib.Seq.{drop-drop, take_all, drop-append_seam}
 use Rattle.text.specs.Bytes.{is_blank}
 use Rattle.text.specs.Lists.{span}
 use Rattle.text.specs.Pasting.{pasted}
 use Rattle.text.specs.Puts.{Puts}
 use Rattle.text.proofs.Puts.{puts_none, puts_pasted, puts_then, puts_as}
-use Rattle.text_characters.specs.Pieces.{less}
 use Rattle.list.specs.Listing.{Leaf, enum}
 use Rattle.xml.specs.House.{Quote}
 use Rattle.value.specs.Judged.{Exactly}
-use Rattle.value_leaf.specs.Took.{TookAs}
 use Rattle.file.specs.Instance.{Kinds, house_kinds}
-use Rattle.file_nodes.specs.Run.{Sort, over, shut, group, leaf, Node, Head, Run, blank, else, ends, closes, opens, tells}
+use Rattle.file_nodes.specs.Run.{Sort, over, shut, group, leaf, Node, Run, blank, else, ends, closes, opens, tells}
 use Rattle.file_nodes.specs.Fitting.{coined, given}
 use Rattle.text.specs.Little.{Loaded}
-use Rattle.file_nodes.specs.mirror.Kept.{leaf_number, number, after, item, Plain, Kept, In}
+use Rattle.file_nodes.specs.mirror.Kept.{number, after, item, Plain, Kept, In}
 use Rattle.file_lane.specs.mirror.Turn.{Matches, other_in}
 use Rattle.image_head.specs.Head.{head_of}
-use Rattle.file_fill.specs.mirror.Fills.{info_in, kind_in, next_in, Placed, Ways, StandsAt, Meets, LeafAt, LeafAsked, LeafLaid, TurnAsked, Went, Fillable, Fills}
+use Rattle.file_fill.specs.mirror.Fills.{info_in, kind_in, next_in, StandsAt, Meets, LeafAt, LeafAsked, LeafLaid, TurnAsked, Went, Fillable, Fills}
 use Rattle.file_nodes.proofs.Inverting.{Tagged, no_blank, unblanked, passed, Met, ended, closed, opened, told, met}
 use Rattle.file_lane.proofs.Going.{after_blanks}
 use Rattle.file_lane.proofs.Looping.{tag_masked}

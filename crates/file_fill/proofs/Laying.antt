@@ -24,7 +24,6 @@ use Rattle.text_characters.proofs.Unmarked.{unmarked_is}
 use Rattle.list.specs.Listing.{Leaf, ref, iban, ccy, bool, num, amt, date, dtm, txt, enum}
 use Rattle.list.specs.WellFormed.{LeafOk}
 use Rattle.xml.specs.House.{Quote, single_quote, double, mark}
-use Rattle.value.specs.types.Code.{Ccy}
 use Rattle.value.specs.parts.Form.{WordAt, Form, reference, writing, account, currency, listed, either, count, money, dated, timed, Left}
 use Rattle.value.specs.Kind.{code, Given}
 use Rattle.value.specs.Value.{Value, text, place, day, Spelt, bytes}
@@ -46,7 +45,7 @@ use Rattle.value_lane.proofs.Firms.{date_ends}
 use Rattle.file_nodes.specs.Run.{Head}
 use Rattle.text.specs.Little.{little, Loaded}
 use Rattle.file_fill.specs.mirror.Copying.{RawAt, TextAsked, TextLaid}
-use Rattle.file_fill.specs.mirror.Fills.{word_of, word_in, Placed, LeafAt, LeafAsked, LeafLaid, OtherLaid}
+use Rattle.file_fill.specs.mirror.Fills.{word_of, word_in, LeafAt, LeafAsked, LeafLaid, OtherLaid}
 use Rattle.file_fill.proofs.Copying.{inside_raw}
 use Rattle.file_nodes.proofs.Texting.{capitals_unmarked}
 use Rattle.file_lane.proofs.Turning.{coin_number, coin_high, coin_apart, Numbered, word, coin, plainly, numbered}

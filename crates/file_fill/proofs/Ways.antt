@@ -14,18 +14,17 @@ use borrow.Author.Tests.{eqb-true, leb-true}
 use Rattle.text.specs.Bytes.{is_capital}
 use Rattle.text.specs.Lists.{All}
 use Rattle.text.proofs.Classes.{and_is, or_is}
-use Rattle.text_characters.specs.Pieces.{less, greater, solidus}
+use Rattle.text_characters.specs.Pieces.{greater, solidus}
 use Rattle.list.specs.Listing.{ref, iban, ccy, bool, num, amt, date, dtm, txt, enum, Listing, row_at}
 use Rattle.list.specs.tables.Test.{every}
 use Rattle.list_house.specs.House.{house, report, stored_house, stored_report}
-use Rattle.value.specs.parts.Form.{WordAt}
 use Rattle.file_nodes.specs.Run.{Sort, over, shut, group, leaf, Node}
 use Rattle.file_nodes.specs.Entries.{Entry, entry_at, tag_of, node_of, node_at}
 use Rattle.file_nodes.specs.mirror.Nodes.{house_entries, report_entries}
 use Rattle.file_nodes.specs.mirror.Tables.{house_table, report_table}
 use Rattle.text.specs.Little.{little}
-use Rattle.file_nodes.specs.mirror.Kept.{In, Tabled}
-use Rattle.file_fill.specs.mirror.Fills.{word_of, word_in, Placed, Ways}
+use Rattle.file_nodes.specs.mirror.Kept.{Tabled}
+use Rattle.file_fill.specs.mirror.Fills.{word_of, word_in, Ways}
 use Rattle.list.proofs.sound.Sound.{every_is}
 use Rattle.file_nodes.proofs.House.{tagged}
 

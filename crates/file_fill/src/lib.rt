@@ -1,4 +1,6 @@
 // The image of a file that the lane knows to be good, written by the lane's nodes at the start of a lent buffer.
+#![tactic(auto)]
+
 mod puts; // puts.rt: the value of a leaf
 mod fill; // fill.rt: the pass that writes
 

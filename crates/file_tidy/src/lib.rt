@@ -1,4 +1,6 @@
 // A file tidied: checked, then written again from its image. The image goes into one lent buffer, the tidied file into another.
+#![tactic(auto)]
+
 ghost use Rattle.file_letter.specs.Tidies.{Tidies};
 
 use answer::Answer;

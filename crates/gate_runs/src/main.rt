@@ -1,6 +1,8 @@
 // Reads, or picks from, each run of its input, and writes a line for each: `CODE ROW PLACE` and, after a blank, the part that was
 // picked, in hexadecimal. A run stands after 13 bytes: 1 for a read or 2 for a pick, then the row, the n and the run's length, each
 // in 32 bits, little-endian. The answers that it is held to were computed by another program.
+#![tactic(auto)]
+
 ghost use Rattle.std.specs.Prelude.{◌<◌};
 
 use answer::Answer;

@@ -1,4 +1,6 @@
 // The program: one statement file from standard input; its image, or the line of its refusal, to standard output.
+#![tactic(auto)]
+
 mod said; // said.rt: what it writes, computed on slices
 
 use program_input::read_full;

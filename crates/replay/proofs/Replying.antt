@@ -1,23 +1,20 @@
 -- The line for a case, op by op; and that no other fits. Assumes nothing.
 use mathlib.Core.Path.{◌≡◌, refl, sym, ◌∙◌, ap, ap₂, subst}
-use mathlib.Core.Logic.{◌≢◌}
 use mathlib.Core.Bool.{Bool, true, false, cond}
 use mathlib.Core.List.{List, []}
 use Prim.Native.Nat.{ℕ, ◌+◌, ◌≤◌, ◌<◌}
 use native.Mathlib.Omega.{arith}
 use native.Mathlib.Decide.{ℕ_discrete}
 use lib.Dec.{eqb}
-use lib.ListN.{length, take, drop, replicate, length-take}
-use lib.Seq.{slice}
-use borrow.Author.Tests.{le-leb, eq-eqb, ne_eqb, eqb-true}
+use lib.ListN.{length, take, drop, length-take}
+use borrow.Author.Tests.{le-leb, eqb-true}
 use Rattle.io.specs.Counts.{IsPrefixLen}
 use Rattle.text.specs.Numbers.{big_endian}
-use Rattle.text.specs.Pasting.{pasted}
 use Rattle.text.proofs.Pasting.{length_pasted}
 use Rattle.answer.specs.declared.Answer.{Answer}
 use Rattle.answer.specs.Table.{limit}
 use Rattle.image_reading.proofs.House.{house_reads_one, house_counts_one, house_picks_one}
-use Rattle.image_reading.specs.Reads.{HouseReads, HouseCounts}
+use Rattle.image_reading.specs.Reads.{HouseCounts}
 use Rattle.file.specs.Checks.{Checks, Finds}
 use Rattle.file_letter.specs.Writes.{Writes}
 use Rattle.file_letter.proofs.Rooms.{written_alike}

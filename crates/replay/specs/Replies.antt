@@ -6,7 +6,6 @@ use Rattle.image_reading.specs.Reads.{HouseReads, HouseCounts, HousePicks}
 use Rattle.file.specs.Checks.{Checks}
 use Rattle.file_letter.specs.Writes.{Writes}
 use Rattle.file_letter.specs.Tidies.{Tidies}
-use Rattle.program_feed.specs.declared.case.Case.{Case}
 use Rattle.program_feed.specs.declared.case.Case.TheVariants.{Check, Read, Pick, Write, Count, Tidy, Broken}
 use Rattle.program_feed.specs.Cases.{case_in, bytes_in}
 use Rattle.program_reply.specs.Reply.{answer_line, pair_line, broken_line, held_length}

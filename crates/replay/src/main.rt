@@ -1,4 +1,6 @@
 // Answers a feed of cases from standard input, with a line for each to standard output.
+#![tactic(auto)]
+
 mod reply; // reply.rt: the line for a case, computed on slices
 
 ghost use Rattle.std.specs.Prelude.{◌≡◌, ◌+◌, ◌≤◌, length, IfOk};

@@ -1,4 +1,6 @@
 // The program: a file from standard input; the tidied file, or the line of a refusal, to standard output.
+#![tactic(auto)]
+
 mod shown; // shown.rt: what it writes, computed on slices
 
 use answer::Answer;

@@ -1,4 +1,6 @@
 // The unit: one statement file in, its record image out; images read, and values picked from them.
+#![tactic(auto)]
+
 pub mod check; // check.rt: the entry for files
 pub mod read; // read.rt: the entry for images
 pub mod pick; // pick.rt: the entry for values

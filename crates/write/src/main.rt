@@ -1,4 +1,6 @@
 // The program: a run of images from standard input; the statement file of the first, or the line of a refusal, to standard output.
+#![tactic(auto)]
+
 mod sent; // sent.rt: what it writes, computed on slices
 
 use answer::Answer;

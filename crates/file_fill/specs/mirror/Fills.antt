@@ -1,5 +1,5 @@
 -- A mirror: where the pass that writes stands, and what it puts. Assumes nothing.
-use Rattle.std.specs.Prelude.{◌≡◌, cond, ◌≢◌, List, [], ◌∷◌, ◌++◌, ℕ, ◌+◌, ◌*◌, ◌/◌, ◌%◌, ◌≤◌, ◌<◌, eqb, length, get_or, drop}
+use Rattle.std.specs.Prelude.{◌≡◌, cond, ◌≢◌, List, ◌∷◌, ◌++◌, ℕ, ◌+◌, ◌*◌, ◌/◌, ◌%◌, ◌≤◌, ◌<◌, eqb, length, get_or, drop}
 use Rattle.std.proofs.Math.Option.{Option, none}
 use Rattle.std.proofs.Math.Seq.{slice}
 use Rattle.answer.specs.Table.{limit}
@@ -14,7 +14,7 @@ use Rattle.value.specs.given.Giving.{Written}
 use Rattle.value_leaf.specs.Leafed.{is_inside}
 use Rattle.value_leaf.specs.Took.{Took}
 use Rattle.file.specs.Instance.{house_kinds}
-use Rattle.file_nodes.specs.Run.{Sort, leaf, Node, Head, Run}
+use Rattle.file_nodes.specs.Run.{leaf, Node, Head, Run}
 use Rattle.file_nodes.specs.Fitting.{coined, given}
 use Rattle.text.specs.Little.{little}
 use Rattle.file_nodes.specs.mirror.Fields.{width, info, words_at, more_words, next_field, upper, letters, chunk, coin_long, ending}

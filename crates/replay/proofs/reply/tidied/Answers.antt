@@ -1,0 +1,31 @@
+-- `reply::tidied` meets its contract: what stands in either buffer follows the answer. Assumes nothing.
+use mathlib.Core.Path.{sym}
+use native.Mathlib.Omega.{arith}
+use lib.Seq.{length-take-le}
+use Rattle.replay.proofs.Replying.{tidied_room, put_tidied}
+use Rattle.replay.proofs.reply.tidied.Goals as goal
+
+pub slice_bounds-put_pair-end : goal.slice_bounds-put_pair-end
+slice_bounds-put_pair-end c = c.image_held-m.ensures.within
+
+pub slice_bounds-put_pair-end-2 : goal.slice_bounds-put_pair-end-2
+slice_bounds-put_pair-end-2 c = sym (length-take-le _ _ c.image_held-m.ensures.within)
+
+pub slice_bounds-put_pair-end-3 : goal.slice_bounds-put_pair-end-3
+slice_bounds-put_pair-end-3 c =
+    let f = tidied_room _ _ _ _ _ _ c.tidy-a.ensures in
+    omega (arith, c.held-n.ensures, f)
+
+pub slice_bounds-put_pair-end-4 : goal.slice_bounds-put_pair-end-4
+slice_bounds-put_pair-end-4 c =
+    let f = tidied_room _ _ _ _ _ _ c.tidy-a.ensures in
+    sym (length-take-le _ _ (omega (arith, c.held-n.ensures, f)))
+
+pub returns : goal.returns
+returns c = let w = let p = c.put_pair in
+    let n = c.held-n in
+    let m = c.image_held-m in
+    let t = c.tidy-a in
+    let f = tidied_room _ _ _ _ _ _ t.ensures in
+    put_tidied _ _ _ _ _ _ t.ensures _ m.result n.result m.ensures.is n.ensures (omega arith) (omega (arith, m.ensures.within, c.requires.0))
+    (omega (arith, n.ensures, f, c.requires.1.0)) c.args.line.now p.result _ c.requires.1.1 p.ensures.most p.ensures.put in record { is = w.0; within = w.1 }

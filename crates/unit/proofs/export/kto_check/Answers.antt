@@ -1,0 +1,5 @@
+-- `export::kto_check` meets its contract: the call's answer is what is handed out. Assumes nothing.
+use Rattle.unit.proofs.export.kto_check.Goals as goal
+
+pub returns : goal.returns
+returns c = rw c.hand.ensures c.check.ensures
