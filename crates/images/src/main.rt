@@ -1,5 +1,7 @@
 // The program: a run of images from standard input; for each image a line with its place, its length and its items to standard output, and after the last
 // the line of the reader's refusal, where anything is left.
+#![tactic(auto)]
+
 mod divided; // divided.rt: what it writes, computed on slices
 
 use answer::Answer;
