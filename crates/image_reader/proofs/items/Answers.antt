@@ -5,8 +5,20 @@ use mathlib.Core.Path.{◌≡◌, subst}
 use borrow.Author.Rules.{rules}
 use Rattle.image.specs.mirror.Ends.{item_end}
 use Rattle.image.proofs.loops.Ends.{item_on, item_leaf, item_group}
-use Rattle.image.proofs.loops.ReaderTurn.{AtByte, AtRow, begins, runs_out, closes, too_soon, strays, breaks, goes_on, counted}
+use Rattle.image.proofs.loops.ReaderTurn.{Here, AtByte, AtRow, begins, runs_out, closes, too_soon, strays, breaks, goes_on, counted}
+use Rattle.std.proofs.Common.{◌≢◌, List, ℕ, Bool, length, get_or}
+use Rattle.image.specs.mirror.Step.{follows}
 use Rattle.image_reader.proofs.items.Goals as goal
+
+-- what a turn has been told when it has read a byte, and when it knows whether that row may come; a leaf's item goes further
+abbrev read_by : {t : List ℕ} {fin : ℕ → ℕ → ℕ} {s : List ℕ} {from q i n x : ℕ} → Here t fin s from q i n → i < length s → x ≡ get_or s i 0 → AtByte
+read_by {t} {fin} {s} {from} {q} {i} {n} {x} h w e = record { t = t; fin = fin; s = s; from = from; q = q; i = i; n = n; here = h; x = x; inside = w; is = e }
+
+abbrev row_by : (read : AtByte) {b : Bool} → read.x ≢ 0 → b ≡ follows read.t read.q read.x → AtRow
+row_by read {b} r e = record { read = read; row = r; b = b; next = e }
+
+further : (t s : List ℕ) (x i e : ℕ) → e ≡ item_end t s x (i + 1) → (e ≡ 0 → ⊥) → i < e
+further t s x i e is some = omega (arith, item_on t s x (i + 1) (subst (λ z. 0 < z) is (omega arith)), is)
 
 pub loop-i-init : goal.loop-i-init
 loop-i-init c =
@@ -15,67 +27,64 @@ loop-i-init c =
 
 pub overflow_add-count : goal.overflow_add-count
 overflow_add-count c =
-    let read : AtByte = record { t = _; fin = _; s = _; from = _; q = _; i = _; n = _; here = c.loop-i.invariant; x = _; inside = c.loop-i-test.true; is = c.wide-x.ensures } in
+    let read = read_by c.loop-i.invariant c.loop-i-test.true c.wide-x.ensures in
     let few = counted read in search rules
 
 pub returns-then-ended : goal.returns-then-ended
 returns-then-ended c =
-    let read : AtByte = record { t = _; fin = _; s = _; from = _; q = _; i = _; n = _; here = c.loop-i.invariant; x = _; inside = c.loop-i-test.true; is = c.wide-x.ensures } in
+    let read = read_by c.loop-i.invariant c.loop-i-test.true c.wide-x.ensures in
     closes read _ _ _ c.closed.ensures c.if-x-eq0.true c.ended.ensures c.if-ended.true
 
 pub returns-then-x-eq0 : goal.returns-then-x-eq0
 returns-then-x-eq0 c =
-    let read : AtByte = record { t = _; fin = _; s = _; from = _; q = _; i = _; n = _; here = c.loop-i.invariant; x = _; inside = c.loop-i-test.true; is = c.wide-x.ensures } in
+    let read = read_by c.loop-i.invariant c.loop-i-test.true c.wide-x.ensures in
     too_soon read _ _ _ c.broken.ensures c.if-x-eq0.true c.ended.ensures c.if-ended.false
 
 pub returns-then-i-eq0 : goal.returns-then-i-eq0
 returns-then-i-eq0 c =
-    let read : AtByte = record { t = _; fin = _; s = _; from = _; q = _; i = _; n = _; here = c.loop-i.invariant; x = _; inside = c.loop-i-test.true; is = c.wide-x.ensures } in
-    let row : AtRow = record { read = read; row = c.if-x-eq0.false; b = _; next = c.follows.ensures } in
+    let read = read_by c.loop-i.invariant c.loop-i-test.true c.wide-x.ensures in
+    let row = row_by read c.if-x-eq0.false c.follows.ensures in
     let end : c.value_end-i.result ≡ read.fin read.x (read.i + 1) =
     item_leaf _ _ _ _ _ c.is_leaf.ensures c.if-is_leaf.true _ _ _ _ c.cell.ensures c.cell-then-is_leaf.ensures c.cell-then-is_leaf-2.ensures c.value_end-i.ensures.is in
     breaks row _ _ _ c.broken-then-i-eq0.ensures c.if-follows.true end c.if-i-eq0.true
 
 pub overflow_add-count-then-is_leaf : goal.overflow_add-count-then-is_leaf
 overflow_add-count-then-is_leaf c =
-    let read : AtByte = record { t = _; fin = _; s = _; from = _; q = _; i = _; n = _; here = c.loop-i.invariant; x = _; inside = c.loop-i-test.true; is = c.wide-x.ensures } in
-    let row : AtRow = record { read = read; row = c.if-x-eq0.false; b = _; next = c.follows.ensures } in
+    let read = read_by c.loop-i.invariant c.loop-i-test.true c.wide-x.ensures in
     let few = counted read in search rules
 
 pub loop-i-smaller-then-is_leaf : goal.loop-i-smaller-then-is_leaf
 loop-i-smaller-then-is_leaf c =
-    let read : AtByte = record { t = _; fin = _; s = _; from = _; q = _; i = _; n = _; here = c.loop-i.invariant; x = _; inside = c.loop-i-test.true; is = c.wide-x.ensures } in
-    let row : AtRow = record { read = read; row = c.if-x-eq0.false; b = _; next = c.follows.ensures } in
+    let read = read_by c.loop-i.invariant c.loop-i-test.true c.wide-x.ensures in
     let end : c.value_end-i.result ≡ read.fin read.x (read.i + 1) =
     item_leaf _ _ _ _ _ c.is_leaf.ensures c.if-is_leaf.true _ _ _ _ c.cell.ensures c.cell-then-is_leaf.ensures c.cell-then-is_leaf-2.ensures c.value_end-i.ensures.is in
-    let further : read.i < c.value_end-i.result = omega (arith, c.if-i-eq0.false, end, item_on read.t read.s read.x (read.i + 1) (subst (λ z. 0 < z) end (search rules))) in
-    omega (arith, read.inside, further)
+    let on = further read.t read.s read.x read.i _ end c.if-i-eq0.false in
+    omega (arith, read.inside, on)
 
 pub loop-i-preserved-then-is_leaf : goal.loop-i-preserved-then-is_leaf
 loop-i-preserved-then-is_leaf c =
-    let read : AtByte = record { t = _; fin = _; s = _; from = _; q = _; i = _; n = _; here = c.loop-i.invariant; x = _; inside = c.loop-i-test.true; is = c.wide-x.ensures } in
-    let row : AtRow = record { read = read; row = c.if-x-eq0.false; b = _; next = c.follows.ensures } in
+    let read = read_by c.loop-i.invariant c.loop-i-test.true c.wide-x.ensures in
+    let row = row_by read c.if-x-eq0.false c.follows.ensures in
     let end : c.value_end-i.result ≡ read.fin read.x (read.i + 1) =
     item_leaf _ _ _ _ _ c.is_leaf.ensures c.if-is_leaf.true _ _ _ _ c.cell.ensures c.cell-then-is_leaf.ensures c.cell-then-is_leaf-2.ensures c.value_end-i.ensures.is in
-    let further : read.i < c.value_end-i.result = omega (arith, c.if-i-eq0.false, end, item_on read.t read.s read.x (read.i + 1) (subst (λ z. 0 < z) end (search rules))) in
-    goes_on row _ c.if-follows.true end further
+    let on = further read.t read.s read.x read.i _ end c.if-i-eq0.false in
+    goes_on row _ c.if-follows.true end on
 
 pub overflow_add-count-else-is_leaf : goal.overflow_add-count-else-is_leaf
 overflow_add-count-else-is_leaf c =
-    let read : AtByte = record { t = _; fin = _; s = _; from = _; q = _; i = _; n = _; here = c.loop-i.invariant; x = _; inside = c.loop-i-test.true; is = c.wide-x.ensures } in
-    let row : AtRow = record { read = read; row = c.if-x-eq0.false; b = _; next = c.follows.ensures } in
+    let read = read_by c.loop-i.invariant c.loop-i-test.true c.wide-x.ensures in
     let few = counted read in search rules
 
 pub loop-i-preserved : goal.loop-i-preserved
 loop-i-preserved c =
-    let read : AtByte = record { t = _; fin = _; s = _; from = _; q = _; i = _; n = _; here = c.loop-i.invariant; x = _; inside = c.loop-i-test.true; is = c.wide-x.ensures } in
-    let row : AtRow = record { read = read; row = c.if-x-eq0.false; b = _; next = c.follows.ensures } in
+    let read = read_by c.loop-i.invariant c.loop-i-test.true c.wide-x.ensures in
+    let row = row_by read c.if-x-eq0.false c.follows.ensures in
     goes_on row _ c.if-follows.true (item_group _ _ _ _ _ c.is_leaf.ensures c.if-is_leaf.false) (omega arith)
 
 pub returns-else-follows : goal.returns-else-follows
 returns-else-follows c =
-    let read : AtByte = record { t = _; fin = _; s = _; from = _; q = _; i = _; n = _; here = c.loop-i.invariant; x = _; inside = c.loop-i-test.true; is = c.wide-x.ensures } in
-    let row : AtRow = record { read = read; row = c.if-x-eq0.false; b = _; next = c.follows.ensures } in
+    let read = read_by c.loop-i.invariant c.loop-i-test.true c.wide-x.ensures in
+    let row = row_by read c.if-x-eq0.false c.follows.ensures in
     strays row _ _ c.broken-else-follows.ensures c.if-follows.false
 
 pub returns : goal.returns
