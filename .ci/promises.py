@@ -29,7 +29,7 @@ UNEDITED = {
     'it hands on what a lower crate promises, and the edits for that are there':
         'unit::check unit::size unit::read unit::reading unit::pick unit::picked unit::items unit::item_at unit::write '
         'unit::tidy unit::kto_read '
-        'unit_c::kto_check unit_c::kto_size unit_c::kto_read unit_c::kto_count unit_c::kto_pick unit_c::kto_items unit_c::kto_item '
+        'unit_c::kto_size unit_c::kto_read unit_c::kto_count unit_c::kto_pick unit_c::kto_items unit_c::kto_item '
         'unit_c::kto_write unit_c::kto_tidy '
         'xml_skim::is_close xml_skim::text_end',
 }
