@@ -8,8 +8,7 @@ pub fn hand(a: Answer, row: &mut u64, place: &mut u64) -> u64
     ensures { handed result row.new place.new ≡ a }
 {
     *row = a.row as u64;
-    *place = a.place as u64;
-    a.code as u64
+    hand_place(a, place)
 }
 
 // The same for a caller who knows the row: it is the one that was asked for, or 0.

@@ -4,10 +4,12 @@
 
 pub mod hand; // hand.rt: an answer for C
 
-ghost use Rattle.std.specs.Prelude.{◌≡◌};
-ghost use Rattle.answer.specs.Table.{accepted, picked, too_long, not_utf8, not_house_xml, wrong_root, not_a_child, out_of_order, too_many, absent, wrong_attributes, text_in_group, empty, bad_value, rule_broken, no_room, no_header, wrong_version, broken_image, no_such_leaf, too_large, too_fine, retired};
+ghost use Rattle.std.specs.Prelude.{◌≡◌, ◌↔◌, IsTrue};
+ghost use Rattle.answer.specs.Table.{answer, accepted, picked, too_long, not_utf8, not_house_xml, wrong_root, not_a_child, out_of_order, too_many, absent, wrong_attributes, text_in_group, empty, bad_value, rule_broken, no_room, no_header, wrong_version, broken_image, no_such_leaf, too_large, too_fine, retired};
 
-#[derive(Clone, Copy)]
+// Kept: a struct with constants and constructors, and no enum: document 01, "Associated constants on the answer type for codes 0 to 18, and constructors
+// that fix row and place"; C has its three numbers as they are (`hand`).
+#[derive(Clone, Copy, PartialEq, Eq)]
 pub struct Answer {
     pub code: u8,
     pub row: usize,
@@ -65,240 +67,162 @@ impl Answer {
     // Where the version stands in an image, after `KTO`.
     pub const VERSION: usize = 3;
 
+    // The answer of these three numbers.
+    fn of(code: u8, row: usize, place: usize) -> Self
+        ensures { result ≡ answer code row place }
+    {
+        Self { code, row, place }
+    }
+
+    // Whether the call did what it was asked to: every other code is a refusal.
+    pub fn is_accepted(&self) -> bool
+        ensures { IsTrue result ↔ (self.now.code ≡ 0) }
+    {
+        self.code == Self::ACCEPTED
+    }
+
     // The file is good, or an image begins the run: the image's length.
     pub fn accepted(length: usize) -> Self
         ensures { result ≡ accepted length }
     {
-        Self {
-            code: Self::ACCEPTED,
-            row: 0,
-            place: length,
-        }
+        Self::of(Self::ACCEPTED, 0, length)
     }
 
     // A value was picked: its row, and where its part begins.
     pub fn picked(row: usize, place: usize) -> Self
         ensures { result ≡ picked row place }
     {
-        Self {
-            code: Self::ACCEPTED,
-            row: row,
-            place: place,
-        }
+        Self::of(Self::ACCEPTED, row, place)
     }
 
     pub fn too_long() -> Self
         ensures { result ≡ too_long }
     {
-        Self {
-            code: Self::TOO_LONG,
-            row: 0,
-            place: Self::LIMIT,
-        }
+        Self::of(Self::TOO_LONG, 0, Self::LIMIT)
     }
 
     pub fn not_utf8(place: usize) -> Self
         ensures { result ≡ not_utf8 place }
     {
-        Self {
-            code: Self::NOT_UTF8,
-            row: 0,
-            place: place,
-        }
+        Self::of(Self::NOT_UTF8, 0, place)
     }
 
     pub fn not_house_xml(place: usize) -> Self
         ensures { result ≡ not_house_xml place }
     {
-        Self {
-            code: Self::NOT_HOUSE_XML,
-            row: 0,
-            place: place,
-        }
+        Self::of(Self::NOT_HOUSE_XML, 0, place)
     }
 
     pub fn wrong_root(place: usize) -> Self
         ensures { result ≡ wrong_root place }
     {
-        Self {
-            code: Self::WRONG_ROOT,
-            row: 1,
-            place: place,
-        }
+        Self::of(Self::WRONG_ROOT, 1, place)
     }
 
     // The row is the parent's: what stands there has none.
     pub fn not_a_child(parent: usize, place: usize) -> Self
         ensures { result ≡ not_a_child parent place }
     {
-        Self {
-            code: Self::NOT_A_CHILD,
-            row: parent,
-            place: place,
-        }
+        Self::of(Self::NOT_A_CHILD, parent, place)
     }
 
     pub fn out_of_order(row: usize, place: usize) -> Self
         ensures { result ≡ out_of_order row place }
     {
-        Self {
-            code: Self::OUT_OF_ORDER,
-            row: row,
-            place: place,
-        }
+        Self::of(Self::OUT_OF_ORDER, row, place)
     }
 
     pub fn too_many(row: usize, place: usize) -> Self
         ensures { result ≡ too_many row place }
     {
-        Self {
-            code: Self::TOO_MANY,
-            row: row,
-            place: place,
-        }
+        Self::of(Self::TOO_MANY, row, place)
     }
 
     // The row is the lowest absent one, the place its parent's.
     pub fn absent(row: usize, place: usize) -> Self
         ensures { result ≡ absent row place }
     {
-        Self {
-            code: Self::ABSENT,
-            row: row,
-            place: place,
-        }
+        Self::of(Self::ABSENT, row, place)
     }
 
     pub fn wrong_attributes(row: usize, place: usize) -> Self
         ensures { result ≡ wrong_attributes row place }
     {
-        Self {
-            code: Self::WRONG_ATTRIBUTES,
-            row: row,
-            place: place,
-        }
+        Self::of(Self::WRONG_ATTRIBUTES, row, place)
     }
 
     pub fn text_in_group(group: usize, place: usize) -> Self
         ensures { result ≡ text_in_group group place }
     {
-        Self {
-            code: Self::TEXT_IN_GROUP,
-            row: group,
-            place: place,
-        }
+        Self::of(Self::TEXT_IN_GROUP, group, place)
     }
 
     pub fn empty(row: usize, place: usize) -> Self
         ensures { result ≡ empty row place }
     {
-        Self {
-            code: Self::EMPTY,
-            row: row,
-            place: place,
-        }
+        Self::of(Self::EMPTY, row, place)
     }
 
     pub fn bad_value(row: usize, place: usize) -> Self
         ensures { result ≡ bad_value row place }
     {
-        Self {
-            code: Self::BAD_VALUE,
-            row: row,
-            place: place,
-        }
+        Self::of(Self::BAD_VALUE, row, place)
     }
 
     pub fn rule_broken(group: usize, place: usize) -> Self
         ensures { result ≡ rule_broken group place }
     {
-        Self {
-            code: Self::RULE_BROKEN,
-            row: group,
-            place: place,
-        }
+        Self::of(Self::RULE_BROKEN, group, place)
     }
 
     pub fn no_room(needed: usize) -> Self
         ensures { result ≡ no_room needed }
     {
-        Self {
-            code: Self::NO_ROOM,
-            row: 0,
-            place: needed,
-        }
+        Self::of(Self::NO_ROOM, 0, needed)
     }
 
     pub fn no_header() -> Self
         ensures { result ≡ no_header }
     {
-        Self {
-            code: Self::NO_HEADER,
-            row: 0,
-            place: 0,
-        }
+        Self::of(Self::NO_HEADER, 0, 0)
     }
 
     pub fn wrong_version() -> Self
         ensures { result ≡ wrong_version }
     {
-        Self {
-            code: Self::WRONG_VERSION,
-            row: 0,
-            place: Self::VERSION,
-        }
+        Self::of(Self::WRONG_VERSION, 0, Self::VERSION)
     }
 
     pub fn broken_image(place: usize) -> Self
         ensures { result ≡ broken_image place }
     {
-        Self {
-            code: Self::BROKEN_IMAGE,
-            row: 0,
-            place: place,
-        }
+        Self::of(Self::BROKEN_IMAGE, 0, place)
     }
 
     pub fn no_such_leaf() -> Self
         ensures { result ≡ no_such_leaf }
     {
-        Self {
-            code: Self::NO_SUCH_LEAF,
-            row: 0,
-            place: 0,
-        }
+        Self::of(Self::NO_SUCH_LEAF, 0, 0)
     }
 
     // A file that is to be written would be over the limit: the bytes it needs.
     pub fn too_large(needed: usize) -> Self
         ensures { result ≡ too_large needed }
     {
-        Self {
-            code: Self::TOO_LARGE,
-            row: 0,
-            place: needed,
-        }
+        Self::of(Self::TOO_LARGE, 0, needed)
     }
 
     // A stored date-time has a finer fraction than a file may say: its row, and where its item stands in the run.
     pub fn too_fine(row: usize, place: usize) -> Self
         ensures { result ≡ too_fine row place }
     {
-        Self {
-            code: Self::TOO_FINE,
-            row: row,
-            place: place,
-        }
+        Self::of(Self::TOO_FINE, row, place)
     }
 
     // A stored item is of a row that no file may have any more: that row, and where the item stands in the run.
     pub fn retired(row: usize, place: usize) -> Self
         ensures { result ≡ retired row place }
     {
-        Self {
-            code: Self::RETIRED,
-            row: row,
-            place: place,
-        }
+        Self::of(Self::RETIRED, row, place)
     }
 }

@@ -1,4 +1,5 @@
 -- What codes 12 and 9 say by the relation, over any well-formed list. Assumes nothing.
+use Rattle.std.specs.Prelude.{Ok, Err}
 use mathlib.Core.Path.{◌≡◌, refl, sym, ◌∙◌, ap, subst}
 use mathlib.Core.Logic.{◌↔◌}
 use mathlib.Core.Bool.{Bool, true, false, ◌&&◌, ◌||◌, not, true≢false, false≢true}
@@ -15,10 +16,8 @@ use Rattle.list.specs.WellFormed.{KindOk, WellFormed}
 use Rattle.image.proofs.content.Rows.{well}
 use Rattle.xml.specs.Message.{Attrs, Inside, nothing_inside, character, element}
 use Rattle.value.specs.Value.{Value, Spelt}
-use Rattle.file_walk.specs.declared.found.Found.{Found}
-use Rattle.file_walk.specs.declared.found.Found.TheVariants.{Fine, Violation}
 use Rattle.file_walk.specs.Types.{Judge, Decides}
-use Rattle.file_walk.specs.First.{First, refuse, first_of, is_empty, passed, breaks, text_of, currency_given, attrs_ok, kind_of, is_root, absent_row, child_rows, opening, group_end, closing, inside, first_violation}
+use Rattle.file_walk.specs.First.{Found, First, refuse, first_of, is_empty, passed, breaks, text_of, currency_given, attrs_ok, kind_of, is_root, absent_row, child_rows, opening, group_end, closing, inside, first_violation}
 use Rattle.file_walk.proofs.violation.Answers.{empty_yes}
 use Rattle.file_walk.proofs.violation.Opening.{over_count, opening_is}
 use Rattle.file.specs.Instance.{house_types}
@@ -34,8 +33,8 @@ attrs_mean j d (leaf k) ats = d.attrs k ats
 
 -- what is found has a property of answers
 abbrev pub Means : (Answer → Type 0) → Found → Type 0
-Means P Fine = Unit {0}
-Means P (Violation a) = P a
+Means P (Ok tt) = Unit {0}
+Means P (Err a) = P a
 
 module _ (P : Answer → Type 0) where
   pub refused : (b : Bool) (a : Answer) → (b ≡ true → P a) → Means P (refuse b a)
@@ -44,12 +43,12 @@ module _ (P : Answer → Type 0) where
 
   first : (fs : List Found) → Each (Means P) fs → Means P (first_of fs)
   first [] h = tt
-  first (Fine ∷ fs) h = first fs h.1
-  first (Violation a ∷ fs) h = h.0
+  first ((Ok tt) ∷ fs) h = first fs h.1
+  first (Err a ∷ fs) h = h.0
 
 on : (P Q : Answer → Type 0) → ((a : Answer) → P a → Q a) → (f : Found) → Means P f → Means Q f
-on P Q g Fine h = tt
-on P Q g (Violation a) h = g a h
+on P Q g (Ok tt) h = tt
+on P Q g (Err a) h = g a h
 
 module _ (l : Listing) (wf : WellFormed l) where
   kind_ok : (r : ℕ) → KindOk (row_at l r).kind
@@ -144,5 +143,5 @@ module _ (l : Listing) (wf : WellFormed l) where
         ),
       )
 
-  pub causes : (m : Inside) (a : Answer) → First house_types l m (Violation a) → Cause 1 (inner m) a
+  pub causes : (m : Inside) (a : Answer) → First house_types l m (Err a) → Cause 1 (inner m) a
   causes m a f = subst (Means (Cause 1 (inner m))) f.is (means f.judge f.decides m)

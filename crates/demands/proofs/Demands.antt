@@ -1,4 +1,5 @@
 -- Each of the three demands holds. Assumes nothing.
+use Rattle.std.specs.Prelude.{Err}
 use mathlib.Core.Path.{◌≡◌, refl, sym, ◌∙◌, ap, ap₂, subst}
 use mathlib.Core.Logic.{◌⊎◌, ◌↔◌, inl, inr}
 use mathlib.Core.Bool.{Bool, true, false}
@@ -27,7 +28,6 @@ use Rattle.value.specs.Value.{Value, IsValue}
 use Rattle.value.specs.parts.Former.{present}
 use Rattle.value.specs.Spelled.{Spelled, SpelledByEither}
 use Rattle.value.proofs.script.Scripts.{both_rules}
-use Rattle.file_walk.specs.declared.found.Found.TheVariants.{Violation}
 use Rattle.file_walk.specs.First.{First, first_violation}
 use Rattle.file_walk.proofs.violation.Accept as walk
 use Rattle.file_walk.proofs.violation.Judges.{first_one}
@@ -143,7 +143,7 @@ Choice false A B = B
 module _ (s d : List ℕ) where
   -- what stands behind an answer, by its code
   abbrev Walked : Answer → Type 0
-  Walked a = (l : Listing) × (w : WalkedBy s l) × First house_types l (message_in w.whole) (Violation a)
+  Walked a = (l : Listing) × (w : WalkedBy s l) × First house_types l (message_in w.whole) (Err a)
 
   abbrev Why : Answer → Type 0
   Why a =

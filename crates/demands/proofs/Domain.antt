@@ -1,4 +1,5 @@
 -- Of a file, 8 never names row 35: a BkTxCd with a child has Domn, since nothing else may stand there. And in a good file each has exactly one. Assumes nothing.
+use Rattle.std.specs.Prelude.{Ok, Err}
 use mathlib.Core.Path.{◌≡◌, refl, sym, ◌∙◌, ap, subst}
 use mathlib.Core.Logic.{◌≢◌}
 use mathlib.Core.Bool.{Bool, true, false, ◌&&◌, not, true≢false, false≢true}
@@ -27,10 +28,8 @@ use Rattle.list_house.proofs.Retired.{GoneRows, gone_rows}
 use Rattle.xml.specs.House.{IsName, Markup as Tags, no_more as over, piece, empty_tag, full, tag, render, GoodMarkup}
 use Rattle.xml.specs.Message.{Attrs, Inside, nothing_inside, character, element, parts_of, root_at}
 use Rattle.text.specs.Bytes.{is_blank}
-use Rattle.file_walk.specs.declared.found.Found.{Found}
-use Rattle.file_walk.specs.declared.found.Found.TheVariants.{Fine, Violation}
 use Rattle.file_walk.specs.Types.{Judge}
-use Rattle.file_walk.specs.First.{refuse, or_else, is_empty, passed, breaks, text_of, currency_given, attrs_ok, kind_of, is_root, absent_row, child_rows, opening, group_end, closing, inside, first_violation}
+use Rattle.file_walk.specs.First.{Found, refuse, or_else, is_empty, passed, breaks, text_of, currency_given, attrs_ok, kind_of, is_root, absent_row, child_rows, opening, group_end, closing, inside, first_violation}
 use Rattle.file_walk.proofs.violation.Opening.{over_count, opening_is}
 use Rattle.file.specs.Instance.{house_kinds}
 use Rattle.file.specs.File.{message_in}
@@ -40,22 +39,22 @@ use Rattle.demands.proofs.Causes.{Means, refused}
 -- ---- what is found, one test after the other
 
 is_fine_lem : Found → Bool
-is_fine_lem Fine = true
-is_fine_lem (Violation a) = false
+is_fine_lem (Ok tt) = true
+is_fine_lem (Err a) = false
 
-both_fine : (f g : Found) → or_else f g ≡ Fine → (f ≡ Fine) × (g ≡ Fine)
+both_fine : (f g : Found) → or_else f g ≡ Ok tt → (f ≡ Ok tt) × (g ≡ Ok tt)
 unfolding is_fine_lem
-both_fine Fine g e = (refl, e)
-both_fine (Violation a) g e = absurd (false≢true (ap is_fine_lem e))
+both_fine (Ok tt) g e = (refl, e)
+both_fine (Err a) g e = absurd (false≢true (ap is_fine_lem e))
 
-fine_not : (b : Bool) (a : Answer) → refuse b a ≡ Fine → b ≡ false
+fine_not : (b : Bool) (a : Answer) → refuse b a ≡ Ok tt → b ≡ false
 unfolding is_fine_lem
 fine_not true a e = absurd (false≢true (ap is_fine_lem e))
 fine_not false a e = refl
 
-then_means : (P : Answer → Type 0) (f g : Found) → Means P f → (f ≡ Fine → Means P g) → Means P (or_else f g)
-then_means P Fine g h k = k refl
-then_means P (Violation a) g h k = h
+then_means : (P : Answer → Type 0) (f g : Found) → Means P f → (f ≡ Ok tt → Means P g) → Means P (or_else f g)
+then_means P (Ok tt) g h k = k refl
+then_means P (Err a) g h k = h
 
 -- ---- every element has a name
 
@@ -90,29 +89,29 @@ module _ (j : Judge) (l : Listing) (g : GoneRows l) where
   There p q = Child l p q × (Gone l q → ⊥)
 
   -- where nothing is found among the parts of an element of row p, each element there is a child of p
-  all_there : (m : Inside) (p : ℕ) (seen : List ℕ) → Named m → inside j l p seen m ≡ Fine → Each (There p) (child_rows l p m)
+  all_there : (m : Inside) (p : ℕ) (seen : List ℕ) → Named m → inside j l p seen m ≡ Ok tt → Each (There p) (child_rows l p m)
   unfolding inside child_rows
   all_there nothing_inside p seen n e = tt
   all_there (character o x k) p seen n e =
-      let a = both_fine (refuse (is_group (kind_of l p) && not (is_blank x)) (table.text_in_group p o)) (or_else (inside j l p seen k) Fine) e in
-      let b = both_fine (inside j l p seen k) Fine a.1 in
+      let a = both_fine (refuse (is_group (kind_of l p) && not (is_blank x)) (table.text_in_group p o)) (or_else (inside j l p seen k) (Ok tt)) e in
+      let b = both_fine (inside j l p seen k) (Ok tt) a.1 in
       all_there k p seen n b.0
   all_there (element o n ats i k) p seen h e =
       let r = child l p n in
       let c = closing j l (kind_of l r) r o ats (child_rows l r i) (text_of i) in
-      let a = both_fine (opening j l p seen r ats o) (or_else (inside j l r [] i) (or_else c (or_else (inside j l p (r ∷ seen) k) Fine))) e in
-      let b = both_fine (inside j l r [] i) (or_else c (or_else (inside j l p (r ∷ seen) k) Fine)) a.1 in
-      let d = both_fine c (or_else (inside j l p (r ∷ seen) k) Fine) b.1 in
-      let f = both_fine (inside j l p (r ∷ seen) k) Fine d.1 in
+      let a = both_fine (opening j l p seen r ats o) (or_else (inside j l r [] i) (or_else c (or_else (inside j l p (r ∷ seen) k) (Ok tt)))) e in
+      let b = both_fine (inside j l r [] i) (or_else c (or_else (inside j l p (r ∷ seen) k) (Ok tt))) a.1 in
+      let d = both_fine c (or_else (inside j l p (r ∷ seen) k) (Ok tt)) b.1 in
+      let f = both_fine (inside j l p (r ∷ seen) k) (Ok tt) d.1 in
       (there a.0, all_there k p (r ∷ seen) h.2 f.0)
     where
-      there : opening j l p seen (child l p n) ats o ≡ Fine → There p (child l p n)
+      there : opening j l p seen (child l p n) ats o ≡ Ok tt → There p (child l p n)
       there z =
           let r = child l p n in
           let b = refuse (not (is_choice (kind_of l p)) && passed r seen) (table.out_of_order r o) in
           let c = refuse (over_count l (kind_of l p) seen r) (table.too_many r o) in
           let d = refuse (not (attrs_ok j (kind_of l r) ats)) (table.wrong_attributes r o) in
-          let t = fine_not (eqb r 0) (table.not_a_child p o) (both_fine (refuse (eqb r 0) (table.not_a_child p o)) (or_else b (or_else c (or_else d Fine))) (sym (opening_is j l p seen r ats o) ∙ z)).0 in
+          let t = fine_not (eqb r 0) (table.not_a_child p o) (both_fine (refuse (eqb r 0) (table.not_a_child p o)) (or_else b (or_else c (or_else d (Ok tt)))) (sym (opening_is j l p seen r ats o) ∙ z)).0 in
           let f = child_found l p n r refl (positive r t) in
           (f.its, λ w. h.0 (sym f.name ∙ w))
         where
@@ -148,10 +147,10 @@ module _ (j : Judge) (l : Listing) (g : GoneRows l) where
       let a = refuse (is_empty rs) (table.empty r o) in
       let b = refuse (ltb 0 (absent_row l r rs)) (table.absent (absent_row l r rs) o) in
       let c = refuse (breaks r rs l.rules) (table.rule_broken r o) in
-      then_means NoEight a (or_else b (or_else c Fine)) (other (is_empty rs) (table.empty r o) refl) (λ e.
-      then_means NoEight b (or_else c Fine)
+      then_means NoEight a (or_else b (or_else c (Ok tt))) (other (is_empty rs) (table.empty r o) refl) (λ e.
+      then_means NoEight b (or_else c (Ok tt))
       (refused NoEight (ltb 0 (absent_row l r rs)) (table.absent (absent_row l r rs) o) (λ t z y. absent_not r rs (fine_not (is_empty rs) (table.empty r o) e) h t y)) (λ f.
-      then_means NoEight c Fine (other (breaks r rs l.rules) (table.rule_broken r o) refl) (λ k. tt)))
+      then_means NoEight c (Ok tt) (other (breaks r rs l.rules) (table.rule_broken r o) refl) (λ k. tt)))
 
   closing_eight : (k : Kind) (r o : ℕ) (ats : Attrs) (rs cs : List ℕ) → Each (There r) rs → Means NoEight (closing j l k r o ats rs cs)
   closing_eight group r o ats rs cs h = group_eight r o rs h
@@ -159,8 +158,8 @@ module _ (j : Judge) (l : Listing) (g : GoneRows l) where
   closing_eight (leaf f) r o ats rs cs h =
       let a = refuse (is_empty cs) (table.empty r o) in
       let b = refuse (not (j.value f (currency_given ats) cs)) (table.bad_value r o) in
-      then_means NoEight a (or_else b Fine) (other (is_empty cs) (table.empty r o) refl) (λ e.
-      then_means NoEight b Fine (other (not (j.value f (currency_given ats) cs)) (table.bad_value r o) refl) (λ z. tt))
+      then_means NoEight a (or_else b (Ok tt)) (other (is_empty cs) (table.empty r o) refl) (λ e.
+      then_means NoEight b (Ok tt) (other (not (j.value f (currency_given ats) cs)) (table.bad_value r o) refl) (λ z. tt))
 
   opening_eight : (q : ℕ) (seen : List ℕ) (r : ℕ) (ats : Attrs) (o : ℕ) → Means NoEight (opening j l q seen r ats o)
   opening_eight q seen r ats o =
@@ -168,25 +167,25 @@ module _ (j : Judge) (l : Listing) (g : GoneRows l) where
       let b = refuse (not (is_choice (kind_of l q)) && passed r seen) (table.out_of_order r o) in
       let c = refuse (over_count l (kind_of l q) seen r) (table.too_many r o) in
       let d = refuse (not (attrs_ok j (kind_of l r) ats)) (table.wrong_attributes r o) in
-      subst (Means NoEight) (sym (opening_is j l q seen r ats o)) (then_means NoEight a (or_else b (or_else c (or_else d Fine))) (other (eqb r 0) (table.not_a_child q o) refl) (λ e.
-      then_means NoEight b (or_else c (or_else d Fine)) (other (not (is_choice (kind_of l q)) && passed r seen) (table.out_of_order r o) refl) (λ e.
-      then_means NoEight c (or_else d Fine) (other (over_count l (kind_of l q) seen r) (table.too_many r o) refl) (λ e.
-      then_means NoEight d Fine (other (not (attrs_ok j (kind_of l r) ats)) (table.wrong_attributes r o) refl) (λ e. tt)))))
+      subst (Means NoEight) (sym (opening_is j l q seen r ats o)) (then_means NoEight a (or_else b (or_else c (or_else d (Ok tt)))) (other (eqb r 0) (table.not_a_child q o) refl) (λ e.
+      then_means NoEight b (or_else c (or_else d (Ok tt))) (other (not (is_choice (kind_of l q)) && passed r seen) (table.out_of_order r o) refl) (λ e.
+      then_means NoEight c (or_else d (Ok tt)) (other (over_count l (kind_of l q) seen r) (table.too_many r o) refl) (λ e.
+      then_means NoEight d (Ok tt) (other (not (attrs_ok j (kind_of l r) ats)) (table.wrong_attributes r o) refl) (λ e. tt)))))
 
   inside_eight : (m : Inside) (p : ℕ) (seen : List ℕ) → Named m → Means NoEight (inside j l p seen m)
   unfolding inside
   inside_eight nothing_inside p seen n = tt
   inside_eight (character o x k) p seen n =
-      then_means NoEight (refuse (is_group (kind_of l p) && not (is_blank x)) (table.text_in_group p o)) (or_else (inside j l p seen k) Fine)
+      then_means NoEight (refuse (is_group (kind_of l p) && not (is_blank x)) (table.text_in_group p o)) (or_else (inside j l p seen k) (Ok tt))
       (other (is_group (kind_of l p) && not (is_blank x)) (table.text_in_group p o) refl) (λ e.
-      then_means NoEight (inside j l p seen k) Fine (inside_eight k p seen n) (λ z. tt))
+      then_means NoEight (inside j l p seen k) (Ok tt) (inside_eight k p seen n) (λ z. tt))
   inside_eight (element o n ats i k) p seen h =
       let r = child l p n in
       let c = closing j l (kind_of l r) r o ats (child_rows l r i) (text_of i) in
-      then_means NoEight (opening j l p seen r ats o) (or_else (inside j l r [] i) (or_else c (or_else (inside j l p (r ∷ seen) k) Fine))) (opening_eight p seen r ats o) (λ e.
-      then_means NoEight (inside j l r [] i) (or_else c (or_else (inside j l p (r ∷ seen) k) Fine)) (inside_eight i r [] h.1) (λ f.
-      then_means NoEight c (or_else (inside j l p (r ∷ seen) k) Fine) (closing_eight (kind_of l r) r o ats (child_rows l r i) (text_of i) (all_there i r [] h.1 f)) (λ z.
-      then_means NoEight (inside j l p (r ∷ seen) k) Fine (inside_eight k p (r ∷ seen) h.2) (λ y. tt))))
+      then_means NoEight (opening j l p seen r ats o) (or_else (inside j l r [] i) (or_else c (or_else (inside j l p (r ∷ seen) k) (Ok tt)))) (opening_eight p seen r ats o) (λ e.
+      then_means NoEight (inside j l r [] i) (or_else c (or_else (inside j l p (r ∷ seen) k) (Ok tt))) (inside_eight i r [] h.1) (λ f.
+      then_means NoEight c (or_else (inside j l p (r ∷ seen) k) (Ok tt)) (closing_eight (kind_of l r) r o ats (child_rows l r i) (text_of i) (all_there i r [] h.1 f)) (λ z.
+      then_means NoEight (inside j l p (r ∷ seen) k) (Ok tt) (inside_eight k p (r ∷ seen) h.2) (λ y. tt))))
 
   first_eight : (m : Inside) → Named m → Means NoEight (first_violation j l m)
   unfolding first_violation
@@ -195,9 +194,9 @@ module _ (j : Judge) (l : Listing) (g : GoneRows l) where
   first_eight (element o n ats i k) h =
       let a = refuse (not (is_root l n ats)) (table.wrong_root o) in
       let c = closing j l (kind_of l 1) 1 o ats (child_rows l 1 i) (text_of i) in
-      then_means NoEight a (or_else (inside j l 1 [] i) (or_else c Fine)) (other (not (is_root l n ats)) (table.wrong_root o) refl) (λ e.
-      then_means NoEight (inside j l 1 [] i) (or_else c Fine) (inside_eight i 1 [] h.1) (λ f.
-      then_means NoEight c Fine (closing_eight (kind_of l 1) 1 o ats (child_rows l 1 i) (text_of i) (all_there i 1 [] h.1 f)) (λ z. tt)))
+      then_means NoEight a (or_else (inside j l 1 [] i) (or_else c (Ok tt))) (other (not (is_root l n ats)) (table.wrong_root o) refl) (λ e.
+      then_means NoEight (inside j l 1 [] i) (or_else c (Ok tt)) (inside_eight i 1 [] h.1) (λ f.
+      then_means NoEight c (Ok tt) (closing_eight (kind_of l 1) 1 o ats (child_rows l 1 i) (text_of i) (all_there i 1 [] h.1 f)) (λ z. tt)))
 
 -- "Domn becomes 1..1", and its absence is told by another code
 pub no_eight : (s d : List ℕ) (a : Answer) (d' : List ℕ) → Checks s d a d' → NoEight a

@@ -16,7 +16,7 @@
 --   HouseReads, HousePicks         what `read` answers; what `pick` answers and `picked` hands back      image_reading/specs/Reads
 --   Next h a h'                    what `next` of the reader that holds its run answers, and its place   image_hold/specs/Held
 -- These are what the public calls promise: `unit::check`, `unit::read`, `unit::pick`, `unit::picked`, `file_lane::measure`, `image_hold::next`.
-use Rattle.std.specs.Prelude.{◌≡◌, ◌⊎◌, ◌↔◌, List, [], ◌∷◌, ◌++◌, ℕ, ◌≤◌, ◌<◌, length, take, drop}
+use Rattle.std.specs.Prelude.{◌≡◌, ◌⊎◌, ◌↔◌, List, [], ◌∷◌, ◌++◌, ℕ, ◌≤◌, ◌<◌, length, take, drop, Ok, Err}
 use Rattle.answer.specs.declared.Answer.{Answer}
 use Rattle.answer.specs.Table as table
 use Rattle.answer.specs.Table.{accepted, limit, too_long, not_utf8, not_house_xml, no_room, no_header, wrong_version, broken_image, no_such_leaf}
@@ -30,10 +30,8 @@ use Rattle.xml.specs.Message.{Inside, message_of}
 use Rattle.value.specs.Value.{Value, IsValue}
 use Rattle.value.specs.parts.Former.{present}
 use Rattle.value.specs.Spelled.{Spelled, SpelledByEither}
-use Rattle.file_walk.specs.declared.found.Found.{Found}
-use Rattle.file_walk.specs.declared.found.Found.TheVariants.{Fine, Violation}
 use Rattle.file_walk.specs.Types.{Judge, Decides}
-use Rattle.file_walk.specs.First.{First, first_violation}
+use Rattle.file_walk.specs.First.{Found, First, first_violation}
 use Rattle.file_walk.specs.Denotes.{Has}
 use Rattle.image.specs.Image.{body}
 use Rattle.image.specs.Kinds.{values}
@@ -116,7 +114,7 @@ pub record Told (s d : List ℕ) (a : Answer) (d' : List ℕ) : Type 0 where
   pub long : (a ≡ too_long) ↔ (limit < length s)
   pub bytes : (n : ℕ) → (a ≡ not_utf8 n) ↔ ((length s ≤ limit) × (Utf8 s → ⊥) × LongestBeginning Utf8 s n)
   pub markup : (n : ℕ) → (a ≡ not_house_xml n) ↔ ((length s ≤ limit) × Utf8 s × (HouseXml s → ⊥) × LongestBeginning Viable s n)
-  pub walked : (b : Answer) → CodeFrom 4 13 b → (a ≡ b) ↔ ((l : Listing) × (w : WalkedBy s l) × First house_types l (message_in w.whole) (Violation b))
+  pub walked : (b : Answer) → CodeFrom 4 13 b → (a ≡ b) ↔ ((l : Listing) × (w : WalkedBy s l) × First house_types l (message_in w.whole) (Err b))
   -- "14 last"
   pub room : (n : ℕ) → (a ≡ no_room n) ↔ ((c : Kinded) × HouseFile s c × (n ≡ length (house_image c)) × (length d < n))
   -- where it says 12, or 9: an element of that row and place, whose characters spell no value, whose attributes are not the type's
@@ -153,7 +151,7 @@ pub record BeginsStored (Rules : Kinded → Type 0) (run : List ℕ) (n : ℕ) :
 pub record Message (s : List ℕ) (c : Kinded) : Type 0 where
   pub utf8 : Utf8 s
   pub xml : HouseXml s
-  pub good : First house_types c.0 (message_of xml.tree) Fine
+  pub good : First house_types c.0 (message_of xml.tree) (Ok tt)
   pub has : Has house_types c.0 (message_of xml.tree) c.1
 
 pub record Demand2 : Type 0 where

@@ -1,5 +1,6 @@
 -- "The namespace chooses the list": a list that the root's xmlns names is the one chosen, some list always is, and two that are say the same of a file.
 -- Assumes nothing.
+use Rattle.std.specs.Prelude.{Err}
 use mathlib.Core.Path.{◌≡◌, refl, sym, ◌∙◌, ap, subst}
 use mathlib.Core.Logic.{inl, inr}
 use mathlib.Core.Bool.{Bool, true, false, cond, ◌||◌, not, true≢false}
@@ -18,10 +19,8 @@ use Rattle.list_house.specs.Lists.{asked}
 use Rattle.list_house.proofs.Lists.{spaces_tell}
 use Rattle.value.specs.Value.{Value}
 use Rattle.xml.specs.Message.{Attrs, Inside, nothing_inside, character, element}
-use Rattle.file_walk.specs.declared.found.Found.{Found}
-use Rattle.file_walk.specs.declared.found.Found.TheVariants.{Violation}
 use Rattle.file_walk.specs.Types.{Types, Judge}
-use Rattle.file_walk.specs.First.{First, refuse, or_else, first_of, text_of, is_hint, unhinted, kind_of, is_root, child_rows, closing, inside, first_violation}
+use Rattle.file_walk.specs.First.{Found, First, refuse, or_else, first_of, text_of, is_hint, unhinted, kind_of, is_root, child_rows, closing, inside, first_violation}
 use Rattle.file_walk.specs.Denotes.{Has}
 use Rattle.file_walk.proofs.violation.Attrs.{root_tag}
 use Rattle.file.specs.Instance.{Kinds, house_kinds}
@@ -67,13 +66,13 @@ module _ (l : Listing) where
   root_space n ats e = value_besides ats l.space ((root_tag l n ats).0 e).attrs.besides
 
   -- and one that is not is what is found first: 4
-  first_unrooted : (j : Judge) (o : ℕ) (n : List ℕ) (ats : Attrs) (i k : Inside) → is_root l n ats ≡ false → first_violation j l (element o n ats i k) ≡ Violation (table.wrong_root o)
+  first_unrooted : (j : Judge) (o : ℕ) (n : List ℕ) (ats : Attrs) (i k : Inside) → is_root l n ats ≡ false → first_violation j l (element o n ats i k) ≡ Err (table.wrong_root o)
   unfolding first_violation
   first_unrooted j o n ats i k e =
       ap (λ (b : Bool). or_else (refuse (not b) (table.wrong_root o)) (first_of (inside j l 1 [] i ∷ closing j l (kind_of l 1) 1 o ats (child_rows l 1 i) (text_of i) ∷ []))) e
 
   module _ (t : Types) where
-    pub unrooted : (o : ℕ) (n : List ℕ) (ats : Attrs) (i k : Inside) (f : Found) → is_root l n ats ≡ false → First t l (element o n ats i k) f → f ≡ Violation (table.wrong_root o)
+    pub unrooted : (o : ℕ) (n : List ℕ) (ats : Attrs) (i k : Inside) (f : Found) → is_root l n ats ≡ false → First t l (element o n ats i k) f → f ≡ Err (table.wrong_root o)
     unrooted o n ats i k f e x = sym x.is ∙ first_unrooted x.judge o n ats i k e
 
     pub has_space : (m : Inside) (c : Content t.A) → Has t l m c → space_in m ≡ l.space
@@ -171,7 +170,7 @@ module _ (l k : Listing) (a : Among l asked) (b : Among k asked) where
   answers_alike t s d x d' p q (long h e f) = long h e f
   answers_alike t s d x d' p q (bad_bytes h u n i e f) = bad_bytes h u n i e f
   answers_alike t s d x d' p q (markup h u y n i e f) = markup h u y n i e f
-  answers_alike t s d x d' p q (violation w v f) = violation w (first_alike t.types (message_in w) (Violation x) (p w) (q w) v) f
+  answers_alike t s d x d' p q (violation w v f) = violation w (first_alike t.types (message_in w) (Err x) (p w) (q w) v) f
   answers_alike t s d x d' p q (room c w h e f) = subst (λ (z : Listing). Answers t z s d x d') (sym (file_list t s l k c a w q)) (room c w h e f)
   answers_alike t s d x d' p q (imaged c w h e f) = subst (λ (z : Listing). Answers t z s d x d') (sym (file_list t s l k c a w q)) (imaged c w h e f)
 

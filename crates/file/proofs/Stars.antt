@@ -1,4 +1,5 @@
 -- The starred examples hold of the definitions: one statement over each table, by one computed test. Assumes nothing.
+use Rattle.std.specs.Prelude.{Ok, Err}
 use mathlib.Core.Path.{◌≡◌, refl, sym, ◌∙◌, ap, subst}
 use mathlib.Core.Bool.{Bool, true, false, ◌&&◌, not, xor, true≢false, false≢true}
 use mathlib.Core.List.{List, [], ◌∷◌, ◌++◌}
@@ -36,9 +37,7 @@ use Rattle.value.specs.mirror.Reading.{read_of, signed_of, point_of, whole_of, f
 use Rattle.list.specs.tables.Table.{place_from}
 use Rattle.value.specs.decided.Spell.{spell, front_off, back_off, passes_from, day_of, fraction_of, zone_of, moment_of}
 use Rattle.value.specs.Value.{Value}
-use Rattle.file_walk.specs.declared.found.Found.{Found}
-use Rattle.file_walk.specs.declared.found.Found.TheVariants.{Fine, Violation}
-use Rattle.file_walk.specs.First.{absent_row, child_rows, inside, first_violation}
+use Rattle.file_walk.specs.First.{Found, absent_row, child_rows, inside, first_violation}
 use Rattle.file_walk.specs.mirror.Machine.{speller_of, before, fresh, advance, emits}
 use Rattle.file_walk.proofs.violation.Accept.{accept}
 use Rattle.file_walk.proofs.events.Items.{items_are}
@@ -107,8 +106,8 @@ fits e x (from n) = leb (length x) n && (same_answer e.answer (accepted (length 
 fits e x (under n) = leb n (length x) && (same_answer e.answer (no_room (length x)) && is_nil e.image)
 
 abbrev walked : Star → List ℕ → Found → Bool
-walked e x Fine = fits e x e.lent
-walked e x (Violation a) = same_answer e.answer a && is_nil e.image
+walked e x (Ok tt) = fits e x e.lent
+walked e x (Err a) = same_answer e.answer a && is_nil e.image
 
 abbrev way_test : Star → Way → Bool
 way_test e (tree i) = content_test 16 i && (one_test i && (same e.file (whole (root_tree i)) && walked e (image_in i) (found_in i)))
@@ -179,7 +178,7 @@ module _ (e : Star) (chars : ascii_test e.file ≡ true) (size : leb (length e.f
       its : File house_kinds l e.file content
       pictured : image_of house_kinds l content ≡ image_in i
 
-    right : found_in i ≡ Fine → Right
+    right : found_in i ≡ Ok tt → Right
     unfolding file image l
     right z =
         let wf = asked_well l (list_among (told i)) in
@@ -190,7 +189,7 @@ module _ (e : Star) (chars : ascii_test e.file ≡ true) (size : leb (length e.f
           pictured = ap (λ is'. header l ++ (items_bytes values l is' ++ (0 ∷ []))) (sym (items_are house_types spell computing l wf (told i) c.0 c.2));
         }
 
-    fits_shown : found_in i ≡ Fine → (b : Buffers) → Lent b d → fits e (image_in i) b ≡ true → Checks e.file d e.answer (left e.image)
+    fits_shown : found_in i ≡ Ok tt → (b : Buffers) → Lent b d → fits e (image_in i) b ≡ true → Checks e.file d e.answer (left e.image)
     fits_shown z every h t = absurd (false≢true t)
     fits_shown z (from m) h t =
         let r = right z in
@@ -211,10 +210,10 @@ module _ (e : Star) (chars : ascii_test e.file ≡ true) (size : leb (length e.f
 
     walked_shown : Lent e.lent d → (f : Found) → found_in i ≡ f → walked e (image_in i) f ≡ true → Checks e.file d e.answer (left e.image)
     unfolding file l
-    walked_shown h Fine z t = fits_shown z e.lent h t
-    walked_shown h (Violation v) z t =
+    walked_shown h (Ok tt) z t = fits_shown z e.lent h t
+    walked_shown h (Err v) z t =
         let a = and_is (same_answer e.answer v) (is_nil e.image) t in
-        by_list e.answer (left e.image) (checks.violation file (record { judge = house_judge; decides = deciding; is = z ∙ ap Violation (sym (same_answer_lem e.answer v a.0)) }) (kept a.1))
+        by_list e.answer (left e.image) (checks.violation file (record { judge = house_judge; decides = deciding; is = z ∙ ap Err (sym (same_answer_lem e.answer v a.0)) }) (kept a.1))
 
   way_shown : Lent e.lent d → (w : Way) → way_test e w ≡ true → Checks e.file d e.answer (left e.image)
   way_shown l (tree i) t =

@@ -1,5 +1,5 @@
 -- What `check` may answer, and what it leaves in the buffer: document 01's table, over any types and any list; and over its own. Assumes nothing.
-use Rattle.std.specs.Prelude.{◌≡◌, cond, List, [], ◌∷◌, ◌++◌, ℕ, ◌≤◌, ◌<◌, length, drop}
+use Rattle.std.specs.Prelude.{◌≡◌, cond, List, [], ◌∷◌, ◌++◌, ℕ, ◌≤◌, ◌<◌, length, drop, Err}
 use Rattle.answer.specs.declared.Answer.{Answer}
 use Rattle.answer.specs.Table.{accepted, limit, too_long, not_utf8, not_house_xml, no_room}
 use Rattle.text.specs.Bytes.{ascii}
@@ -12,7 +12,6 @@ use Rattle.list_house.specs.Lists.{asked}
 use Rattle.value.specs.Value.{Value}
 use Rattle.xml.specs.House.{HouseXml, Viable}
 use Rattle.xml.specs.Message.{Attrs, Inside}
-use Rattle.file_walk.specs.declared.found.Found.TheVariants.{Violation}
 use Rattle.file_walk.specs.First.{First}
 use Rattle.file.specs.Instance.{Kinds, house_kinds}
 use Rattle.file.specs.File.{Whole, message_in, root_of, File, image_of}
@@ -27,7 +26,7 @@ module _ (k : Kinds) (l : Listing) where
     -- 3: "not house XML", "most leading bytes that still begin some house XML text"
     markup : length s ≤ limit → Utf8 s → (HouseXml s → ⊥) → (n : ℕ) → LongestBeginning Viable s n → a ≡ not_house_xml n → d' ≡ d → Answers s d a d'
     -- 4 to 13: "then the message is walked in document order and the first violation is the answer"
-    violation : (w : Whole s) → First k.types l (message_in w) (Violation a) → d' ≡ d → Answers s d a d'
+    violation : (w : Whole s) → First k.types l (message_in w) (Err a) → d' ≡ d → Answers s d a d'
     -- 14: "valid, but image longer than the buffer", row 0, "bytes needed"; "14 comes last"
     room : (c : Content k.types.A) → File k l s c → length d < length (image_of k l c) → a ≡ no_room (length (image_of k l c)) → d' ≡ d → Answers s d a d'
     -- "Acceptance is 0, row 0, image length; bytes of the result buffer beyond the image stay"

@@ -1,6 +1,7 @@
 -- The search for a child that there is, around the children of a group. Assumes nothing.
+use Rattle.std.specs.Prelude.{Option, None, Some, IfSome, unwrap_or}
 use mathlib.Core.Path.{◌≡◌, refl, sym, ◌∙◌, ap, subst}
-use mathlib.Core.Logic.{◌≢◌, inl, inr}
+use mathlib.Core.Logic.{◌≢◌}
 use mathlib.Core.Bool.{Bool, true, false, cond, not, true≢false}
 use mathlib.Core.List.{List}
 use Prim.Native.Nat.{ℕ, ◌-◌, ◌≤◌, ◌<◌}
@@ -33,7 +34,7 @@ turned : (b c : Bool) → not b ≡ c → b ≡ not c
 turned true c e = ap not e
 turned false c e = ap not e
 
-module _ (t pool : List ℕ) (row last : ℕ) (n : List ℕ) (w : Comes t pool row last n) where
+module _ (t pool : List ℕ) (row : ℕ) (last : Option ℕ) (n : List ℕ) (w : Comes t pool row last n) where
   abbrev l : Listing
   l = list_of t pool
 
@@ -53,11 +54,12 @@ module _ (t pool : List ℕ) (row last : ℕ) (n : List ℕ) (w : Comes t pool r
   ]
 
   -- where the search sets out
-  pub row_first : (r : ℕ) → r ≡ round_in t row last → Child l row r
-  row_first r e = elim w.from [
-    | inl z ↦ subst (Child l row) (sym (e ∙ ap (λ (b : Bool). cond b (cell t row 9) last) (eq-eqb last 0 z))) first.0
-    | inr c ↦ subst (Child l row) (sym (e ∙ ap (λ (b : Bool). cond b (cell t row 9) last) (ne_eqb last 0 (λ z. absurd (omega (arith, c.first, z)))))) c
-  ]
+  set_out : (q : Option ℕ) → IfSome q (Child l row) → Child l row (unwrap_or q (cell t row 9))
+  set_out None f = first.0
+  set_out (Some c) f = f
+
+  pub row_first : (v : ℕ) → v ≡ cell t row 9 → (r : ℕ) → r ≡ unwrap_or last v → Child l row r
+  row_first v i r e = subst (Child l row) (sym (e ∙ ap (λ (z : ℕ). unwrap_or last z) i)) (set_out last w.from)
 
   module _ (r : ℕ) (c : Child l row r) where
     named : (row_at l r).name ≡ name_in t pool r

@@ -1,4 +1,5 @@
 -- What measuring a file told, and what the pass that writes leaves, is one of check's answers. Assumes nothing.
+use Rattle.std.specs.Prelude.{Ok, Err}
 use mathlib.Core.Path.{◌≡◌, refl, sym, ◌∙◌, ap, subst}
 use mathlib.Core.Logic.{◌≢◌}
 use mathlib.Core.List.{List, ◌++◌}
@@ -20,12 +21,12 @@ use Rattle.list_house.proofs.Lists.{asked_well}
 use Rattle.value.specs.Value.{Value}
 use Rattle.file.specs.Instance.{house_kinds}
 use Rattle.file.specs.File.{File, image_of}
-use Rattle.file.specs.Checks.{Answers, Checks, Filed, Finds, long, bad_bytes, markup, violation, room, imaged}
+use Rattle.file.specs.Checks.{Answers, Checks, Finds, long, bad_bytes, markup, violation, room, imaged}
 use Rattle.file.proofs.Chosen.{filed_chosen}
 use Rattle.file.proofs.answers.House.{image_no_longer, good_fine}
-use Rattle.file_measure.specs.declared.Finding.{Finding}
+use Rattle.file_measure.specs.declared.Good.{Good}
 use Rattle.file_measure.specs.Measured.{Faultless}
-use Rattle.file_measure.specs.Measures.{Measures, measured, faulty}
+use Rattle.file_measure.specs.Measures.{Measures}
 use Rattle.file_measure.proofs.Finds.{list_is, ready}
 use Rattle.file_check.specs.Fill.{Fillable, FilledIn}
 
@@ -53,69 +54,51 @@ finds_refused s a p n d = let r = p.roomy s (omega arith) in go r.0 r.1
       answers = answers q.list (λ c f. image_no_longer s q.list c (record { among = q.among; file = f })) d' q.answers;
     }
 
--- a good file, as it was measured
-record Good (s : List ℕ) (m : Finding) : Type 0 where
-  pub list : Listing
-  pub content : Content Value
-  pub filed : Filed s list content
-  pub size : m.answer.place ≡ length (image_of house_kinds list content)
-  pub byte : m.kind ≡ list.byte
+-- a refusal, as it was measured
+pub refused : (s : List ℕ) (a : Answer) → Measures s (Err a) → (d : List ℕ) → Checks s d a d
+refused s a p d = finds_refused s a p.0 p.1 d
 
-module _ (s : List ℕ) (m : Finding) (p : Measures s m) where
-  pub refused : m.answer.code ≢ 0 → (d : List ℕ) → Checks s d m.answer d
-  refused n d = go p
-    where
-      go : Measures s m → Checks s d m.answer d
-      go (faulty f z e) = finds_refused s m.answer f n d
-      go (measured l c f e b) = absurd (n (ap (λ (x : Answer). x.code) e))
+-- a good file
+module _ (s : List ℕ) (g : Good) (p : Measures s (Ok g)) where
+  abbrev l : Listing
+  l = p.list
 
-  module _ (z : m.answer.code ≡ 0) where
-    good : Good s m
-    good = go p
+  abbrev c : Content Value
+  c = p.content
+
+  among : Among l asked
+  among = p.filed.among
+
+  by_list : (d : List ℕ) (b : Answer) (d' : List ℕ) → Answers house_kinds l s d b d' → Checks s d b d'
+  by_list d b d' x = record { list = l; among = among; chosen = filed_chosen s l c p.filed; answers = x }
+
+  pub no_room_lem : (d : List ℕ) (b : Answer) → length d < g.size → b ≡ no_room g.size → Checks s d b d
+  no_room_lem d b h e = by_list d b d (room c p.filed.file (omega (arith, h, p.size)) (e ∙ ap no_room p.size) refl)
+
+  -- the kind byte is one
+  pub kind_low : g.kind ≤ 255
+  kind_low = omega (arith, p.kind, (asked_well l among).byte.1)
+
+  module _ (t pool : List ℕ) (et : t ≡ asked_rows g.kind) (ep : pool ≡ house_pool) where
+    tables_are : list_of t pool ≡ l
+    tables_are = list_is g.kind t pool et ep l among p.kind
+
+    -- what the pass that writes asks
+    pub may_fill : Fillable house_kinds t pool s g.kind
+    may_fill = record {
+      ready = ready g.kind t pool et ep s p.filed.file.whole;
+      none = subst (λ (x : Listing). Faultless house_kinds x s) (sym tables_are) none;
+      kind = ap (λ (x : Listing). x.byte) tables_are ∙ sym p.kind;
+    }
       where
-        go : Measures s m → Good s m
-        go (faulty f n e) = absurd (n z)
-        go (measured l c f e b) = record { list = l; content = c; filed = f; size = ap (λ (x : Answer). x.place) e; byte = b }
+        none : Faultless house_kinds l s
+        none x =
+            good_fine s l c p.filed (record { size = p.filed.file.whole.size; utf8 = p.filed.file.whole.utf8; xml = x })
 
-    abbrev l : Listing
-    l = good.list
-
-    abbrev c : Content Value
-    c = good.content
-
-    among : Among l asked
-    among = good.filed.among
-
-    by_list : (d : List ℕ) (b : Answer) (d' : List ℕ) → Answers house_kinds l s d b d' → Checks s d b d'
-    by_list d b d' x = record { list = l; among = among; chosen = filed_chosen s l c good.filed; answers = x }
-
-    pub no_room_lem : (d : List ℕ) (b : Answer) → length d < m.answer.place → b ≡ no_room m.answer.place → Checks s d b d
-    no_room_lem d b h e = by_list d b d (room c good.filed.file (omega (arith, h, good.size)) (e ∙ ap no_room good.size) refl)
-
-    -- the kind byte is one
-    pub kind_low : m.kind ≤ 255
-    kind_low = omega (arith, good.byte, (asked_well l among).byte.1)
-
-    module _ (t pool : List ℕ) (et : t ≡ asked_rows m.kind) (ep : pool ≡ house_pool) where
-      tables_are : list_of t pool ≡ l
-      tables_are = list_is m.kind t pool et ep l among good.byte
-
-      -- what the pass that writes asks
-      pub may_fill : Fillable house_kinds t pool s m.kind
-      may_fill = record {
-        ready = ready m.kind t pool et ep s good.filed.file.whole;
-        none = subst (λ (x : Listing). Faultless house_kinds x s) (sym tables_are) none;
-        kind = ap (λ (x : Listing). x.byte) tables_are ∙ sym good.byte;
-      }
-        where
-          none : Faultless house_kinds l s
-          none x =
-              good_fine s l c good.filed (record { size = good.filed.file.whole.size; utf8 = good.filed.file.whole.utf8; xml = x })
-
-      pub filled : (d d' : List ℕ) (b : Answer) → m.answer.place ≤ length d → FilledIn house_kinds (list_of t pool) s d d' → b ≡ accepted m.answer.place → Checks s d b d'
-      filled d d' b h f e =
-          let w : File house_kinds l s c = good.filed.file in
-          let n : length (image_of house_kinds l c) ≤ length d = omega (arith, h, good.size) in
-          let g : FilledIn house_kinds l s d d' = subst (λ (x : Listing). FilledIn house_kinds x s d d') tables_are f in
-          by_list d b d' (imaged c w n (e ∙ ap accepted good.size)
-          (g c (record { xml = w.whole.xml; none = good_fine s l c good.filed w.whole; has = w.has }) n ∙ start_pasted d (image_of house_kinds l c) n))
+    pub filled : (d d' : List ℕ) (b : Answer) → g.size ≤ length d → FilledIn house_kinds (list_of t pool) s d d' → b ≡ accepted g.size → Checks s d b d'
+    filled d d' b h f e =
+        let w : File house_kinds l s c = p.filed.file in
+        let n : length (image_of house_kinds l c) ≤ length d = omega (arith, h, p.size) in
+        let i : FilledIn house_kinds l s d d' = subst (λ (x : Listing). FilledIn house_kinds x s d d') tables_are f in
+        by_list d b d' (imaged c w n (e ∙ ap accepted p.size)
+        (i c (record { xml = w.whole.xml; none = good_fine s l c p.filed w.whole; has = w.has }) n ∙ start_pasted d (image_of house_kinds l c) n))

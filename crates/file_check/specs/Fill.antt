@@ -1,5 +1,5 @@
 -- The pass that writes: where it stands, what it asks, and what it leaves in the buffer. Assumes nothing.
-use Rattle.std.specs.Prelude.{◌≡◌, cond, ◌⊎◌, List, ℕ, ◌≤◌, eqb, length}
+use Rattle.std.specs.Prelude.{◌≡◌, cond, List, ℕ, ◌≤◌, eqb, length, Option, IfSome}
 use Rattle.text.specs.Pasting.{pasted}
 use Rattle.list.specs.Listing.{Listing, size, Child, child}
 use Rattle.list.specs.Content.{Content}
@@ -13,18 +13,18 @@ use Rattle.file_measure.specs.Pass.{Ready}
 use Rattle.file_check.specs.declared.fill.Spot.{Spot}
 
 -- where the pass stands that writes
-abbrev pub spot_at : ℕ → ℕ → ℕ → Spot
+abbrev pub spot_at : ℕ → Option ℕ → ℕ → Spot
 spot_at r q o = record { row = r; last = q; at = o }
 
 -- a child of a row, and after the last one (0) the first again
 abbrev pub round_in : List ℕ → ℕ → ℕ → ℕ
 round_in t row r = cond (eqb r 0) (cell t row CHILD) r
 
--- the group of this row has a child called n; its last child, 0 at first, is one of its own
-pub record Comes (t pool : List ℕ) (row last : ℕ) (n : List ℕ) : Type 0 where
+-- the group of this row has a child called n; its last child, where one has come, is one of its own
+pub record Comes (t pool : List ℕ) (row : ℕ) (last : Option ℕ) (n : List ℕ) : Type 0 where
   pub sound : Sound t pool
   pub within : row ≤ size (list_of t pool)
-  pub from : (last ≡ 0) ⊎ Child (list_of t pool) row last
+  pub from : IfSome last (Child (list_of t pool) row)
   pub its : Child (list_of t pool) row (child (list_of t pool) row n)
 
 -- what the pass asks: a message without violation, and the kind byte of the list

@@ -16,31 +16,26 @@ mod fill; // fill.rt: the exact pass that writes
 fn exact(input: &[u8], out: &mut [u8]) -> Answer
     ensures { Checks input.now out.old result out.new }
 {
-    let finding = measured(input);
-    let found = finding.answer;
-    let kind = finding.kind;
-    if found.code != 0 {
-        return found;
+    let good = match measured(input) {
+        Ok(good) => good,
+        Err(refusal) => return refusal,
+    };
+    if out.len() < good.size {
+        return Answer::no_room(good.size);
     }
-    if out.len() < found.place {
-        return Answer::no_room(found.place);
-    }
-    let rows = rows_of(kind);
+    let rows = rows_of(good.kind);
     let pool = pool();
-    fill(&rows, &pool, input, kind as u8, out);
-    Answer::accepted(found.place)
+    fill(&rows, &pool, input, good.kind as u8, out);
+    Answer::accepted(good.size)
 }
 
 // What the lane knows is so, and written where it fits in; where it knows nothing the exact passes decide.
 pub fn check(input: &[u8], out: &mut [u8]) -> Answer
     ensures { Checks input.now out.old result out.new }
 {
-    let size = laned(input, out);
-    if size == 0 {
-        return exact(input, out);
+    match laned(input, out) {
+        Some(size) if size <= out.len() => Answer::accepted(size),
+        Some(size) => Answer::no_room(size),
+        None => exact(input, out),
     }
-    if out.len() < size {
-        return Answer::no_room(size);
-    }
-    Answer::accepted(size)
 }

@@ -6,6 +6,7 @@ ghost use Rattle.std.specs.Int.Bits.{bit_and};
 ghost use Rattle.text.specs.Little.{Loaded};
 
 use text::chunk::{FIFTH, joined};
+use text::part::rest;
 use text::width::{WIDTH_32, WIDTH_64};
 
 // Four neighbouring bytes, which the compiler reads at once.
@@ -28,17 +29,13 @@ fn load8(s: &[u8], at: usize) -> u64
 
 // The byte that stands so many behind a place.
 fn near(s: &[u8], at: usize, j: usize) -> u8
-    requires { at ≤ length s.now }
     ensures { result ≡ get_or s.now (at + j) 0 }
 {
-    if s.len() - at <= j {
-        return 0;
-    }
-    s[at + j]
+    rest(s, at).get(j).copied().unwrap_or(0)
 }
 
 fn near4(s: &[u8], at: usize, j: usize) -> u64
-    requires { (at ≤ length s.now) × (j ≤ 12) }
+    requires { j ≤ 12 }
     ensures { Loaded 4 s.now (at + j) result × (result < 4294967296) }
 {
     let b = j + 1;
@@ -65,39 +62,38 @@ pub fn four(s: &[u8], at: usize) -> u64
 
 // Eight bytes near the end, from so many behind a place on.
 fn near8(s: &[u8], at: usize, j: usize) -> u64
-    requires { (at ≤ length s.now) × (j ≤ 8) }
+    requires { j ≤ 8 }
     ensures { Loaded 8 s.now (at + j) result }
 {
     near4(s, at, j) + FIFTH * near4(s, at, j + WIDTH_32)
 }
 
-// What `eight` and `eight_after` read together.
-const BOTH: usize = WIDTH_64 + WIDTH_64;
-
-// The eight bytes at a place. It asks for sixteen, as `eight_after` does, so that for a tag one test does for both.
-pub fn eight(s: &[u8], at: usize) -> u64
-    ensures { Loaded 8 s.now at result }
+// The eight bytes that stand so many behind a place. It asks for sixteen from the place on, so that for a tag one test does for both eights.
+fn eight_behind(s: &[u8], at: usize, j: usize) -> u64
+    requires { j ≤ 8 }
+    ensures { Loaded 8 s.now (at + j) result }
 {
     if s.len() < at {
         return 0;
     }
-    if BOTH <= s.len() - at {
-        return load8(s, at);
+    if WIDTH_64 + WIDTH_64 <= s.len() - at {
+        return load8(s, at + j);
     }
-    near8(s, at, 0)
+    near8(s, at, j)
+}
+
+// The eight bytes at a place.
+pub fn eight(s: &[u8], at: usize) -> u64
+    ensures { Loaded 8 s.now at result }
+{
+    eight_behind(s, at, 0)
 }
 
 // The eight bytes after these.
 pub fn eight_after(s: &[u8], at: usize) -> u64
     ensures { Loaded 8 s.now (at + 8) result }
 {
-    if s.len() < at {
-        return 0;
-    }
-    if BOTH <= s.len() - at {
-        return load8(s, at + WIDTH_64);
-    }
-    near8(s, at, WIDTH_64)
+    eight_behind(s, at, WIDTH_64)
 }
 
 // Whether x under the mask m is a, and y under n is b. Both are compared at once: which of them differs is nothing to jump by.

@@ -1,16 +1,15 @@
 -- What the pass leaves in a buffer is the image of a good file: for each list. Assumes nothing.
-use mathlib.Core.Path.{◌≡◌, refl, sym, ◌∙◌, ap, ap₂, subst}
-use mathlib.Core.Logic.{◌≢◌}
-use mathlib.Core.List.{List, [], ◌∷◌, ◌++◌}
+use Rattle.std.specs.Prelude.{Option, Some, None}
+use mathlib.Core.Path.{◌≡◌, sym, ◌∙◌, ap, ap₂, subst}
+use mathlib.Core.List.{List, ◌∷◌, ◌++◌}
 use Prim.Native.Nat.{ℕ, ◌+◌, ◌≤◌, ◌<◌}
 use native.Mathlib.Omega.{arith}
-use native.Mathlib.Decide.{ℕ_discrete, dec_lt}
 use lib.ListN.{length, drop}
 use Rattle.answer.specs.declared.Answer.{Answer}
 use Rattle.answer.specs.Table.{accepted, no_room}
 use Rattle.text.specs.Numbers.{big_endian}
 use Rattle.text.specs.Pasting.{pasted}
-use Rattle.text.proofs.Pasting.{pasted_no, pasted_yes, pasted_none, length_pasted}
+use Rattle.text.proofs.Pasting.{pasted_no, pasted_yes, length_pasted}
 use Rattle.list.specs.Listing.{Listing}
 use Rattle.list.specs.Content.{Content}
 use Rattle.list.specs.Within.{Among}
@@ -65,11 +64,11 @@ module _ (s : List ℕ) (n b from : ℕ) (w : Seen s n b from) where
   image_is = ran_image w.opens.list w.opens.among s w.bytes (seen_ran s n b from w) ∙ sym (head_is_lem w.opens.list b w.bytes w.opens.kind)
 
   -- the image in a buffer
-  laned_as : (d d' : List ℕ) → d' ≡ pasted d 0 (75 ∷ 84 ∷ 79 ∷ 0 ∷ 2 ∷ b ∷ 1 ∷ w.bytes) → Laned s d n d'
+  laned_as : (d d' : List ℕ) → d' ≡ pasted d 0 (75 ∷ 84 ∷ 79 ∷ 0 ∷ 2 ∷ b ∷ 1 ∷ w.bytes) → Laned s d (Some n) d'
   laned_as d d' e =
       let r = seen_ran s n b from w in
       imaged w.opens.list (ran_content w.opens.list w.opens.among s w.bytes r) (ran_filed w.opens.list w.opens.among s w.bytes r)
-      (w.size ∙ sym (ran_long w.opens.list w.opens.among s w.bytes r)) (e ∙ ap (pasted d 0) (sym image_is))
+      (ap Some (w.size ∙ sym (ran_long w.opens.list w.opens.among s w.bytes r))) (e ∙ ap (pasted d 0) (sym image_is))
 
   module _ (t d : List ℕ) (e : t ≡ table_of b) (h : n ≤ length d) where
     stands : StandsAt t s 1 from w.bytes
@@ -81,73 +80,64 @@ module _ (s : List ℕ) (n b from : ℕ) (w : Seen s n b from) where
     pub seen_fillable : Fillable t s from d
     seen_fillable = record { small = w.small; bytes = w.bytes; stands = stands; room = omega (arith, h, w.size) }
 
-    pub seen_filled : (k : ℕ) → k ≡ b → (d' : List ℕ) → Fills t s from k d d' → Laned s d n d'
+    pub seen_filled : (k : ℕ) → k ≡ b → (d' : List ℕ) → Fills t s from k d d' → Laned s d (Some n) d'
     seen_filled k z d' f =
         laned_as d d'
         ((f w.bytes stands).is (omega (arith, h, w.size)) ∙ ap (λ (x : ℕ). pasted d 0 (75 ∷ 84 ∷ 79 ∷ 0 ∷ 2 ∷ x ∷ 1 ∷ w.bytes)) z)
 
--- nothing is told, or there is no room
-pub laned_left : (s d : List ℕ) (n b from : ℕ) → (n ≢ 0 → Seen s n b from) → (((n ≢ 0) × (n ≤ length d)) → ⊥) → Laned s d n d
-laned_left s d n b from f g = elim (ℕ_discrete n 0) [
-  | yes e ↦ unknown e refl
-  | no e ↦
-      let w = f e in
-      laned_as s n b from w d d (sym (pasted_no d 0 (75 ∷ 84 ∷ 79 ∷ 0 ∷ 2 ∷ b ∷ 1 ∷ w.bytes) (omega (arith, short e, w.size))))
-]
-  where
-    short : n ≢ 0 → length d < n
-    short e = elim (dec_lt (length d) n) [
-      | yes i ↦ i
-      | no i ↦ absurd (g (e, omega arith))
-    ]
+-- there is no room
+pub laned_left : (s d : List ℕ) (n b from : ℕ) → Seen s n b from → length d < n → Laned s d (Some n) d
+laned_left s d n b from w h = laned_as s n b from w d d (sym (pasted_no d 0 (75 ∷ 84 ∷ 79 ∷ 0 ∷ 2 ∷ b ∷ 1 ∷ w.bytes) (omega (arith, h, w.size))))
 
 -- ---- and what `check` answers
 
-put_nothing : (d i : List ℕ) → 0 ≡ length i → pasted d 0 i ≡ d
-put_nothing d [] e = pasted_none d 0
-put_nothing d (x ∷ i) e = absurd (omega arith)
-
-module _ (s d : List ℕ) (n : ℕ) (d' : List ℕ) where
-  pub laned_long : Laned s d n d' → length d' ≡ length d
+module _ (s d : List ℕ) (r : Option ℕ) (d' : List ℕ) where
+  pub laned_long : Laned s d r d' → length d' ≡ length d
   laned_long (unknown z e) = ap length e
   laned_long (imaged l c f e g) = ap length g ∙ length_pasted d 0 (image_of house_kinds l c)
 
   -- where nothing is told the buffer stays
-  pub laned_still : Laned s d n d' → n ≡ 0 → (a : Answer) (d'' : List ℕ) → Checks s d' a d'' → Checks s d a d''
+  pub laned_still : Laned s d r d' → r ≡ None → (a : Answer) (d'' : List ℕ) → Checks s d' a d'' → Checks s d a d''
   laned_still (unknown z e) h a d'' w = subst (λ (x : List ℕ). Checks s x a d'') e w
-  laned_still (imaged l c f e g) h a d'' w = subst (λ (x : List ℕ). Checks s x a d'') (g ∙ put_nothing d (image_of house_kinds l c) (sym h ∙ e)) w
+  laned_still (imaged l c f e g) h a d'' w = absurd (cc)
 
-module _ (s d : List ℕ) (n : ℕ) (d' : List ℕ) (a : Answer) (some : n ≢ 0) where
-  pub laned_checks : Laned s d n d' → n ≤ length d' → a ≡ accepted n → Checks s d a d'
-  laned_checks (unknown z e) h w = absurd (some z)
+module _ (s d : List ℕ) (r : Option ℕ) (n : ℕ) (d' : List ℕ) (a : Answer) (some : r ≡ Some n) where
+  long : {i : ℕ} → r ≡ Some i → n ≡ i
+  long e = cc
+
+  pub laned_checks : Laned s d r d' → n ≤ length d' → a ≡ accepted n → Checks s d a d'
+  laned_checks (unknown z e) h w = absurd (cc)
   laned_checks (imaged l c f e g) h' w =
-      let h : n ≤ length d = omega (arith, h', laned_long s d n d' (imaged l c f e g)) in
+      let q = long e in
+      let h : n ≤ length d = omega (arith, h', laned_long s d r d' (imaged l c f e g)) in
       let i : List ℕ = image_of house_kinds l c in
       let z : 0 + length i ≡ length i = omega arith in
       record {
         list = l;
         among = f.among;
         chosen = filed_chosen s l c f;
-        answers = checks.imaged c f.file (omega (arith, h, e)) (w ∙ ap accepted e) (g ∙ pasted_yes d 0 i (omega (arith, h, e)) ∙ ap (λ (m : ℕ). i ++ drop m d) z);
+        answers = checks.imaged c f.file (omega (arith, h, q)) (w ∙ ap accepted q) (g ∙ pasted_yes d 0 i (omega (arith, h, q)) ∙ ap (λ (m : ℕ). i ++ drop m d) z);
       }
 
-  pub laned_room : Laned s d n d' → length d' < n → a ≡ no_room n → Checks s d a d'
-  laned_room (unknown z e) h w = absurd (some z)
+  pub laned_room : Laned s d r d' → length d' < n → a ≡ no_room n → Checks s d a d'
+  laned_room (unknown z e) h w = absurd (cc)
   laned_room (imaged l c f e g) h' w =
-      let h : length d < n = omega (arith, h', laned_long s d n d' (imaged l c f e g)) in
+      let q = long e in
+      let h : length d < n = omega (arith, h', laned_long s d r d' (imaged l c f e g)) in
       record {
         list = l;
         among = f.among;
         chosen = filed_chosen s l c f;
-        answers = checks.room c f.file (omega (arith, h, e)) (w ∙ ap no_room e) (g ∙ pasted_no d 0 (image_of house_kinds l c) (omega (arith, h, e)));
+        answers = checks.room c f.file (omega (arith, h, q)) (w ∙ ap no_room q) (g ∙ pasted_no d 0 (image_of house_kinds l c) (omega (arith, h, q)));
       }
 
 -- ---- only one answer is told of a file
 
-pub laned_one : (s d : List ℕ) (n : ℕ) (x : List ℕ) (m : ℕ) (y : List ℕ) → n ≢ 0 → m ≢ 0 → Laned s d n x → Laned s d m y → (n ≡ m) × (x ≡ y)
-laned_one s d n x m y z w (unknown e f) q = absurd (z e)
-laned_one s d n x m y z w (imaged l u f e g) (unknown o q) = absurd (w o)
-laned_one s d n x m y z w (imaged l u f e g) (imaged h v q i r) =
+pub laned_one : (s d : List ℕ) (n : ℕ) (x : List ℕ) (m : ℕ) (y : List ℕ) → Laned s d (Some n) x → Laned s d (Some m) y → (n ≡ m) × (x ≡ y)
+laned_one s d n x m y (unknown e f) q = absurd (cc)
+laned_one s d n x m y (imaged l u f e g) (unknown o q) = absurd (cc)
+laned_one s d n x m y (imaged l u f e g) (imaged h v q i r) =
     let o = one_content s l h u v f q in
     let p : image_of house_kinds l u ≡ image_of house_kinds h v = ap₂ (λ (t : Listing) (a : Content Value). image_of house_kinds t a) o.0 o.1 in
-    (e ∙ ap length p ∙ sym i, g ∙ ap (pasted d 0) p ∙ sym r)
+    let k : length (image_of house_kinds l u) ≡ length (image_of house_kinds h v) = ap length p in
+    (cc, g ∙ ap (pasted d 0) p ∙ sym r)

@@ -28,6 +28,8 @@ use Rattle.value.specs.parts.Form.{WordAt, Form, reference, writing, account, cu
 use Rattle.value.specs.Kind.{code, Given}
 use Rattle.value.specs.Value.{Value, text, place, day, Spelt, bytes}
 use Rattle.value.specs.Judged.{Means, Formed, formed, formless, FormedAny}
+use Rattle.std.specs.Prelude as std
+use Rattle.std.specs.Prelude.{Some, None}
 use Rattle.value.specs.declared.judged.Judged.{Judged}
 use Rattle.value.specs.declared.judged.Judged.TheVariants as J
 use Rattle.value.proofs.types.Shaped.{shaped_spelt, spelt_shaped}
@@ -253,14 +255,14 @@ wrote_four d to y m k n d' w = w.count ∙ sym (day_long y m k)
 any_currency : (w u t : List ℕ) (v : Value) → Form date w t v → Form date u t v
 any_currency w u t v (dated r q) = dated r q
 
-module _ (raw : List ℕ) (j : Judged) (y m k : ℕ) (f : FormedAny date raw j) (e : j ≡ J.Day y m k) where
+module _ (raw : List ℕ) (j : std.Option Judged) (y m k : ℕ) (f : FormedAny date raw j) (e : j ≡ Some (J.Day (record { year = y; month = m; day = k }))) where
   day_gives : (cur : List ℕ) → Gives 10 0 cur raw (bytes (day y m k))
   day_gives cur = go (f euro euro_is)
     where
       go : Formed date euro raw j → Gives 10 0 cur raw (bytes (day y m k))
-      go (formless g n) = absurd (let z : J.Day y m k ≡ J.Refused = sym e ∙ g in let o : ◌≡◌ {A = ℕ} 0 1 = cc in omega arith)
+      go (formless g n) = absurd (let z : Some (J.Day (record { year = y; month = m; day = k })) ≡ None = sym e ∙ g in let o : ◌≡◌ {A = ℕ} 0 1 = cc in omega arith)
       go (formed v g x) =
-          let i : v ≡ day y m k = subst (λ (z : Judged). Means euro raw z v) e x in
+          let i : v ≡ day y m k = subst (λ (z : std.Option Judged). Means euro raw z v) e x in
           let t : Each Solid raw = (form_dense date euro raw v tt g).solid in
           some (day y m k)
           (record {
@@ -276,7 +278,7 @@ module _ (raw : List ℕ) (j : Judged) (y m k : ℕ) (f : FormedAny date raw j) 
   pub day_laid : (s : List ℕ) (at d : ℕ) → get_or s d 0 ≡ 60 → raw ≡ take (d - at) (drop at s) → at ≤ d → d < length s → (o : List ℕ) (to n r : ℕ) (o' : List ℕ)
       → Wrote o to (bytes (day y m k)) n o' → r ≡ to + n → OtherLaid 10 s at at o to r d o'
   day_laid s at d z i a h o to n r o' w er = (
-    (date_ends 0 s at d raw j y m k (found_of d 4) f e refl z i a h).ends,
+    (date_ends 0 s at d raw j (record { year = y; month = m; day = k }) (found_of d 4) f e refl z i a h).ends,
     (n, er, record { found = bytes (day y m k); gives = subst (λ (x : List ℕ). Gives 10 0 (slice at (at + 3) s) x (bytes (day y m k))) (sym part) (day_gives (slice at (at + 3) s)); count = w.count; is = w.is }),
   )
     where

@@ -20,6 +20,7 @@ use value_shared::place::place;
 const EIGHT: usize = 8;
 
 // Whether two chunks are what stands in the table for the tag of a node.
+// Kept: the lane (file_lane/src/tag.rt) has one like it: one for both would be a public function, and these ask nothing of who calls them.
 fn is_tag(nodes: &[u64], n: usize, x: u64, y: u64) -> bool
     requires { width * n + info ≤ length nodes.now }
     ensures { Exactly result (Matches nodes.now (width * n) x y) }

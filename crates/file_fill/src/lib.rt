@@ -6,28 +6,21 @@ mod fill; // fill.rt: the pass that writes
 
 ghost use Rattle.file_fill.specs.Laned.{Laned};
 
-use file_front::front_of;
+use file_front::{Front, front_of};
 use file_lane::counted;
 use file_nodes::by_byte::nodes_of;
 use fill::fill;
-use image_head::is_written;
 
-// The length of a file's image, 0 where the lane does not know it, and the image at the start of a buffer that has room for it; else the buffer stays as it
-// was. The nodes are bound here, once, and lent to the pass that counts and to the one that writes.
-pub fn laned(s: &[u8], out: &mut [u8]) -> usize
+// The length of a file's image, where the lane knows it, and then the image at the start of a buffer that has room for it; else the buffer stays as it was.
+// The nodes are bound here, once, and lent to the pass that counts and to the one that writes.
+pub fn laned(s: &[u8], out: &mut [u8]) -> Option<usize>
     ensures { Laned s.now out.old result out.new }
 {
-    let front = front_of(s);
-    let from = front.from;
-    if from == 0 {
-        return 0;
-    }
-    let kind = front.kind;
+    let Front { kind, from } = front_of(s)?;
     let nodes = nodes_of(kind);
-    let size = counted(&nodes, s, from);
-    if !is_written(size, out.len()) {
-        return size;
+    let size = counted(&nodes, s, from)?;
+    if size <= out.len() {
+        fill(&nodes, s, from, kind as u8, out);
     }
-    fill(&nodes, s, from, kind as u8, out);
-    size
+    Some(size)
 }

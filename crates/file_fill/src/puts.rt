@@ -85,8 +85,8 @@ fn put_day(s: &[u8], at: usize, out: &mut [u8], to: usize) -> Put
         return put_other(DATE, s, at, at, out, to);
     }
     match day(&s[at..end]) {
-        Judged::Day(year, month, date) => {
-            let n = write_day(out, to, year, month, date);
+        Some(Judged::Day(date)) => {
+            let n = write_day(out, to, date.year, date.month, date.day);
             Put { at: to + n, end }
         }
         _ => put_other(DATE, s, at, at, out, to),

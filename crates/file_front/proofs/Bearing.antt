@@ -1,22 +1,19 @@
 -- The root's attributes: one more after those that came. Assumes nothing.
 use mathlib.Core.Path.{◌≡◌, refl, sym, ◌∙◌, ap, subst}
-use mathlib.Core.Bool.{Bool, true, false, cond, ◌||◌, false≢true}
+use mathlib.Core.Bool.{Bool, true, false, cond, ◌||◌, false≢true, true≢false}
 use mathlib.Core.Logic.{◌≢◌}
 use mathlib.Core.List.{List, [], ◌∷◌, ◌++◌, append_assoc}
 use Prim.Native.Nat.{ℕ, zero, suc, ◌+◌, ◌≤◌, ◌<◌}
 use native.Mathlib.Omega.{arith}
 use lib.ListN.{length, take, drop, take-append-drop, length-append}
 use lib.Seq.{drop-drop, length-take-le}
+use Rattle.std.specs.Prelude.{Option, None, is_some}
 use Rattle.text.specs.Bytes.{ascii, is_blank, is_name_start, is_name_part}
 use Rattle.text.specs.Lists.{same, span, All, Each, Begins}
 use Rattle.text.specs.Words.{starts}
 use Rattle.text.proofs.Parts.{starts_is, same_not}
 use Rattle.text.proofs.Spans.{span_all, span_le}
 use Rattle.text_characters.specs.Pieces.{equal, Piece, spells, resolved_all}
-use Rattle.list.specs.Listing.{Listing}
-use Rattle.list.specs.Within.{Among}
-use Rattle.list_house.specs.Lists.{asked}
-use Rattle.list_house.proofs.Lists.{each_asked, house_byte, report_byte}
 use Rattle.xml.specs.House.{IsName, IsAttrName, unprefixed, prefixed, mark, Attr, attr, attrs, GoodAttr, GoodAttrs}
 use Rattle.xml.specs.Message.{Attrs, attrs_of}
 use Rattle.file_walk.specs.First.{carries, is_hint, unhinted}
@@ -71,24 +68,22 @@ module _ (a : Attr) where
 
 -- ---- of which kind it is
 
-byte_some : (l : Listing) → Among l asked → l.byte ≢ 0
-byte_some = each_asked (λ l. l.byte ≢ 0) (λ e. omega (arith, house_byte, e)) (λ e. omega (arith, report_byte, e))
-
 bit_few : (b : Bool) → bit b ≤ 1
 bit_few true = omega arith
 bit_few false = omega arith
 
-spaces_few : (b : ℕ) (ats : Attrs) (k : ℕ) → Spaced b ats k → k ≤ 1
-spaces_few b ats k (none z e f g) = omega arith
-spaces_few b ats k (one w sp e g) = omega arith
+spaces_few : (kind : Option ℕ) (ats : Attrs) (k : ℕ) → Spaced kind ats k → k ≤ 1
+spaces_few kind ats k (none z e f g) = omega arith
+spaces_few kind ats k (one b z w sp e g) = omega arith
 
-unspaced : (b : ℕ) (ats : Attrs) (k : ℕ) → Spaced b ats k → b ≡ 0 → (carries (ascii "xmlns") ats ≡ false) × (unhinted ats ≡ []) × (k ≡ 0)
-unspaced b ats k (none z e f g) h = (e, f, g)
-unspaced b ats k (one w sp e g) h = absurd (byte_some sp.list sp.among (sym sp.kind ∙ h))
+unspaced : (kind : Option ℕ) (ats : Attrs) (k : ℕ) → Spaced kind ats k → kind ≡ None → (carries (ascii "xmlns") ats ≡ false) × (unhinted ats ≡ []) × (k ≡ 0)
+unspaced kind ats k (none z e f g) h = (e, f, g)
+unspaced kind ats k (one b z w sp e g) h = absurd (true≢false (ap is_some (sym z ∙ h)))
 
-hint_kept : (a : Attr) (bs : List Attr) (b k : ℕ) → is_hint a.name ≡ true → same (ascii "xmlns") a.name ≡ false → Spaced b (attrs_of bs) k → Spaced b (attrs_of (bs ++ (a ∷ []))) k
-hint_kept a bs b k h o (none z e f g) = none z (carries_still a (ascii "xmlns") bs o ∙ e) (unhinted_still a bs h ∙ f) g
-hint_kept a bs b k h o (one w sp e g) = one w sp (unhinted_still a bs h ∙ e) g
+hint_kept : (a : Attr) (bs : List Attr) (kind : Option ℕ) (k : ℕ) → is_hint a.name ≡ true → same (ascii "xmlns") a.name ≡ false → Spaced kind (attrs_of bs) k
+    → Spaced kind (attrs_of (bs ++ (a ∷ []))) k
+hint_kept a bs kind k h o (none z e f g) = none z (carries_still a (ascii "xmlns") bs o ∙ e) (unhinted_still a bs h ∙ f) g
+hint_kept a bs kind k h o (one b z w sp e g) = one b z w sp (unhinted_still a bs h ∙ e) g
 
 module _ (s : List ℕ) (at : ℕ) (c d : Carried) (w : Carries s at c) (x : Adds s c d) where
   abbrev a : Attr
@@ -114,7 +109,7 @@ module _ (s : List ℕ) (at : ℕ) (c d : Carried) (w : Carries s at c) (x : Add
 
   grown : Notes a.name a.value c d → Carries s at d
   unfolding same
-  grown (spaced e z k p l) =
+  grown (spaced e z b y k p l) =
       let u = unspaced c.kind (attrs_of bs) w.spaces w.space z in
       record {
         attributes = all;
@@ -123,7 +118,7 @@ module _ (s : List ℕ) (at : ℕ) (c d : Carried) (w : Carries s at c) (x : Add
         prefix = carries_still a (ascii "xmlns:xsi") bs (ap (same (ascii "xmlns:xsi")) e) ∙ w.prefix ∙ sym p;
         location = carries_still a (ascii "xsi:schemaLocation") bs (ap (same (ascii "xsi:schemaLocation")) e) ∙ w.location ∙ sym l;
         spaces = 1;
-        space = one (resolved_all a.value) k (unhinted_more a bs (ap is_hint e) u.1 ∙ ap (λ (n : List ℕ). (n, resolved_all a.value) ∷ []) e) refl;
+        space = one b y (resolved_all a.value) k (unhinted_more a bs (ap is_hint e) u.1 ∙ ap (λ (n : List ℕ). (n, resolved_all a.value) ∷ []) e) refl;
         few = omega (arith, grown_long, w.few, u.2, ap bit p, ap bit l);
       }
   grown (tied e z k p l) = record {
@@ -133,7 +128,7 @@ module _ (s : List ℕ) (at : ℕ) (c d : Carried) (w : Carries s at c) (x : Add
     prefix = carries_now a (ascii "xmlns:xsi") bs (ap (same (ascii "xmlns:xsi")) e) ∙ sym p;
     location = carries_still a (ascii "xsi:schemaLocation") bs (ap (same (ascii "xsi:schemaLocation")) e) ∙ w.location ∙ sym l;
     spaces = w.spaces;
-    space = subst (λ (b : ℕ). Spaced b (attrs_of all) w.spaces) (sym k) (hint_kept a bs c.kind w.spaces (ap is_hint e) (ap (same (ascii "xmlns")) e) w.space);
+    space = subst (λ (b : Option ℕ). Spaced b (attrs_of all) w.spaces) (sym k) (hint_kept a bs c.kind w.spaces (ap is_hint e) (ap (same (ascii "xmlns")) e) w.space);
     few = omega (arith, grown_long, w.few, ap bit z, ap bit p, ap bit l);
   }
   grown (placed e z k p l) = record {
@@ -143,14 +138,14 @@ module _ (s : List ℕ) (at : ℕ) (c d : Carried) (w : Carries s at c) (x : Add
     prefix = carries_still a (ascii "xmlns:xsi") bs (ap (same (ascii "xmlns:xsi")) e) ∙ w.prefix ∙ sym p;
     location = carries_now a (ascii "xsi:schemaLocation") bs (ap (same (ascii "xsi:schemaLocation")) e) ∙ sym l;
     spaces = w.spaces;
-    space = subst (λ (b : ℕ). Spaced b (attrs_of all) w.spaces) (sym k) (hint_kept a bs c.kind w.spaces (ap is_hint e) (ap (same (ascii "xmlns")) e) w.space);
+    space = subst (λ (b : Option ℕ). Spaced b (attrs_of all) w.spaces) (sym k) (hint_kept a bs c.kind w.spaces (ap is_hint e) (ap (same (ascii "xmlns")) e) w.space);
     few = omega (arith, grown_long, w.few, ap bit z, ap bit p, ap bit l);
   }
 
   pub carries_more : Carries s at d
   carries_more = grown x.notes
 
-pub carries_none : (s : List ℕ) (at : ℕ) (c : Carried) → c.at ≡ at → c.kind ≡ 0 → c.prefix ≡ false → c.location ≡ false → Carries s at c
+pub carries_none : (s : List ℕ) (at : ℕ) (c : Carried) → c.at ≡ at → c.kind ≡ None → c.prefix ≡ false → c.location ≡ false → Carries s at c
 carries_none s at c e k p l = record {
   attributes = [];
   good = tt;
@@ -197,7 +192,7 @@ unfolding is_name_start is_name_part
 location_name = (refl, (refl, (refl, (refl, (refl, (refl, (refl, (refl, (refl, (refl, (refl, (refl, (refl, (refl, tt))))))))))))))
 
 noted_name : (n : List ℕ) (c d : Carried) (v : List Piece) → Notes n v c d → IsAttrName n
-noted_name n c d v (spaced e z k p l) = subst IsAttrName (sym e) (unprefixed xmlns_name)
+noted_name n c d v (spaced e z b y k p l) = subst IsAttrName (sym e) (unprefixed xmlns_name)
 noted_name n c d v (tied e z k p l) = prefixed (ascii "xmlns") (ascii "xsi") xmlns_name xsi_name e
 noted_name n c d v (placed e z k p l) = prefixed (ascii "xsi") (ascii "schemaLocation") xsi_name location_name e
 

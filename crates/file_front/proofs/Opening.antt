@@ -1,12 +1,12 @@
 -- The root's tag after what stands before it. Assumes nothing.
 use mathlib.Core.Path.{◌≡◌, refl, sym, ◌∙◌, ap, subst}
-use mathlib.Core.Bool.{Bool, true, false, ◌||◌, not}
-use mathlib.Core.Logic.{◌≢◌}
+use mathlib.Core.Bool.{Bool, true, false, ◌||◌, not, true≢false}
 use mathlib.Core.List.{List, [], ◌∷◌, ◌++◌, append_assoc, append-nil}
 use Prim.Native.Nat.{ℕ, ◌+◌, ◌<◌}
 use native.Mathlib.Omega.{arith}
 use lib.ListN.{length, take, drop, take-append-drop, length-drop}
 use lib.Seq.{drop-drop}
+use Rattle.std.specs.Prelude.{Option, Some, unwrap_or, is_some}
 use Rattle.text.specs.Bytes.{ascii, is_blank}
 use Rattle.text.specs.Lists.{span}
 use Rattle.text.specs.Words.{starts}
@@ -51,9 +51,9 @@ shut_room s at e = omega (arith, ap length e.is, length-drop at s)
 -- ---- all of the tag
 
 -- which list's root it is
-spaced_so : (b : ℕ) (ats : Attrs) (k : ℕ) → Spaced b ats k → b ≢ 0 → (w : List ℕ) × Space w b × (unhinted ats ≡ (ascii "xmlns", w) ∷ [])
-spaced_so b ats k (none z e f g) h = absurd (h z)
-spaced_so b ats k (one w sp e g) h = (w, sp, e)
+spaced_so : (kind : Option ℕ) (ats : Attrs) (k : ℕ) → Spaced kind ats k → (b : ℕ) → kind ≡ Some b → (w : List ℕ) × Space w b × (unhinted ats ≡ (ascii "xmlns", w) ∷ [])
+spaced_so kind ats k (none z e f g) b h = absurd (true≢false (ap is_some (sym h ∙ z)))
+spaced_so kind ats k (one n z w sp e g) b h = (w, subst (Space w) (ap (λ (o : Option ℕ). unwrap_or o 0) (sym z ∙ h)) sp, e)
 
 -- "An xsi attribute without its `xmlns:xsi` gives code 4"
 bound_so : (p l : Bool) → (l ≡ true → p ≡ true) → (not l || p) ≡ true
@@ -64,10 +64,10 @@ tag_bytes : (n : List ℕ) (bs : List Attr) (t : List ℕ) → (n ++ (attrs bs +
 tag_bytes n bs t = append_assoc n (attrs bs ++ []) (greater ∷ t) ∙ ap (λ (z : List ℕ). n ++ (z ++ (greater ∷ t))) (append-nil (attrs bs))
 
 pub opens_by : (s w : List ℕ) (at : ℕ) (c : Carried) → w ≡ less ∷ ascii "Document" → Fronted s at → starts w (drop at s) ≡ true → Carries s (at + length w) c → Shut s c.at
-    → c.kind ≢ 0 → (c.location ≡ true → c.prefix ≡ true) → Opens s c.kind (c.at + 1)
-opens_by s w at c e f z k x n h =
+    → (b : ℕ) → c.kind ≡ Some b → (c.location ≡ true → c.prefix ≡ true) → Opens s b (c.at + 1)
+opens_by s w at c e f z k x b n h =
     let bs : List Attr = k.attributes in
-    let y = spaced_so c.kind (attrs_of bs) k.spaces k.space n in
+    let y = spaced_so c.kind (attrs_of bs) k.spaces k.space b n in
     let l = y.1.list in
     let among = y.1.among in
     let name : (row_at l 1).name ≡ ascii "Document" = roots_alike l among in

@@ -23,8 +23,9 @@ use Rattle.list_house.proofs.Lists.{asked_well}
 use Rattle.xml.specs.House.{Quote, single_quote, double, mark, GoodValue}
 use Rattle.xml_pieces.specs.Over.{Over}
 use Rattle.xml_pieces.specs.Kinds.{IsPiece}
-use Rattle.xml_pieces.specs.declared.Went.{Went}
-use Rattle.xml_pieces.specs.declared.Went.TheVariants.{On}
+use Rattle.std.specs.Prelude.{Option, Some, None, is_some, IfSome, Result, Ok, Err}
+use Rattle.std.specs.Result.{result_ok}
+use Rattle.xml_pieces.specs.declared.Stopped.{Stopped}
 use Rattle.file_front.specs.declared.attributes.Carried.{Carried}
 use Rattle.file_front.specs.mirror.Spaces.{house_space, report_space}
 use Rattle.file_front.specs.mirror.Values.{Quotes, Worded, Plain, Pieced, Passed, Valued, Quoted}
@@ -53,9 +54,9 @@ plain_piece s i h p =
       is = drop-cons s i 0 h ∙ ap (λ (k : ℕ). x ∷ drop k s) n ∙ ap (λ (y : List ℕ). y ++ drop (i + 1) s) (sym (encode1 x (omega (arith, p.high))));
     }
 
-pub over_piece : (s : List ℕ) (i : ℕ) (r : Went) → Over IsPiece (drop i s) i r → (j : ℕ) → r ≡ On j → Pieced s i j
+pub over_piece : (s : List ℕ) (i : ℕ) (r : Result ℕ Stopped) → Over IsPiece (drop i s) i r → (j : ℕ) → r ≡ Ok j → Pieced s i j
 over_piece s i r g j t =
-    let over : Over IsPiece (drop i s) i (On j) = subst (λ (z : Went). Over IsPiece (drop i s) i z) t g in
+    let over : Over IsPiece (drop i s) i (Ok j) = subst (λ (z : Result ℕ Stopped). Over IsPiece (drop i s) i z) t g in
     let x = over.2.is in
     record {
       piece = x.piece;
@@ -63,6 +64,11 @@ over_piece s i r g j t =
       is = sym (take-append-drop over.0 (drop i s)) ∙ ap (λ (y : List ℕ). y ++ drop over.0 (drop i s)) x.is
           ∙ ap (λ (y : List ℕ). spell x.piece ++ y) (drop-drop over.0 i s ∙ ap (λ (k : ℕ). drop k s) (sym over.1));
     }
+
+-- where it is one
+pub over_ok : (s : List ℕ) (i : ℕ) (r : Result ℕ Stopped) → Over IsPiece (drop i s) i r → IfSome (result_ok r) (λ j. Pieced s i j)
+over_ok s i (Ok j) g = over_piece s i (Ok j) g j refl
+over_ok s i (Err e) g = tt
 
 pub piece_on : (s : List ℕ) (i j : ℕ) → Pieced s i j → i < j
 piece_on s i j x = (stands_on s i j (spell x.piece) x.is (piece_some x.piece)).0
@@ -134,10 +140,14 @@ worded_by w s at from end h q a z e i k =
           (starts_is w (drop from s) z ∙ ap (λ (d : List ℕ). w ++ d) (drop-drop (length w) from s ∙ ap (λ (j : ℕ). drop j s) (sym e) ∙ last));
     }
 
+pub none_is : (o : Option ℕ) → is_some o ≡ false → o ≡ None
+none_is (Some x) e = absurd (true≢false e)
+none_is None e = refl
+
 -- the namespace of a list
-pub space_puts : (l : Listing) → Among l asked → (h s : List ℕ) → h ≡ l.space → (at : ℕ) (c d : Carried) → Worded h s at d.at → c.kind ≡ 0 → d.kind ≡ l.byte
+pub space_puts : (l : Listing) → Among l asked → (h s : List ℕ) → h ≡ l.space → (at : ℕ) (c d : Carried) → Worded h s at d.at → c.kind ≡ None → (b : ℕ) → d.kind ≡ Some b → b ≡ l.byte
     → d.prefix ≡ c.prefix → d.location ≡ c.location → Gains (ascii "xmlns") s at c d
-space_puts l i h s e at c d w z k p o =
+space_puts l i h s e at c d w z b y k p o =
     let u : All is_unmarked h = subst (All is_unmarked) (sym e) (asked_well l i).space in
     let own = unmarked_own h u in
     let m : ℕ = mark w.quote in
@@ -148,7 +158,7 @@ space_puts l i h s e at c d w z k p o =
         good = own_good w.quote own.pieces own.good (subst (All is_unmarked) own.chars u);
         is = w.is ∙ ap (λ (x : List ℕ). m ∷ (x ++ (m ∷ drop d.at s))) own.is;
       };
-      notes = spaced refl z (record { list = l; among = i; kind = k; is = sym e ∙ own.chars }) p o;
+      notes = spaced refl z b y (record { list = l; among = i; kind = k; is = sym e ∙ own.chars }) p o;
     }
 
 -- ---- the namespaces of the code

@@ -1,6 +1,6 @@
 // The attributes of the root's tag, one after the other: the namespace of a list and, besides it, schema hints, in any order and each once.
 
-ghost use Rattle.std.specs.Prelude.{◌≡◌, ◌≢◌};
+ghost use Rattle.std.specs.Prelude.{IfSome};
 ghost use Rattle.text.specs.Bytes.{ascii};
 ghost use Rattle.file_front.specs.mirror.Attributes.{Gains, Adds, Carries, Shut};
 
@@ -20,90 +20,74 @@ const LOCATION: [u8; 19] = *b"xsi:schemaLocation=";
 // The kind byte of a statement.
 const STATEMENT: usize = 1;
 
-// What came so far: the kind byte of the list whose namespace it is, 0 before it came, whether `xmlns:xsi` and `xsi:schemaLocation` came, and the place
-// after all of it, 0 where nothing is told.
+// What came so far: the kind byte of the list whose namespace came, whether `xmlns:xsi` and `xsi:schemaLocation` came, and the place after all of it.
 #[derive(Clone, Copy)]
 pub(crate) struct Carried {
     pub at: usize,
-    pub kind: usize,
+    pub kind: Option<usize>,
     pub prefix: bool,
     pub location: bool,
 }
 
-fn lost() -> Carried
-    ensures { result.at ≡ 0 }
-{
-    Carried {
-        at: 0,
-        kind: 0,
-        prefix: false,
-        location: false,
-    }
-}
-
 // With the namespace of a list, which stands at a place: its characters are written in one way only.
-fn with_space(s: &[u8], at: usize, seen: Carried) -> Carried
-    ensures { result.at ≢ 0 → Gains (ascii "xmlns") s.now at seen result }
+fn with_space(s: &[u8], at: usize, seen: Carried) -> Option<Carried>
+    ensures { IfSome result (λ d. Gains (ascii "xmlns") s.now at seen d) }
 {
-    if seen.kind != 0 {
-        return lost();
+    if seen.kind.is_some() {
+        return None;
     }
-    let house = house_space();
-    let end = word_end(s, at, &house);
-    if end != 0 {
-        return Carried {
+    if let Some(end) = word_end(s, at, &house_space()) {
+        return Some(Carried {
             at: end,
-            kind: STATEMENT,
-            prefix: seen.prefix,
-            location: seen.location,
-        };
+            kind: Some(STATEMENT),
+            ..seen
+        });
     }
-    let report = report_space();
-    Carried {
-        at: word_end(s, at, &report),
-        kind: REPORT,
-        prefix: seen.prefix,
-        location: seen.location,
-    }
+    let end = word_end(s, at, &report_space())?;
+    Some(Carried {
+        at: end,
+        kind: Some(REPORT),
+        ..seen
+    })
 }
 
 // With `xmlns:xsi`.
-fn with_prefix(s: &[u8], at: usize, seen: Carried) -> Carried
-    ensures { result.at ≢ 0 → Gains (ascii "xmlns:xsi") s.now at seen result }
+fn with_prefix(s: &[u8], at: usize, seen: Carried) -> Option<Carried>
+    ensures { IfSome result (λ d. Gains (ascii "xmlns:xsi") s.now at seen d) }
 {
     if seen.prefix {
-        return lost();
+        return None;
     }
-    Carried {
-        at: value_end(s, at),
-        kind: seen.kind,
+    let end = value_end(s, at)?;
+    Some(Carried {
+        at: end,
         prefix: true,
-        location: seen.location,
-    }
+        ..seen
+    })
 }
 
 // With `xsi:schemaLocation`.
-fn with_location(s: &[u8], at: usize, seen: Carried) -> Carried
-    ensures { result.at ≢ 0 → Gains (ascii "xsi:schemaLocation") s.now at seen result }
+fn with_location(s: &[u8], at: usize, seen: Carried) -> Option<Carried>
+    ensures { IfSome result (λ d. Gains (ascii "xsi:schemaLocation") s.now at seen d) }
 {
     if seen.location {
-        return lost();
+        return None;
     }
-    Carried {
-        at: value_end(s, at),
-        kind: seen.kind,
-        prefix: seen.prefix,
+    let end = value_end(s, at)?;
+    Some(Carried {
+        at: end,
         location: true,
-    }
+        ..seen
+    })
 }
 
 // With one attribute more, after some blanks.
-fn with_one(s: &[u8], seen: Carried) -> Carried
-    ensures { result.at ≢ 0 → Adds s.now seen result }
+fn with_one(s: &[u8], seen: Carried) -> Option<Carried>
+    ensures { IfSome result (λ d. Adds s.now seen d) }
 {
     let from = blanks_end(s, seen.at);
     if from == seen.at {
-        return lost();
+        return None;
     }
     if begins(s, from, &XMLNS) {
         return with_space(s, from + XMLNS.len(), seen);
@@ -114,24 +98,21 @@ fn with_one(s: &[u8], seen: Carried) -> Carried
     if begins(s, from, &LOCATION) {
         return with_location(s, from + LOCATION.len(), seen);
     }
-    lost()
+    None
 }
 
 // All that come from a place on, up to `>`.
-pub(crate) fn attributes_from(s: &[u8], at: usize) -> Carried
-    ensures { result.at ≢ 0 → Carries s.now at result × Shut s.now result.at }
+pub(crate) fn attributes_from(s: &[u8], at: usize) -> Option<Carried>
+    ensures { IfSome result (λ c. Carries s.now at c × Shut s.now c.at) }
 {
     let mut seen = Carried {
         at,
-        kind: 0,
+        kind: None,
         prefix: false,
         location: false,
     };
     while !begins(s, seen.at, b">") {
-        seen = with_one(s, seen);
-        if seen.at == 0 {
-            return seen;
-        }
+        seen = with_one(s, seen)?;
     }
-    seen
+    Some(seen)
 }

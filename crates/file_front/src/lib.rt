@@ -7,12 +7,12 @@ mod quoted; // quoted.rt: values in quotes
 mod attributes; // attributes.rt: the attributes of the root's tag
 mod ending; // ending.rt: how a file ends
 
-ghost use Rattle.std.specs.Prelude.{◌≡◌, true, ◌≢◌};
+ghost use Rattle.std.specs.Prelude.{◌≡◌, true, IfSome, Some};
 ghost use Rattle.file_front.specs.Opens.{Opens};
 ghost use Rattle.file_front.specs.mirror.Attributes.{Fronted};
 
 use answer::Answer;
-use attributes::attributes_from;
+use attributes::{Carried, attributes_from};
 use ending::is_closed;
 use text::part::begins;
 use text::span::blanks_end;
@@ -21,7 +21,7 @@ const DECLARATION: [u8; 38] = *b"<?xml version=\"1.0\" encoding=\"UTF-8\"?>";
 
 const ROOT: [u8; 9] = *b"<Document";
 
-// What stands at the front: the kind byte of the list whose root's tag it is, and the place after that tag; 0 where nothing is told.
+// What stands at the front: the kind byte of the list whose root's tag it is, and the place after that tag.
 #[derive(Clone, Copy)]
 pub struct Front {
     pub kind: usize,
@@ -38,42 +38,37 @@ fn root_at(s: &[u8]) -> usize
     blanks_end(s, 0)
 }
 
-// Whether the root may carry these: a namespace, and "An xsi attribute without its `xmlns:xsi` gives code 4".
-fn is_whole(kind: usize, prefix: bool, location: bool) -> bool
-    ensures { result ≡ true → (kind ≢ 0) × (location ≡ true → prefix ≡ true) }
+// The kind byte of the list whose root may carry these: a namespace, and "An xsi attribute without its `xmlns:xsi` gives code 4".
+fn whole_kind(seen: Carried) -> Option<usize>
+    ensures { IfSome result (λ b. (seen.kind ≡ Some b) × (seen.location ≡ true → seen.prefix ≡ true)) }
 {
-    if kind == 0 {
-        return false;
+    if seen.location {
+        if !seen.prefix {
+            return None;
+        }
     }
-    if location {
-        return prefix;
-    }
-    true
+    seen.kind
 }
 
-// Which list's root stands at the front of a file. A file beyond the limit is not looked at, nor one that does not end with its root's end tag.
-pub fn front_of(s: &[u8]) -> Front
-    ensures { result.from ≢ 0 → Opens s.now result.kind result.from }
+// Which list's root stands at the front of a file, where that is told. A file beyond the limit is not looked at, nor one that does not end with its
+// root's end tag.
+pub fn front_of(s: &[u8]) -> Option<Front>
+    ensures { IfSome result (λ f. Opens s.now f.kind f.from) }
 {
     if Answer::LIMIT < s.len() {
-        return Front { kind: 0, from: 0 };
+        return None;
     }
     if !is_closed(s) {
-        return Front { kind: 0, from: 0 };
+        return None;
     }
     let less = root_at(s);
     if !begins(s, less, &ROOT) {
-        return Front { kind: 0, from: 0 };
+        return None;
     }
-    let seen = attributes_from(s, less + ROOT.len());
-    if seen.at == 0 {
-        return Front { kind: 0, from: 0 };
-    }
-    if !is_whole(seen.kind, seen.prefix, seen.location) {
-        return Front { kind: 0, from: 0 };
-    }
-    Front {
-        kind: seen.kind,
+    let seen = attributes_from(s, less + ROOT.len())?;
+    let kind = whole_kind(seen)?;
+    Some(Front {
+        kind,
         from: seen.at + 1,
-    }
+    })
 }

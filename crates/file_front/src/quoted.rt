@@ -1,10 +1,9 @@
 // A value in quotes: a given word, or any text that house XML allows there.
 
-ghost use Rattle.std.specs.Prelude.{true, ◌≡◌, ◌≢◌, ◌<◌, length};
+ghost use Rattle.std.specs.Prelude.{true, ◌≡◌, ◌<◌, length, get_or, IfSome};
 ghost use Rattle.file_front.specs.mirror.Values.{Quotes, Worded, Plain, Pieced, Valued, Quoted};
 
 use text::part::begins;
-use xml_pieces::Went;
 use xml_pieces::piece::piece;
 
 fn is_quote(b: u8) -> bool
@@ -19,29 +18,37 @@ fn is_quote(b: u8) -> bool
     false
 }
 
-// The place after a word with both its quotes, 0 where it does not stand at a place.
-pub(crate) fn word_end(s: &[u8], at: usize, word: &[u8]) -> usize
-    ensures { result ≢ 0 → Worded word.now s.now at result }
+// The quote that stands at a place.
+fn quote_at(s: &[u8], at: usize) -> Option<u8>
+    ensures { IfSome result (λ q. (at < length s.now) × (q ≡ get_or s.now at 0) × Quotes q) }
 {
     if s.len() <= at {
-        return 0;
+        return None;
     }
     let quote = s[at];
-    if !is_quote(quote) {
-        return 0;
+    if is_quote(quote) {
+        return Some(quote);
     }
+    None
+}
+
+// The place after a word with both its quotes.
+pub(crate) fn word_end(s: &[u8], at: usize, word: &[u8]) -> Option<usize>
+    ensures { IfSome result (λ r. Worded word.now s.now at r) }
+{
+    let quote = quote_at(s, at)?;
     let from = at + 1;
     if !begins(s, from, word) {
-        return 0;
+        return None;
     }
     let end = from + word.len();
     if s.len() <= end {
-        return 0;
+        return None;
     }
     if s[end] != quote {
-        return 0;
+        return None;
     }
-    end + 1
+    Some(end + 1)
 }
 
 // A byte that is a character as it stands.
@@ -63,49 +70,36 @@ fn is_plain(b: u8) -> bool
     true
 }
 
-// The place after a character or an entity, 0 where none stands at a place. Most are a byte of ASCII, which need no call.
-fn piece_end(s: &[u8], at: usize) -> usize
+// The place after a character or an entity. Most are a byte of ASCII, which need no call.
+fn piece_end(s: &[u8], at: usize) -> Option<usize>
     requires { at < length s.now }
-    ensures { result ≢ 0 → Pieced s.now at result }
+    ensures { IfSome result (λ r. Pieced s.now at r) }
 {
     if is_plain(s[at]) {
-        return at + 1;
+        return Some(at + 1);
     }
-    match piece(s, at) {
-        Went::Stopped(_) => 0,
-        Went::On(after) => after,
-    }
+    piece(s, at).ok()
 }
 
-// The place after the quote that ends a value, 0 where none does.
-fn text_end(s: &[u8], at: usize, quote: u8) -> usize
+// The place after the quote that ends a value.
+fn text_end(s: &[u8], at: usize, quote: u8) -> Option<usize>
     requires { Quotes quote }
-    ensures { result ≢ 0 → Valued s.now at quote result }
+    ensures { IfSome result (λ r. Valued s.now at quote r) }
 {
     let mut i = at;
     while i < s.len() {
         if s[i] == quote {
-            return i + 1;
+            return Some(i + 1);
         }
-        let after = piece_end(s, i);
-        if after == 0 {
-            return 0;
-        }
-        i = after;
+        i = piece_end(s, i)?;
     }
-    0
+    None
 }
 
-// The place after a value with both its quotes, 0 where none stands at a place.
-pub(crate) fn value_end(s: &[u8], at: usize) -> usize
-    ensures { result ≢ 0 → Quoted s.now at result }
+// The place after a value with both its quotes.
+pub(crate) fn value_end(s: &[u8], at: usize) -> Option<usize>
+    ensures { IfSome result (λ r. Quoted s.now at r) }
 {
-    if s.len() <= at {
-        return 0;
-    }
-    let quote = s[at];
-    if !is_quote(quote) {
-        return 0;
-    }
+    let quote = quote_at(s, at)?;
     text_end(s, at + 1, quote)
 }

@@ -80,11 +80,12 @@ module _ (t : List ℕ) (at : ℕ → Node) (b : Tabled t at) where
 
 -- at node n and place i, with this sum so far
 pub record Loop (t s : List ℕ) (o n i sum : ℕ) : Type 0 where
+  pub some : 0 < n
   pub few : sum ≤ 7 + 65538 * i
   pub leads : (at : ℕ → Node) → Tabled t at → In t n × Leads house_kinds at s 1 o n i sum
 
 pub loop_start : (t s : List ℕ) (o : ℕ) → length t ≡ 1045 → Loop t s o 1 o 7
-loop_start t s o h = record { few = omega arith; leads = λ at b. ((omega arith, omega arith), going.begin house_kinds at s 1 o) }
+loop_start t s o h = record { some = omega arith; few = omega arith; leads = λ at b. ((omega arith, omega arith), going.begin house_kinds at s 1 o) }
 
 module _ (t s : List ℕ) (o n i sum j x y r : ℕ) (v : Loop t s o n i sum) (e : j ≡ i + span is_blank (drop i s)) (lx : Loaded 8 s j x) (ly : Loaded 8 s (j + 8) y) (f : Sought t x y n r) where
   no_blank : span is_blank (drop j s) ≡ 0
@@ -110,6 +111,7 @@ module _ (t s : List ℕ) (o n i sum j x y r : ℕ) (v : Loop t s o n i sum) (e 
     -- the next turn is further on
     pub loop_again : m ≤ 65538 → j < i' → (d : ℕ) → d ≡ get_or t (11 * r + 4) 0 / 65536 % 256 → d ≢ 0 → Loop t s o d i' (sum + m)
     loop_again k g d z c = record {
+      some = omega arith;
       few = omega (arith, k, v.few, e, g);
       leads = λ at b.
           let h = (here_found at b).is in

@@ -1,6 +1,5 @@
 -- The first tag that is matched, from a node on. Assumes nothing.
 use mathlib.Core.Path.{◌≡◌, sym, ◌∙◌, ap, ap₂, subst}
-use mathlib.Core.Logic.{◌≢◌}
 use mathlib.Core.Bool.{Bool, ◌&&◌}
 use mathlib.Core.List.{List}
 use Prim.Native.Nat.{ℕ, ◌+◌, ◌*◌, ◌/◌, ◌%◌, ◌<◌}
@@ -41,7 +40,7 @@ pub record Seeks (t : List ℕ) (x y from n : ℕ) : Type 0 where
 pub seek_start : (t : List ℕ) (x y from : ℕ) → Seeks t x y from from
 seek_start t x y from = record { on = λ r s. s }
 
-pub seek_found : (t : List ℕ) (x y from n : ℕ) → length t ≡ 1045 → n < 95 → Seeks t x y from n → Matches t (11 * n) x y → n ≢ 0 → Sought t x y from n × In t n
+pub seek_found : (t : List ℕ) (x y from n : ℕ) → length t ≡ 1045 → n < 95 → Seeks t x y from n → Matches t (11 * n) x y → 0 < n → Sought t x y from n × In t n
 seek_found t x y from n l h s m z = (s.on n (here m), (omega arith, omega arith))
 
 -- a later node

@@ -1,4 +1,5 @@
 -- What one turn of the lane meets, from what the code's calls told. Assumes nothing.
+use Rattle.std.specs.Prelude.{Some}
 use mathlib.Core.Path.{◌≡◌, refl, sym, ◌∙◌, ap, ap₂, subst}
 use mathlib.Core.Logic.{◌≢◌, inl, inr, ⊎_elim}
 use mathlib.Core.Bool.{Bool, true, false, cond, ◌||◌, false≢true, true≢false}
@@ -27,8 +28,9 @@ use Rattle.value.proofs.types.Numbered.{code_low, code_high}
 use Rattle.value.proofs.types.Shaped.{shaped_spelt}
 use Rattle.value_leaf.specs.declared.found.Found.{Found}
 use Rattle.value_leaf.specs.Took.{Uncut}
-use Rattle.value_leaf.specs.Leafed.{is_inside, Leafed}
-use Rattle.value_leaf.proofs.Taking.{Weighed, weighed_coin, weighed_plain}
+use Rattle.value_leaf.specs.Leafed.{is_inside, Weighs, Leafed}
+use Rattle.file_lane.proofs.Few.{weighs_few}
+use Rattle.value_leaf.proofs.Taking.{Weighed, weighed_coin, weighed_plain, told_size}
 use Rattle.file_nodes.specs.Run.{Sort, over, shut, group, leaf, Node}
 use Rattle.file_nodes.specs.Fitting.{coined, given}
 use Rattle.text.specs.Little.{little, Loaded}
@@ -55,16 +57,26 @@ module _ (s : List ℕ) (at kind k : ℕ) (r : Found) (l : Leafed kind k s at r)
   pub leaf_near : r.end ≤ at + length s
   leaf_near = omega (arith, l.ends, span_le is_inside (drop at s), length-drop at s)
 
-  weighed : r.size ≢ 0 → (f : Leaf) (cur : List ℕ) → code f ≡ kind → kind ≢ 6 → Given f k 0 → (kind ≡ 9 → Ccy cur) → Weighed f cur (slice at r.end s) r.size
-  weighed h f cur e o g c = elim (ℕ_discrete kind 9) [
-    | yes z ↦ weighed_coin f kind k (slice at r.end s) r.size e o g l.weighs (omega arith) cur (c z)
-    | no z ↦ weighed_plain f kind k (slice at r.end s) r.size e o g l.weighs (omega arith) z cur
-  ]
+  module _ (m : ℕ) (h : r.size ≡ Some m) where
+    is_size : (l.bytes ≡ m) × (0 < l.bytes)
+    is_size = told_size kind k s at m r l h
 
-pub texts_is : (t s : List ℕ) (k info kind at i n : ℕ) (r : Found) → Leafed kind (info / 4294967296 % 256) s at r → r.size ≢ 0 → Closed t k info s r.end i → n ≡ 1 + r.size
+    pub leaf_few : m ≤ 65537
+    leaf_few = omega (arith, is_size, weighs_few kind k (slice at r.end s) l.bytes l.weighs)
+
+    weighed : (f : Leaf) (cur : List ℕ) → code f ≡ kind → kind ≢ 6 → Given f k 0 → (kind ≡ 9 → Ccy cur) → Weighed f cur (slice at r.end s) m
+    weighed f cur e o g c =
+        let w : Weighs kind k (slice at r.end s) m = subst (Weighs kind k (slice at r.end s)) is_size.0 l.weighs in
+        let some : 0 < m = omega (arith, is_size) in
+        elim (ℕ_discrete kind 9) [
+          | yes z ↦ weighed_coin f kind k (slice at r.end s) m e o g w some cur (c z)
+          | no z ↦ weighed_plain f kind k (slice at r.end s) m e o g w some z cur
+        ]
+
+pub texts_is : (t s : List ℕ) (k info kind at i n : ℕ) (r : Found) → Leafed kind (info / 4294967296 % 256) s at r → (m : ℕ) → r.size ≡ Some m → Closed t k info s r.end i → n ≡ 1 + m
     → Texts t k info kind s at i n
-texts_is t s k info kind at i n r l h z e f cur w c o g y ends =
-    let x = weighed s at kind (info / 4294967296 % 256) r l h f cur c o g y in
+texts_is t s k info kind at i n r l m h z e f cur w c o g y ends =
+    let x = weighed s at kind (info / 4294967296 % 256) r l m h f cur c o g y in
     record {
       raw = slice at r.end s;
       bytes = x.bytes;
@@ -443,11 +455,11 @@ module _ (t s : List ℕ) (k info kind at : ℕ) (ei : info ≡ get_or t (k + 4)
   -- a leaf's text, after its currency where it has one
   pub goes_text : (sort jump : ℕ) (r : Found) → kind ≢ 0 → kind ≢ 1 → kind ≢ 6 → kind ≢ 13 → (kind ≡ 9 → Coined 34 s from) × (kind ≡ 12 → Coined 39 s from)
       → (kind ≡ 12 → sort ≡ 9) × (kind ≢ 12 → sort ≡ kind) → (kind ≡ 9 → jump ≡ 5) × (kind ≡ 12 → jump ≡ 5) × (kind ≢ 9 → kind ≢ 12 → jump ≡ 0)
-      → Leafed sort (info / 4294967296 % 256) s (from + jump) r → r.size ≢ 0 → Goes t k info s at r.end (1 + r.size)
-  goes_text sort jump r a b c d money es ej l h i n z e = turns_told t s k info kind at from ei ek refl i n a b d tells
+      → Leafed sort (info / 4294967296 % 256) s (from + jump) r → (m : ℕ) → r.size ≡ Some m → Goes t k info s at r.end (1 + m)
+  goes_text sort jump r a b c d money es ej l m h i n z e = turns_told t s k info kind at from ei ek refl i n a b d tells
     where
       texts : (o j : ℕ) → sort ≡ o → jump ≡ j → Texts t k info o s (from + j) i n
-      texts o j p q = texts_is t s k info o (from + j) i n r (subst (λ (y : ℕ). Leafed o (info / 4294967296 % 256) s (from + y) r) q (subst (λ (y : ℕ). Leafed y (info / 4294967296 % 256) s (from + jump) r) p l)) h z e
+      texts o j p q = texts_is t s k info o (from + j) i n r (subst (λ (y : ℕ). Leafed o (info / 4294967296 % 256) s (from + y) r) q (subst (λ (y : ℕ). Leafed y (info / 4294967296 % 256) s (from + jump) r) p l)) m h z e
 
       none_more : (o : ℕ) → from + 0 ≡ o → Texts t k info kind s (from + 0) i n → Texts t k info kind s o i n
       none_more o p y = subst (λ (m : ℕ). Texts t k info kind s m i n) p y

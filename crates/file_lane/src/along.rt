@@ -1,6 +1,6 @@
 // From the place after the root's tag to the end of the file, one tag after the other.
 
-ghost use Rattle.std.specs.Prelude.{◌≡◌, ◌≢◌, ℕ, ◌*◌, ◌≤◌, length};
+ghost use Rattle.std.specs.Prelude.{◌≡◌, ℕ, ◌*◌, ◌≤◌, IfSome, length};
 ghost use Rattle.answer.specs.Table.{limit};
 ghost use Rattle.file.specs.Instance.{house_kinds};
 ghost use Rattle.value_levels.specs.mirror.Levels.{Leveled};
@@ -23,14 +23,14 @@ const START: usize = 1;
 
 const HEAD: usize = 7;
 
-// How many bytes the image has of a file that goes on so from a place after its root's tag; 0 where that is not known here. No sum overflows: each turn
-// goes on in a text of at most 1,048,576 bytes, and an item has at most 65,538. Of a table that leads to no node nothing is told.
-pub(crate) fn length_from(levels: &Levels, nodes: &[u64], s: &[u8], from: usize) -> usize
+// How many bytes the image has of a file that goes on so from a place after its root's tag, where that is known here. No sum overflows: each turn goes on in
+// a text of at most 1,048,576 bytes, and an item has at most 65,538. Of a table that leads to no node nothing is told.
+pub(crate) fn length_from(levels: &Levels, nodes: &[u64], s: &[u8], from: usize) -> Option<usize>
     requires { Leveled levels.now × (length nodes.now ≡ width * node_count) }
-    ensures { result ≢ 0 → (length s.now ≤ limit) × ((at : ℕ → Node) → Tabled nodes.now at → Comes house_kinds at s.now 1 from result) }
+    ensures { IfSome result (λ n. (length s.now ≤ limit) × ((at : ℕ → Node) → Tabled nodes.now at → Comes house_kinds at s.now 1 from n)) }
 {
     if Answer::LIMIT < s.len() {
-        return 0;
+        return None;
     }
     let mut n = START;
     let mut at = from;
@@ -38,22 +38,15 @@ pub(crate) fn length_from(levels: &Levels, nodes: &[u64], s: &[u8], from: usize)
     loop {
         let less = blanks_end(s, at);
         if s.len() <= less {
-            return 0;
+            return None;
         }
-        let found = find(nodes, n, eight(s, less), eight_after(s, less));
-        if found == 0 {
-            return 0;
-        }
-        let past = passed(levels, nodes, found, s, less);
-        let after = past.at;
-        if after == 0 {
-            return 0;
-        }
+        let found = find(nodes, n, eight(s, less), eight_after(s, less))?;
+        let past = passed(levels, nodes, found, s, less)?;
         total += past.size;
-        at = after;
+        at = past.at;
         n = (nodes[WIDTH * found + INFO] / NEXT % 256) as usize;
         if n == 0 {
-            return total;
+            return Some(total);
         }
     }
 }

@@ -5,7 +5,7 @@ mod tag; // tag.rt: which of the tags that may come stands at a place
 mod turn; // turn.rt: from a tag to the next
 mod along; // along.rt: from the root's tag to the end
 
-ghost use Rattle.std.specs.Prelude.{◌≡◌, ◌≢◌, ℕ};
+ghost use Rattle.std.specs.Prelude.{◌≡◌, ℕ, IfSome, Ok};
 ghost use Rattle.file_front.specs.Opens.{Opens};
 ghost use Rattle.file.specs.Checks.{Finds};
 ghost use Rattle.file_measure.specs.Measures.{Measures};
@@ -14,53 +14,49 @@ ghost use Rattle.file_lane.specs.Seen.{Seen};
 
 use along::length_from;
 use answer::Answer;
-use file_front::front_of;
-use file_measure::Finding;
+use file_front::{Front, front_of};
+use file_measure::Good;
 use file_nodes::by_byte::nodes_of;
 use file_nodes::tables::Table;
 use value_levels::table::levels;
 
-// How long the image is of a file whose root's tag ends at a place, where these are the nodes of its list; 0 where that is not known here. The levels of
-// bytes are bound here, once, and lent. Who writes the image has bound the nodes already, so that they are lent too.
-pub fn counted(nodes: &Table, s: &[u8], from: usize) -> usize
-    ensures { result ≢ 0 → (b : ℕ) → Opens s.now b from → nodes.now ≡ table_of b → Seen s.now result b from }
+// How long the image is of a file whose root's tag ends at a place, where these are the nodes of its list and that is known here. The levels of bytes are
+// bound here, once, and lent. Who writes the image has bound the nodes already, so that they are lent too.
+pub fn counted(nodes: &Table, s: &[u8], from: usize) -> Option<usize>
+    ensures { IfSome result (λ n. (b : ℕ) → Opens s.now b from → nodes.now ≡ table_of b → Seen s.now n b from) }
 {
     let levels = levels();
     length_from(&levels, nodes, s, from)
 }
 
-// The same by the kind byte of the list, 0 too where no place is told. It does not ask `counted`: called at two places the pass stays a function of its own,
-// compiled into one it would have too few registers for its loop.
-fn counted_as(kind: usize, s: &[u8], from: usize) -> usize
-    ensures { (from ≢ 0 → Opens s.now kind from) → result ≢ 0 → Seen s.now result kind from }
+// The same of a file whose front is known. It does not ask `counted`: called at two places the pass stays a function of its own, compiled into one it
+// would have too few registers for its loop.
+fn known(s: &[u8]) -> Option<Good>
+    ensures { IfSome result (λ g. Measures s.now (Ok g)) }
 {
-    if from == 0 {
-        return 0;
-    }
+    let Front { kind, from } = front_of(s)?;
     let nodes = nodes_of(kind);
     let levels = levels();
-    length_from(&levels, &nodes, s, from)
+    let size = length_from(&levels, &nodes, s, from)?;
+    Some(Good { kind, size })
 }
 
 // What the lane knows is so; where it knows nothing the exact passes decide.
-pub fn measured(input: &[u8]) -> Finding
+pub fn measured(input: &[u8]) -> Result<Good, Answer>
     ensures { Measures input.now result }
 {
-    let front = front_of(input);
-    let kind = front.kind;
-    let size = counted_as(kind, input, front.from);
-    if size != 0 {
-        return Finding {
-            answer: Answer::accepted(size),
-            kind,
-        };
+    match known(input) {
+        Some(good) => Ok(good),
+        None => file_measure::measured(input),
     }
-    file_measure::measured(input)
 }
 
 // The answer alone.
 pub fn measure(input: &[u8]) -> Answer
     ensures { Finds input.now result }
 {
-    measured(input).answer
+    match measured(input) {
+        Ok(good) => Answer::accepted(good.size),
+        Err(refusal) => refusal,
+    }
 }

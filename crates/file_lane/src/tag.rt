@@ -1,6 +1,6 @@
 // Which of the tags that may come stands at a place: sixteen bytes, compared under the masks of one node after the other.
 
-ghost use Rattle.std.specs.Prelude.{◌≡◌, ◌≢◌, ◌+◌, ◌*◌, ◌≤◌, length};
+ghost use Rattle.std.specs.Prelude.{◌≡◌, ◌+◌, ◌*◌, ◌≤◌, ◌<◌, IfSome, length};
 ghost use Rattle.value.specs.Judged.{Exactly};
 ghost use Rattle.file_nodes.specs.mirror.Fields.{width, masked_long};
 ghost use Rattle.file_nodes.specs.mirror.Tables.{node_count};
@@ -26,25 +26,23 @@ pub(crate) fn is_tag(nodes: &[u64], k: usize, x: u64, y: u64) -> bool
     )
 }
 
-// The node whose tag two chunks begin with, from a node on to what else may come; 0 where there is none. What else may come is a later node: of a table
-// that says another, nothing is told.
-pub(crate) fn find(nodes: &[u64], from: usize, x: u64, y: u64) -> usize
-    requires { length nodes.now ≡ width * node_count }
-    ensures { result ≢ 0 → Sought nodes.now x y from result × In nodes.now result }
+// The node whose tag two chunks begin with, from a node on to what else may come. What else may come is a later node: of a table that says another, nothing
+// is told.
+pub(crate) fn find(nodes: &[u64], from: usize, x: u64, y: u64) -> Option<usize>
+    requires { (length nodes.now ≡ width * node_count) × (0 < from) }
+    ensures { IfSome result (λ n. Sought nodes.now x y from n × In nodes.now n) }
 {
     let mut n = from;
-    loop {
-        if NODES <= n {
-            return 0;
-        }
+    while n < NODES {
         let k = WIDTH * n;
         if is_tag(nodes, k, x, y) {
-            return n;
+            return Some(n);
         }
         let next = (nodes[k + INFO] / OTHER % 256) as usize;
         if next <= n {
-            return 0;
+            return None;
         }
         n = next;
     }
+    None
 }

@@ -1,6 +1,6 @@
 // One turn: from a tag that stands at a place to the next tag. Where that can't be known here, nothing is told, and another decides.
 
-ghost use Rattle.std.specs.Prelude.{◌≡◌, true, false, ◌≢◌, ◌+◌, ◌*◌, ◌/◌, ◌%◌, ◌≤◌, ◌<◌, length};
+ghost use Rattle.std.specs.Prelude.{◌≡◌, true, false, ◌≢◌, ◌+◌, ◌*◌, ◌/◌, ◌%◌, ◌≤◌, ◌<◌, IfSome, length};
 ghost use Rattle.answer.specs.Table.{limit};
 ghost use Rattle.list.specs.Listing.{amt};
 ghost use Rattle.xml.specs.House.{single_quote, double, mark};
@@ -19,10 +19,9 @@ use file_nodes::fields::{
 use text::class::is_capital;
 use text::span::blanks_end;
 use value_lane::leaf::leaf;
-use value_leaf::found::Found;
 use value_levels::table::Levels;
 
-// What was passed: the place after it, 0 where nothing is told, and how many bytes of the image it has.
+// What was passed: the place after it, and how many bytes of the image it has.
 #[derive(Clone, Copy)]
 pub(crate) struct Past {
     pub at: usize,
@@ -109,30 +108,38 @@ fn is_bare(s: &[u8], at: usize, kind: u8) -> bool
     false
 }
 
-// What comes after the first sixteen bytes of a tag, up to what is compared at its end: nothing, or the text of a leaf. It tells where it ends, 0 where
-// nothing is told, and how many bytes of the image the tag has with it. `leaf` is asked at one place, so that the compiler has it in the loop.
-fn told(levels: &Levels, nodes: &[u64], k: usize, info: u64, kind: u8, s: &[u8], at: usize) -> Found
+// What comes after the first sixteen bytes of a tag, up to what is compared at its end: nothing, or the text of a leaf. It tells where it ends, and how many
+// bytes of the image the tag has with it. `leaf` is asked at one place, so that the compiler has it in the loop.
+fn told(
+    levels: &Levels,
+    nodes: &[u64],
+    k: usize,
+    info: u64,
+    kind: u8,
+    s: &[u8],
+    at: usize,
+) -> Option<Past>
     requires { Leveled levels.now × (k + width ≤ length nodes.now) × (info ≡ fields_at nodes.now k) × (kind ≡ info / 256 % 256) × (at ≤ limit) × (length s.now ≤ limit) × (kind ≢ 0) × (kind ≢ ending) }
-    ensures { (result.end ≢ 0 → Goes nodes.now k info s.now at result.end result.size × (at + info % 256 ≤ result.end)) × (result.size ≤ longest_item) × (result.end ≤ too_far) }
+    ensures { IfSome result (λ p. Goes nodes.now k info s.now at p.at p.size × (at + info % 256 ≤ p.at) × (p.size ≤ longest_item) × (p.at ≤ too_far)) }
 {
     let from = at + (info % 256) as usize;
     if kind == LONG {
-        return Found {
-            end: from,
+        return Some(Past {
+            at: from,
             size: (info / ITEM % 256) as usize,
-        };
+        });
     }
     if kind == ENUM {
         if !listed(nodes, k, s, from) {
-            return Found { end: 0, size: 0 };
+            return None;
         }
-        return Found {
-            end: from + LETTERS,
+        return Some(Past {
+            at: from + LETTERS,
             size: 2,
-        };
+        });
     }
     if is_bare(s, from, kind) {
-        return Found { end: 0, size: 0 };
+        return None;
     }
     let f = leaf(
         levels,
@@ -141,26 +148,22 @@ fn told(levels: &Levels, nodes: &[u64], k: usize, info: u64, kind: u8, s: &[u8],
         s,
         from + skip(kind),
     );
-    let size = f.size;
-    if size == 0 {
-        return Found { end: 0, size: 0 };
-    }
-    Found {
-        end: f.end,
+    let size = f.size?;
+    Some(Past {
+        at: f.end,
         size: 1 + size,
-    }
+    })
 }
 
-// The rest of a tag, or a leaf's closing tag, at a place.
-fn closed(nodes: &[u64], k: usize, info: u64, s: &[u8], end: usize, size: usize) -> Past
+// The place after the rest of a tag, or after a leaf's closing tag, which stands at a place.
+fn closed(nodes: &[u64], k: usize, info: u64, s: &[u8], end: usize) -> Option<usize>
     requires { (k + width ≤ length nodes.now) × (end ≤ too_far) }
-    ensures { (result.at ≢ 0 → Closed nodes.now k info s.now end result.at × (result.size ≡ size) × (end ≤ result.at)) × (result.size ≤ size) }
+    ensures { IfSome result (λ at. Closed nodes.now k info s.now end at × (end ≤ at)) }
 {
     if !is_tag(nodes, k + END, eight(s, end), eight_after(s, end)) {
-        return Past { at: 0, size: 0 };
+        return None;
     }
-    let after = end + (info / MORE % 256) as usize;
-    Past { at: after, size }
+    Some(end + (info / MORE % 256) as usize)
 }
 
 const SHORT: u8 = 0;
@@ -169,34 +172,34 @@ const ENDING: u8 = OVER as u8;
 
 // What comes after the first sixteen bytes of a node's tag, which stand at a place, up to the next tag. After the root's end blanks alone may come. Of a
 // node without a tag nothing is told: each turn goes on.
-pub(crate) fn passed(levels: &Levels, nodes: &[u64], n: usize, s: &[u8], at: usize) -> Past
+pub(crate) fn passed(levels: &Levels, nodes: &[u64], n: usize, s: &[u8], at: usize) -> Option<Past>
     requires { Leveled levels.now × In nodes.now n × (at ≤ limit) × (length s.now ≤ limit) }
-    ensures { (result.at ≢ 0 → Turns nodes.now (width * n) s.now at result.at result.size × (at < result.at)) × (result.size ≤ longest_item) }
+    ensures { IfSome result (λ p. Turns nodes.now (width * n) s.now at p.at p.size × (at < p.at) × (p.size ≤ longest_item)) }
 {
     let k = WIDTH * n;
     let info = nodes[k + INFO];
     let long = (info % 256) as usize;
     if long == 0 {
-        return Past { at: 0, size: 0 };
+        return None;
     }
     let kind = (info / 256 % 256) as u8;
     if kind == SHORT {
-        return Past {
+        return Some(Past {
             at: at + long,
             size: (info / ITEM % 256) as usize,
-        };
+        });
     }
     if kind == ENDING {
         let from = at + long;
         if blanks_end(s, from) < s.len() {
-            return Past { at: 0, size: 0 };
+            return None;
         }
-        return Past { at: from, size: 1 };
+        return Some(Past { at: from, size: 1 });
     }
-    let f = told(levels, nodes, k, info, kind, s, at);
-    let end = f.end;
-    if end == 0 {
-        return Past { at: 0, size: 0 };
-    }
-    closed(nodes, k, info, s, end, f.size)
+    let text = told(levels, nodes, k, info, kind, s, at)?;
+    let after = closed(nodes, k, info, s, text.at)?;
+    Some(Past {
+        at: after,
+        size: text.size,
+    })
 }

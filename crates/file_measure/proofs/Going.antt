@@ -1,7 +1,9 @@
 -- A pass over a message: where it stands, what it has found and put so far, and what each step adds. Over any types. Assumes nothing.
+use Rattle.std.specs.Prelude.{Option as Told, None, Some, Result, Ok, Err, is_err}
+use Rattle.std.proofs.lemmas.Option.{none-some}
 use mathlib.Core.Path.{◌≡◌, refl, sym, ◌∙◌, ap, subst}
 use mathlib.Core.Logic.{◌≢◌}
-use mathlib.Core.Bool.{Bool, true, false, not, true≢false, false≢true}
+use mathlib.Core.Bool.{true, false, not, true≢false, false≢true}
 use mathlib.Core.List.{List, [], ◌∷◌, ◌++◌, append_assoc, append-nil}
 use mathlib.Core.Option.{Option}
 use Prim.Native.Nat.{ℕ, ◌+◌, ◌*◌, ◌≤◌}
@@ -9,7 +11,7 @@ use native.Mathlib.Omega.{arith}
 use lib.ListN.{length, length-append}
 use lib.Seq.{slice}
 use Rattle.answer.specs.declared.Answer.{Answer}
-use Rattle.answer.specs.Table.{accepted, bad_value}
+use Rattle.answer.specs.Table.{bad_value}
 use Rattle.text.specs.Pasting.{pasted}
 use Rattle.text.specs.Puts.{Puts}
 use Rattle.list.specs.Listing.{Leaf, amt, Kind, group, choice, leaf, Listing, row_at, Child, is_group}
@@ -22,18 +24,15 @@ use Rattle.xml.specs.House.{HouseXml}
 use Rattle.xml.specs.Message.{Attrs, root_at, message_of}
 use Rattle.xml_tags.specs.Story.{Event, events}
 use Rattle.file_walk.specs.declared.level.Level.{Level}
-use Rattle.file_walk.specs.declared.found.Found.{Found}
-use Rattle.file_walk.specs.declared.found.Found.TheVariants.{Fine, Violation}
 use Rattle.file_walk.specs.declared.step.Here.{Here}
-use Rattle.file_walk.specs.declared.step.Met.{Met}
-use Rattle.file_walk.specs.declared.step.Met.TheVariants.{Opened, Closed, Refused, Lost}
 use Rattle.file_walk.specs.declared.step.Turn.{Turn}
+use Rattle.file_walk.specs.declared.step.Turn.TheVariants.{Opened, Closed, Ended}
 use Rattle.file_walk.specs.Types.{Spelling}
-use Rattle.file_walk.specs.First.{First, refuse, or_else, currency_given}
+use Rattle.file_walk.specs.First.{Found, First, refuse, or_else, currency_given}
 use Rattle.file_walk.specs.Denotes.{Has}
 use Rattle.file_walk.specs.mirror.Machine.{Speller, is_none, judge_of, speller_of, Computes, before, advance, opens, closes, run, emits}
-use Rattle.file_walk.specs.mirror.Stride.{step_in, stack_in}
-use Rattle.file_walk.specs.mirror.Begin.{begin_in}
+use Rattle.file_walk.specs.mirror.Stride.{Stepped, step_in, stack_in}
+use Rattle.file_walk.specs.mirror.Begin.{Rooted, begin_in}
 use Rattle.file_walk.proofs.violation.Answers.{kinds}
 use Rattle.file_walk.proofs.violation.Judges.{computes_decides}
 use Rattle.file_walk.proofs.bytes.Sound.{Placed}
@@ -50,35 +49,34 @@ use Rattle.image.proofs.answers.Heads.{header_length}
 use Rattle.file.specs.Instance.{Kinds, values_of}
 use Rattle.file.specs.File.{image_of}
 use Rattle.text.proofs.Puts.{puts_none, puts_pasted, puts_then, puts_as}
-use Rattle.file_measure.specs.Pass.{kind_in, Shut, Yields, Shuts, Opens, ItemPut, Passes, violates, holds}
+use Rattle.value.specs.Places.{longest_value}
+use Rattle.file_measure.specs.Pass.{kind_in, Shut, Yields, Shuts, Opens, ItemPut, Passes}
 use Rattle.value.proofs.stored.texts.Codes.{currency_exactly}
 
 -- ---- what a step met
 
-abbrev pub is_opened : Met → Bool
-is_opened Opened = true
-is_opened Closed = false
-is_opened (Refused a) = false
-is_opened Lost = false
+-- a number for each, to tell them apart
+abbrev rank : Stepped → ℕ
+rank (Err a) = 0
+rank (Ok (Opened to)) = 1
+rank (Ok (Closed to less)) = 2
+rank (Ok Ended) = 3
 
-abbrev pub is_refused : Met → Bool
-is_refused Opened = false
-is_refused Closed = false
-is_refused (Refused a) = true
-is_refused Lost = false
+apart : {P : Type 0} (x y z : Stepped) → x ≡ y → x ≡ z → rank y ≢ rank z → P
+apart x y z e f n = absurd (n (ap rank (sym e ∙ f)))
 
-abbrev is_lost : Met → Bool
-is_lost Opened = false
-is_lost Closed = false
-is_lost (Refused a) = false
-is_lost Lost = true
-
--- a violation has one answer
-refused_one : (a b : Answer) → Refused a ≡ Refused b → a ≡ b
+-- what stands in one
+refused_one : {T : Type 0} (a b : Answer) → ◌≡◌ {A = Result T Answer} (Err a) (Err b) → a ≡ b
 refused_one a b e = cc
 
-apart : (p : Met → Bool) (x y z : Met) → x ≡ y → x ≡ z → p y ≡ true → p z ≡ false → ⊥
-apart p x y z e f g h = true≢false (sym g ∙ ap p (sym e ∙ f) ∙ h)
+rooted_one : (a b : Here) → ◌≡◌ {A = Rooted} (Ok a) (Ok b) → a ≡ b
+rooted_one a b e = cc
+
+opened_one : (a b : Here) → ◌≡◌ {A = Stepped} (Ok (Opened a)) (Ok (Opened b)) → a ≡ b
+opened_one a b e = cc
+
+closed_one : (a b : Here) (m n : ℕ) → ◌≡◌ {A = Stepped} (Ok (Closed a m)) (Ok (Closed b n)) → (a ≡ b) × (m ≡ n)
+closed_one a b m n e = (cc, cc)
 
 plainly : (n : ℕ) → 0 + n ≡ n
 plainly n = omega arith
@@ -148,48 +146,41 @@ module _ (cm : Computed) (t pool s : List ℕ) (sd : Sound t pool) where
     abbrev handed_all : List (ℕ × Option T.A)
     handed_all = emits T l before (events (message_of x.tree) [])
 
-    abbrev Goal : List ℕ → Answer → List ℕ → Type 0
+    abbrev Goal : List ℕ → Result ℕ Answer → List ℕ → Type 0
     Goal d₀ a d = Passes k l (message_of x.tree) d₀ a d
 
     -- ---- the beginning
 
-    pub begun : (turn : Turn) → turn ≡ begin_in t pool s → Began T t pool s sd x.tree turn
-    begun turn e =
-        subst (λ (z : Turn). Began T t pool s sd x.tree z) (sym e)
+    pub begun : (tried : Rooted) → tried ≡ begin_in t pool s → Began T t pool s sd x.tree tried
+    begun tried e =
+        subst (λ (z : Rooted). Began T t pool s sd x.tree z) (sym e)
         (subst (λ (z : List ℕ). Began T t pool z sd x.tree (begin_in t pool z)) (sym x.is) (began T t pool sd x.tree x.good))
 
     pub first_found : (f : Found) → found_all ≡ f → First k.types l (message_of x.tree) f
     first_found f e = record { judge = judge_of T; decides = computes_decides k.types cm.spell cm.computes; is = first_is T l sd.well x.tree x.good ∙ e }
 
-    -- a violation that is the first, as it was met
-    refused_is : (d₀ d : List ℕ) (met : Met) (a b : Answer) → met ≡ Refused a → met ≡ Refused b → found_all ≡ Violation b → Goal d₀ a d
-    refused_is d₀ d met a b e f g = violates (first_found (Violation a) (g ∙ ap Violation (refused_one b a (sym f ∙ e))))
+    -- a violation that is the first
+    refused_is : (d₀ d : List ℕ) (a b : Answer) → a ≡ b → found_all ≡ Err b → Goal d₀ (Err a) d
+    refused_is d₀ d a b e g = first_found (Err a) (g ∙ ap Err (sym e))
 
-    module _ (turn : Turn) (w : Began T t pool s sd x.tree turn) where
-      pub begin_refused : (d₀ : List ℕ) (a : Answer) → turn.met ≡ Refused a → Goal d₀ a d₀
+    module _ (tried : Rooted) (w : Began T t pool s sd x.tree tried) where
+      pub begin_refused : (d₀ : List ℕ) (a : Answer) → tried ≡ Err a → Goal d₀ (Err a) d₀
       begin_refused d₀ a e = elim w [
-        | denied v ↦ refused_is d₀ d₀ turn.met a v.answer e v.met v.found
-        | starts v ↦ absurd (apart is_refused turn.met (Refused a) Opened e v.met refl refl)
+        | denied b f g ↦ refused_is d₀ d₀ a b (refused_one {T = Here} a b (sym e ∙ f)) g
+        | starts h f v ↦ absurd (true≢false (ap is_err (sym e ∙ f)))
       ]
 
-      -- there is nothing else
-      pub begin_other : (m : Met) → turn.met ≡ m → is_refused m ≡ false → is_opened m ≡ false → ⊥
-      begin_other m e f g = elim w [
-        | denied v ↦ apart is_refused turn.met (Refused v.answer) m v.met e refl f
-        | starts v ↦ apart is_opened turn.met Opened m v.met e refl g
-      ]
-
-      pub begin_opened : turn.met ≡ Opened → Starts T t pool s sd x.tree turn
-      begin_opened e = elim w [
-        | denied v ↦ absurd (apart is_refused turn.met (Refused v.answer) Opened v.met e refl refl)
-        | starts v ↦ v
+      pub begin_opened : (here : Here) → tried ≡ Ok here → Starts T t pool s sd x.tree here
+      begin_opened here e = elim w [
+        | denied b f g ↦ absurd (false≢true (ap is_err (sym e ∙ f)))
+        | starts h f v ↦ subst (Starts T t pool s sd x.tree) (rooted_one h here (sym f ∙ e)) v
       ]
 
     -- ---- from the root's tag on, with d₁ in the buffer up to a₁
 
     module _ (d₁ : List ℕ) (a₁ : ℕ) where
       -- where the pass stands, with d in the buffer up to `at`: the levels and events of the walk, and the items that it has handed out after the root's
-      pub record Going (d st : List ℕ) (here : Here) (at : ℕ) : Type 0 where
+      pub record Going (d : List ℕ) (st : List Level) (here : Here) (at : ℕ) : Type 0 where
         pub below : List Level
         pub ats : Attrs
         pub rest : List Event
@@ -202,8 +193,8 @@ module _ (cm : Computed) (t pool s : List ℕ) (sd : Sound t pool) where
         -- no step adds more than this, and each goes on
         pub most : at ≤ a₁ + 65538 * here.at
 
-      pub goes_first : (d₀ : List ℕ) (turn : Turn) → Starts T t pool s sd x.tree turn → (st : List ℕ) → length st ≡ 80 → Puts d₀ 0 (header l ++ (1 ∷ [])) a₁ d₁ → Going d₁ st turn.here a₁
-      goes_first d₀ turn w st h p = record {
+      pub goes_first : (d₀ : List ℕ) (here : Here) → Starts T t pool s sd x.tree here → (st : List Level) → length st ≡ 16 → Puts d₀ 0 (header l ++ (1 ∷ [])) a₁ d₁ → Going d₁ st here a₁
+      goes_first d₀ here w st h p = record {
         below = [];
         ats = [];
         rest = w.rest;
@@ -218,7 +209,7 @@ module _ (cm : Computed) (t pool s : List ℕ) (sd : Sound t pool) where
 
       -- ---- a step
 
-      module _ (d st : List ℕ) (here : Here) (at : ℕ) (g : Going d st here at) where
+      module _ (d : List ℕ) (st : List Level) (here : Here) (at : ℕ) (g : Going d st here at) where
         pub at_most : length s ≤ 1048576 → at ≤ 1000000000000
         at_most h = omega (arith, g.most, g.head, header_length l, g.stands.within)
 
@@ -228,102 +219,96 @@ module _ (cm : Computed) (t pool s : List ℕ) (sd : Sound t pool) where
             puts_as d₁ a₁ (items_of g.done ++ items_of new) (items_of (g.done ++ new)) r d' (sym (items_append g.done new))
             (puts_then d₁ a₁ (items_of g.done) at d (items_of new) r d' g.put p)
 
-        module _ (coins : Coins (judge_of T)) (turn : Turn) (st' : List ℕ) (e : turn ≡ step_in t pool s st here) (f : st' ≡ stack_in t pool s st here) where
+        module _ (coins : Coins (judge_of T)) (step : Stepped) (st' : List Level) (e : step ≡ step_in t pool s st here) (f : st' ≡ stack_in t pool s st here) where
           abbrev Steps : Type 0
-          Steps = Turned T t pool s sd here g.below g.ats g.rest st' turn
+          Steps = Turned T t pool s sd here g.below g.ats g.rest st' step
 
           pub steps : Steps
           steps =
-              subst (λ (z : Turn). Turned T t pool s sd here g.below g.ats g.rest st' z) (sym e)
-              (subst (λ (z : List ℕ). Turned T t pool s sd here g.below g.ats g.rest z (step_in t pool s st here)) (sym f)
+              subst (λ (z : Stepped). Turned T t pool s sd here g.below g.ats g.rest st' z) (sym e)
+              (subst (λ (z : List Level). Turned T t pool s sd here g.below g.ats g.rest z (step_in t pool s st here)) (sym f)
               (turned T t pool s sd coins st here g.below g.ats g.rest g.stands))
 
-          pub step_refused : (d₀ : List ℕ) (a : Answer) → turn.met ≡ Refused a → Goal d₀ a d
+          pub step_refused : (d₀ : List ℕ) (a : Answer) → step ≡ Err a → Goal d₀ (Err a) d
           step_refused d₀ a m = elim steps [
-            | refused w ↦ refused_is d₀ d turn.met a w.answer m w.met (g.found ∙ w.found)
-            | opened w ↦ absurd (apart is_refused turn.met (Refused a) Opened m w.met refl refl)
-            | closed w ↦ absurd (apart is_refused turn.met (Refused a) Closed m w.met refl refl)
-            | whole w ↦ absurd (apart is_refused turn.met (Refused a) Closed m w.met refl refl)
+            | refused b i w ↦ refused_is d₀ d a b (refused_one {T = Turn} a b (sym m ∙ i)) (g.found ∙ w)
+            | opened to i w ↦ apart step _ _ m i (λ z. omega (arith, z))
+            | closed to n i w ↦ apart step _ _ m i (λ z. omega (arith, z))
+            | whole i w ↦ apart step _ _ m i (λ z. omega (arith, z))
           ]
 
-          pub step_lost : turn.met ≡ Lost → ⊥
-          step_lost m = elim steps [
-            | refused w ↦ apart is_lost turn.met Lost (Refused w.answer) m w.met refl refl
-            | opened w ↦ apart is_lost turn.met Lost Opened m w.met refl refl
-            | closed w ↦ apart is_lost turn.met Lost Closed m w.met refl refl
-            | whole w ↦ apart is_lost turn.met Lost Closed m w.met refl refl
+          pub step_enters : (to : Here) → step ≡ Ok (Opened to) → Enters T t pool s sd here g.below g.ats g.rest st' to
+          step_enters to m = elim steps [
+            | refused b i w ↦ apart step _ _ m i (λ z. omega (arith, z))
+            | opened o i w ↦ subst (Enters T t pool s sd here g.below g.ats g.rest st') (opened_one o to (sym i ∙ m)) w
+            | closed o n i w ↦ apart step _ _ m i (λ z. omega (arith, z))
+            | whole i w ↦ apart step _ _ m i (λ z. omega (arith, z))
           ]
 
-          pub step_enters : turn.met ≡ Opened → Enters T t pool s sd here g.below g.ats g.rest st' turn
-          step_enters m = elim steps [
-            | refused w ↦ absurd (apart is_opened turn.met Opened (Refused w.answer) m w.met refl refl)
-            | opened w ↦ w
-            | closed w ↦ absurd (apart is_opened turn.met Opened Closed m w.met refl refl)
-            | whole w ↦ absurd (apart is_opened turn.met Opened Closed m w.met refl refl)
+          pub step_leaves : (to : Here) (less : ℕ) → step ≡ Ok (Closed to less) → Leaves T t pool s sd here g.below g.ats g.rest st' to less
+          step_leaves to less m = elim steps [
+            | refused b i w ↦ apart step _ _ m i (λ z. omega (arith, z))
+            | opened o i w ↦ apart step _ _ m i (λ z. omega (arith, z))
+            | closed o n i w ↦
+                let c = closed_one o to n less (sym i ∙ m) in
+                subst (λ y. Leaves T t pool s sd here g.below g.ats g.rest st' y less) c.0 (subst (Leaves T t pool s sd here g.below g.ats g.rest st' o) c.1 w)
+            | whole i w ↦ apart step _ _ m i (λ z. omega (arith, z))
           ]
 
-          pub step_leaves : turn.met ≡ Closed → here.depth ≢ 0 → Leaves T t pool s sd here g.below g.ats g.rest st' turn
-          step_leaves m n = elim steps [
-            | refused w ↦ absurd (apart is_refused turn.met (Refused w.answer) Closed w.met m refl refl)
-            | opened w ↦ absurd (apart is_opened turn.met Opened Closed w.met m refl refl)
-            | closed w ↦ w
-            | whole w ↦ absurd (n w.root)
-          ]
-
-          pub step_ends : turn.met ≡ Closed → here.depth ≡ 0 → Ends T t pool s sd here g.below g.ats g.rest st' turn
-          step_ends m n = elim steps [
-            | refused w ↦ absurd (apart is_refused turn.met (Refused w.answer) Closed w.met m refl refl)
-            | opened w ↦ absurd (apart is_opened turn.met Opened Closed w.met m refl refl)
-            | closed w ↦ absurd (omega (arith, w.deep))
-            | whole w ↦ w
+          pub step_ends : step ≡ Ok Ended → Ends T t pool s sd here g.below g.ats g.rest st'
+          step_ends m = elim steps [
+            | refused b i w ↦ apart step _ _ m i (λ z. omega (arith, z))
+            | opened o i w ↦ apart step _ _ m i (λ z. omega (arith, z))
+            | closed o n i w ↦ apart step _ _ m i (λ z. omega (arith, z))
+            | whole i w ↦ w
           ]
 
         -- an element that goes on
-        module _ (st' : List ℕ) (turn : Turn) (w : Enters T t pool s sd here g.below g.ats g.rest st' turn) where
-          pub goes_in : (r : ℕ) (d' : List ℕ) → Opens k t turn.here.level.row d at r d' → Going d' st' turn.here r
+        module _ (st' : List Level) (to : Here) (w : Enters T t pool s sd here g.below g.ats g.rest st' to) where
+          pub goes_in : (r : ℕ) (d' : List ℕ) → Opens k t to.level.row d at r d' → Going d' st' to r
           goes_in r d' o = record {
-            below = advance l here.level turn.here.level.row ∷ g.below;
+            below = advance l here.level to.level.row ∷ g.below;
             ats = w.attrs;
             rest = w.rest;
             stands = w.stands;
             found = g.found ∙ w.found;
-            done = g.done ++ opens T l (row_at l turn.here.level.row).kind turn.here.level.row;
+            done = g.done ++ opens T l (row_at l to.level.row).kind to.level.row;
             handed = g.handed ∙ ap (λ z. (1, Option.none) ∷ (g.done ++ z)) w.handed
-                ∙ ap (λ z. (1, Option.none) ∷ z) (sym (append_assoc g.done (opens T l (row_at l turn.here.level.row).kind turn.here.level.row)
-                (hands T t pool s sd turn.here (advance l here.level turn.here.level.row ∷ g.below) w.attrs w.rest)));
-            put = more (opens T l (row_at l turn.here.level.row).kind turn.here.level.row) r d' put_in;
+                ∙ ap (λ z. (1, Option.none) ∷ z) (sym (append_assoc g.done (opens T l (row_at l to.level.row).kind to.level.row)
+                (hands T t pool s sd to (advance l here.level to.level.row ∷ g.below) w.attrs w.rest)));
+            put = more (opens T l (row_at l to.level.row).kind to.level.row) r d' put_in;
             head = g.head;
             most = omega (arith, o.most, g.most, w.on);
           }
             where
               q : Kind
-              q = (row_at l turn.here.level.row).kind
+              q = (row_at l to.level.row).kind
 
-              q_is : q ≡ kind_in t pool turn.here.level.row
-              q_is = kind_of_lem turn.here.level w.stands.placed
+              q_is : q ≡ kind_in t pool to.level.row
+              q_is = kind_of_lem to.level w.stands.placed
 
-              put_in : Puts d at (items_of (opens T l (row_at l turn.here.level.row).kind turn.here.level.row)) r d'
+              put_in : Puts d at (items_of (opens T l (row_at l to.level.row).kind to.level.row)) r d'
               put_in = by_cases (is_group q)
-                  (λ b. puts_as d at (turn.here.level.row ∷ []) (items_of (opens T l q turn.here.level.row)) r d' (sym (opens_bytes q turn.here.level.row refl b))
+                  (λ b. puts_as d at (to.level.row ∷ []) (items_of (opens T l q to.level.row)) r d' (sym (opens_bytes q to.level.row refl b))
                   (o.group pool (ap is_group (sym q_is) ∙ b)))
-                  (λ b. puts_as d at [] (items_of (opens T l q turn.here.level.row)) r d' (ap items_of (sym (opens_leaf q turn.here.level.row b)))
+                  (λ b. puts_as d at [] (items_of (opens T l q to.level.row)) r d' (ap items_of (sym (opens_leaf q to.level.row b)))
                   (o.leaf pool (ap is_group (sym q_is) ∙ b)))
 
         -- the end of an element within another
-        module _ (st' : List ℕ) (turn : Turn) (w : Leaves T t pool s sd here g.below g.ats g.rest st' turn) where
+        module _ (st' : List Level) (to : Here) (less : ℕ) (w : Leaves T t pool s sd here g.below g.ats g.rest st' to less) where
           abbrev row : ℕ
           row = here.level.row
 
           kind_here : (row_at l row).kind ≡ kind_in t pool row
           kind_here = kind_of_lem here.level g.stands.placed
 
-          child_here : Child l turn.here.level.row row
+          child_here : Child l to.level.row row
           child_here = (subst (Nested T t pool s sd row) w.is g.stands.nested).0
 
           leaf_ok_lem : (f : Leaf) → (row_at l row).kind ≡ leaf f → LeafOk f
-          leaf_ok_lem f e = subst KindOk e (sd.well.kinds turn.here.level.row row child_here)
+          leaf_ok_lem f e = subst KindOk e (sd.well.kinds to.level.row row child_here)
 
-          shut : (f : Leaf) → (row_at l row).kind ≡ leaf f → Shut t pool row (slice here.value here.quote s) (slice here.at turn.less s) f (currency_given g.ats) w.chars
+          shut : (f : Leaf) → (row_at l row).kind ≡ leaf f → Shut t pool row (slice here.value here.quote s) (slice here.at less s) f (currency_given g.ats) w.chars
           shut f e = record {
             kind = sym kind_here ∙ e;
             ok = leaf_ok_lem f e;
@@ -331,65 +316,72 @@ module _ (cm : Computed) (t pool s : List ℕ) (sd : Sound t pool) where
             money = λ a. let m : (row_at l row).kind ≡ leaf amt = e ∙ ap leaf a in (g.stands.coin m, (currency_exactly (slice here.value here.quote s)).0 (g.stands.capitals m));
           }
 
-          module _ (r : ℕ) (d' : List ℕ) (o : Shuts k t pool row (slice here.value here.quote s) (slice here.at turn.less s) d at r d') where
-            abbrev new : List (ℕ × Option T.A)
-            new = closes T l (row_at l row).kind row g.ats w.chars
+          abbrev new : List (ℕ × Option T.A)
+          new = closes T l (row_at l row).kind row g.ats w.chars
+
+          abbrev spelt : Leaf → Option T.A
+          spelt f = T.spell f (currency_given g.ats) w.chars
+
+          abbrev Shutting : Told ℕ → List ℕ → Type 0
+          Shutting r d' = Shuts k t pool row (slice here.value here.quote s) (slice here.at less s) d at r d'
+
+          item_of : (r : Told ℕ) (d' : List ℕ) → Shutting r d' → (f : Leaf) → (row_at l row).kind ≡ leaf f → (v : Option T.A) → spelt f ≡ v → ItemPut k t pool row f v d at r d'
+          item_of r d' o f e v u = o.leaf f (currency_given g.ats) w.chars (shut f e) v (yields k cm.spell cm.computes f (currency_given g.ats) w.chars (leaf_ok_lem f e) v u)
+
+          module _ (n : ℕ) (d' : List ℕ) (o : Shutting (Some n) d') where
+            few : n ≤ at + (1 + longest_value)
+            few = o.most
 
             -- it adds these items, and nothing is found in it
-            goes_by : judged (judge_of T) (row_at l row).kind row here.level.place g.ats w.chars ≡ Fine → Puts d at (items_of new) r d' → Going d' st' turn.here r
+            goes_by : judged (judge_of T) (row_at l row).kind row here.level.place g.ats w.chars ≡ Ok tt → Puts d at (items_of new) n d' → Going d' st' to n
             goes_by j p = record {
               below = w.outer;
               ats = [];
               rest = w.rest;
               stands = w.stands;
-              found = g.found ∙ w.found ∙ ap (λ z. or_else z (finds T t pool s sd turn.here w.outer [] w.rest)) j;
+              found = g.found ∙ w.found ∙ ap (λ z. or_else z (finds T t pool s sd to w.outer [] w.rest)) j;
               done = g.done ++ new;
-              handed = g.handed ∙ ap (λ z. (1, Option.none) ∷ (g.done ++ z)) w.handed ∙ ap (λ z. (1, Option.none) ∷ z) (sym (append_assoc g.done new (hands T t pool s sd turn.here w.outer [] w.rest)));
-              put = more new r d' p;
+              handed = g.handed ∙ ap (λ z. (1, Option.none) ∷ (g.done ++ z)) w.handed ∙ ap (λ z. (1, Option.none) ∷ z) (sym (append_assoc g.done new (hands T t pool s sd to w.outer [] w.rest)));
+              put = more new n d' p;
               head = g.head;
-              most = omega (arith, o.most, g.most, w.on);
+              most = omega (arith, few, g.most, w.on);
             }
 
-            abbrev spelt : Leaf → Option T.A
-            spelt f = T.spell f (currency_given g.ats) w.chars
-
-            by_group : is_group (row_at l row).kind ≡ true → Going d' st' turn.here r
+            by_group : is_group (row_at l row).kind ≡ true → Going d' st' to n
             by_group b = goes_by (judged_group T l (row_at l row).kind row here.level.place g.ats w.chars b)
-                (puts_as d at [] (items_of new) r d' (ap items_of (sym (closes_group T l (row_at l row).kind row g.ats w.chars b))) (o.group (ap is_group (sym kind_here) ∙ b)))
+                (puts_as d at [] (items_of new) n d' (ap items_of (sym (closes_group T l (row_at l row).kind row g.ats w.chars b))) (o.group (ap is_group (sym kind_here) ∙ b)))
 
-            item_of : (f : Leaf) → (row_at l row).kind ≡ leaf f → (v : Option T.A) → spelt f ≡ v → ItemPut k t pool row f v d at r d'
-            item_of f e v u = o.leaf f (currency_given g.ats) w.chars (shut f e) v (yields k cm.spell cm.computes f (currency_given g.ats) w.chars (leaf_ok_lem f e) v u)
-
-            by_leaf : r ≢ 0 → (f : Leaf) → (row_at l row).kind ≡ leaf f → (v : Option T.A) → spelt f ≡ v → Going d' st' turn.here r
-            by_leaf n f e Option.none u = absurd (n (item_of f e Option.none u))
-            by_leaf n f e (Option.some v) u = goes_by
+            by_leaf : (f : Leaf) → (row_at l row).kind ≡ leaf f → (v : Option T.A) → spelt f ≡ v → Going d' st' to n
+            by_leaf f e Option.none u = absurd (none-some n (sym (item_of (Some n) d' o f e Option.none u)))
+            by_leaf f e (Option.some v) u = goes_by
                 (ap (λ (q : Kind). judged (judge_of T) q row here.level.place g.ats w.chars) e ∙ ap (λ z. refuse (not (not (is_none z))) (bad_value row here.level.place)) u)
-                (puts_as d at (row ∷ k.bytes f v) (items_of new) r d'
+                (puts_as d at (row ∷ k.bytes f v) (items_of new) n d'
                 (sym (ap (λ (q : Kind). items_of (closes T l q row g.ats w.chars)) e ∙ ap (λ z. items_of ((row, z) ∷ [])) u ∙ leaf_item row f v e))
-                (item_of f e (Option.some v) u))
+                (item_of (Some n) d' o f e (Option.some v) u))
 
-            pub goes_out : r ≢ 0 → Going d' st' turn.here r
-            goes_out n = kinds (row_at l row).kind by_group (λ f e. by_leaf n f e (spelt f) refl)
+            pub goes_out : Going d' st' to n
+            goes_out = kinds (row_at l row).kind by_group (λ f e. by_leaf f e (spelt f) refl)
 
-            bad_leaf : (d₀ : List ℕ) → r ≡ 0 → (f : Leaf) → (row_at l row).kind ≡ leaf f → (v : Option T.A) → spelt f ≡ v → Goal d₀ (bad_value row here.level.place) d'
-            bad_leaf d₀ n f e Option.none u = violates (first_found (Violation (bad_value row here.level.place)) (g.found ∙ w.found
-                ∙ ap (λ z. or_else z (finds T t pool s sd turn.here w.outer [] w.rest))
-                (ap (λ (q : Kind). judged (judge_of T) q row here.level.place g.ats w.chars) e ∙ ap (λ z. refuse (not (not (is_none z))) (bad_value row here.level.place)) u)))
-            bad_leaf d₀ n f e (Option.some v) u = absurd (omega (arith, n, (item_of f e (Option.some v) u).behind))
+          module _ (d' : List ℕ) (o : Shutting None d') (d₀ : List ℕ) where
+            bad_leaf : (f : Leaf) → (row_at l row).kind ≡ leaf f → (v : Option T.A) → spelt f ≡ v → Goal d₀ (Err (bad_value row here.level.place)) d'
+            bad_leaf f e Option.none u = first_found (Err (bad_value row here.level.place)) (g.found ∙ w.found
+                ∙ ap (λ z. or_else z (finds T t pool s sd to w.outer [] w.rest))
+                (ap (λ (q : Kind). judged (judge_of T) q row here.level.place g.ats w.chars) e ∙ ap (λ z. refuse (not (not (is_none z))) (bad_value row here.level.place)) u))
+            bad_leaf f e (Option.some v) u = absurd (item_of None d' o f e (Option.some v) u)
 
-            pub bad_value_lem : (d₀ : List ℕ) → r ≡ 0 → Goal d₀ (bad_value row here.level.place) d'
-            bad_value_lem d₀ n = kinds (row_at l row).kind
-                (λ b. absurd (omega (arith, n, g.head, g.put.behind, (o.group (ap is_group (sym kind_here) ∙ b)).behind)))
-                (λ f e. bad_leaf d₀ n f e (spelt f) refl)
+            pub bad_value_lem : Goal d₀ (Err (bad_value row here.level.place)) d'
+            bad_value_lem = kinds (row_at l row).kind
+                (λ b. absurd (o.group (ap is_group (sym kind_here) ∙ b)))
+                (λ f e. bad_leaf f e (spelt f) refl)
 
         -- the end of the root
-        pub ends_in : Spelling k.types → (d₀ : List ℕ) → Puts d₀ 0 (header l ++ (1 ∷ [])) a₁ d₁ → (st' : List ℕ) (turn : Turn) → Ends T t pool s sd here g.below g.ats g.rest st' turn → (d' : List ℕ) → d' ≡ pasted d at (0 ∷ [])
-            → Goal d₀ (accepted (at + 1)) d'
+        pub ends_in : Spelling k.types → (d₀ : List ℕ) → Puts d₀ 0 (header l ++ (1 ∷ [])) a₁ d₁ → (st' : List Level) → Ends T t pool s sd here g.below g.ats g.rest st' → (d' : List ℕ) → d' ≡ pasted d at (0 ∷ [])
+            → Goal d₀ (Ok (at + 1)) d'
         unfolding image
-        ends_in y d₀ p st' turn w d' e = holds none c has (ap accepted length_is) (λ h. image_put.is (omega (arith, h)))
+        ends_in y d₀ p st' w d' e = (none, (c, has, length_is, λ h. image_put.is (omega (arith, h))))
           where
-            none : First k.types l (message_of x.tree) Fine
-            none = first_found Fine (g.found ∙ w.found)
+            none : First k.types l (message_of x.tree) (Ok tt)
+            none = first_found (Ok tt) (g.found ∙ w.found)
 
             content : (c : Content T.A) × Meets k.types.Is l c × Has k.types l (message_of x.tree) c
             content = accept k.types y l sd.well (message_of x.tree) (one_element x.tree.root (root_at x.tree) x.good.one) none

@@ -1,10 +1,11 @@
 -- What is put at the beginning and at the end of an element, from what the code's calls told. Over any types. Assumes nothing.
+use Rattle.std.specs.Prelude.{Option as Told, None, Some}
+use Rattle.std.proofs.lemmas.Option.{none-some}
 use mathlib.Core.Path.{◌≡◌, refl, sym, ◌∙◌, ap}
-use mathlib.Core.Logic.{◌≢◌}
 use mathlib.Core.Bool.{Bool, true, false, not, true≢false, false≢true}
 use mathlib.Core.List.{List, [], ◌∷◌}
 use mathlib.Core.Option.{Option, none, some}
-use Prim.Native.Nat.{ℕ, ◌+◌, ◌<◌}
+use Prim.Native.Nat.{ℕ, ◌+◌, ◌≤◌}
 use native.Mathlib.Omega.{arith}
 use lib.ListN.{length}
 use Rattle.text.specs.Bytes.{in_range}
@@ -17,7 +18,8 @@ use Rattle.list.specs.tables.Table.{cell, words_in}
 use Rattle.list.proofs.rows.Codes.{group_is}
 use Rattle.list.specs.tables.Numbers.{is_group_in}
 use Rattle.file.specs.Instance.{Kinds}
-use Rattle.file_measure.specs.Pass.{kind_in, given, Valued, ItemPut, Shuts, Opens}
+use Rattle.value.specs.Places.{longest_value}
+use Rattle.file_measure.specs.Pass.{kind_in, ValuePut, Valued, ItemPut, Shuts, Opens}
 
 -- the test of the code is that of the list
 module _ (t : List ℕ) (row q : ℕ) (e : q ≡ cell t row 2) (g : Bool) (f : g ≡ is_group_in q) where
@@ -43,45 +45,44 @@ module _ (t : List ℕ) (row q : ℕ) (e : q ≡ cell t row 2) (g : Bool) (f : g
 
     -- the end
     module _ (pool cur raw : List ℕ) where
-      pub shuts_group : g ≡ true → Shuts k t pool row cur raw d at at d
+      pub shuts_group : g ≡ true → Shuts k t pool row cur raw d at (Some at) d
       shuts_group h = record {
-        most = omega arith;
+        most = let low : at ≤ at + (1 + longest_value) = omega arith in low;
         long = refl;
         group = λ z. puts_none d at;
         leaf = λ l w cs s u i. absurd (false≢true (sym (ap is_group s.kind) ∙ group_told pool ∙ h));
       }
 
-      module _ (some_bytes : (l : Leaf) (v : k.types.A) → 0 < length (k.bytes l v)) (h : g ≡ false) (x : ℕ) (i : x ≡ row) (d₁ : List ℕ) (j : d₁ ≡ pasted d at (x ∷ []))
-          (n : ℕ) (d₂ : List ℕ) (v : Valued k t pool row cur raw d₁ (at + 1) n d₂) where
+      module _ (h : g ≡ false) (x : ℕ) (i : x ≡ row) (d₁ : List ℕ) (j : d₁ ≡ pasted d at (x ∷ [])) where
         no_group_lem : is_group (kind_in t pool row) ≡ true → ⊥
         no_group_lem z = true≢false (sym z ∙ group_told pool ∙ h)
 
-        long_is : length d₂ ≡ length d
-        long_is = v.long ∙ ap length j ∙ length_pasted d at (x ∷ [])
+        long_is : (n : Told ℕ) (d₂ : List ℕ) → Valued k t pool row cur raw d₁ (at + 1) n d₂ → length d₂ ≡ length d
+        long_is n d₂ v = v.long ∙ ap length j ∙ length_pasted d at (x ∷ [])
 
         row_put : Puts d at (row ∷ []) (at + 1) d₁
         row_put = puts_pasted d at (row ∷ []) 1 d₁ refl (j ∙ ap (λ m. pasted d at (m ∷ [])) i)
 
-        bad : n ≡ 0 → (l : Leaf) (u : Option k.types.A) → Puts d₁ (at + 1) (given k l u) (at + 1 + n) d₂ → ItemPut k t pool row l u d at 0 d₂
-        bad z l none p = refl
-        bad z l (some y) p = absurd (omega (arith, z, p.behind, some_bytes l y))
+        bad : (d₂ : List ℕ) (l : Leaf) (u : Option k.types.A) → ValuePut k l u d₁ (at + 1) None d₂ → ItemPut k t pool row l u d at None d₂
+        bad d₂ l none p = refl
+        bad d₂ l (some y) p = p
 
-        pub shuts_none : n ≡ 0 → Shuts k t pool row cur raw d at 0 d₂
-        shuts_none z = record {
-          most = omega arith;
-          long = long_is;
+        pub shuts_none : (d₂ : List ℕ) → Valued k t pool row cur raw d₁ (at + 1) None d₂ → Shuts k t pool row cur raw d at None d₂
+        shuts_none d₂ v = record {
+          most = tt;
+          long = long_is None d₂ v;
           group = λ y. absurd (no_group_lem y);
-          leaf = λ l w cs s u i. bad z l u (v.value l w cs s u i);
+          leaf = λ l w cs s u i. bad d₂ l u (v.value l w cs s u i);
         }
 
-        good : n ≢ 0 → (l : Leaf) (u : Option k.types.A) → Puts d₁ (at + 1) (given k l u) (at + 1 + n) d₂ → ItemPut k t pool row l u d at (at + 1 + n) d₂
-        good z l none p = let e : n ≡ 0 = omega (arith, p.behind) in absurd (z e)
-        good z l (some y) p = puts_then d at (row ∷ []) (at + 1) d₁ (k.bytes l y) (at + 1 + n) d₂ row_put p
+        good : (n : ℕ) (d₂ : List ℕ) (l : Leaf) (u : Option k.types.A) → ValuePut k l u d₁ (at + 1) (Some n) d₂ → ItemPut k t pool row l u d at (Some (at + 1 + n)) d₂
+        good n d₂ l none p = absurd (none-some n (sym p.0))
+        good n d₂ l (some y) p = puts_then d at (row ∷ []) (at + 1) d₁ (k.bytes l y) (at + 1 + n) d₂ row_put p
 
-        pub shuts_some : n ≢ 0 → Shuts k t pool row cur raw d at (at + 1 + n) d₂
-        shuts_some z = record {
-          most = omega (arith, v.most);
-          long = long_is;
+        pub shuts_some : (n : ℕ) (d₂ : List ℕ) → Valued k t pool row cur raw d₁ (at + 1) (Some n) d₂ → Shuts k t pool row cur raw d at (Some (at + 1 + n)) d₂
+        shuts_some n d₂ v = record {
+          most = let few : n ≤ longest_value = v.most in let low : at + 1 + n ≤ at + (1 + longest_value) = omega (arith, few) in low;
+          long = long_is (Some n) d₂ v;
           group = λ y. absurd (no_group_lem y);
-          leaf = λ l w cs s u i. good z l u (v.value l w cs s u i);
+          leaf = λ l w cs s u i. good n d₂ l u (v.value l w cs s u i);
         }

@@ -12,11 +12,10 @@ ghost use Rattle.text.specs.Puts.{near};
 
 use answer::Answer;
 use file_step::step::step;
-use file_walk::level::STACK;
-use file_walk::step::{Here, Met, Turn};
+use file_walk::step::{Here, Turn};
 use list::kind::is_group;
 use list::lookup::cell;
-use list::table::{ENUM, KIND, MOST};
+use list::table::{ENUM, KIND, MOST, MOST_LEVELS};
 use list::word::word_byte;
 use text::part::part_of;
 use value_kinds::write::size;
@@ -32,85 +31,73 @@ fn group_end(rows: &[u16], row: usize, at: usize) -> usize
     at
 }
 
-// How many bytes an ENUM's word has, which are the one of its place in its row's list; 0 where it is no word of the list.
-fn word_size(rows: &[u16], pool: &[u8], row: usize, word: &[u8]) -> usize
+// How many bytes an ENUM's word has, which are the one of its place in its row's list; none where it is no word of the list.
+fn word_size(rows: &[u16], pool: &[u8], row: usize, word: &[u8]) -> Option<usize>
     ensures { WordSize (words_in rows.now pool.now row) word.now result }
 {
-    if word_byte(rows, pool, row, word) == 0 {
-        return 0;
-    }
-    1
+    let byte = word_byte(rows, pool, row, word);
+    (byte != 0).then_some(1)
 }
 
-// How many bytes the value has of a leaf of this row and kind with this raw text; 0 where the text spells none.
-fn value_size(rows: &[u16], pool: &[u8], kind: usize, row: usize, t: &[u8]) -> usize
+// How many bytes the value has of a leaf of this row and kind with this raw text; none where the text spells none. No value has 0 bytes.
+fn value_size(rows: &[u16], pool: &[u8], kind: usize, row: usize, t: &[u8]) -> Option<usize>
     requires { (kind ≡ cell rows.now row KIND) × (kind ≤ DTM) }
     ensures { Sizes house_kinds rows.now pool.now row t.now result }
 {
     if kind == ENUM {
         return word_size(rows, pool, row, t);
     }
-    size(kind as u8, cell(rows, row, MOST), t)
+    let n = size(kind as u8, cell(rows, row, MOST), t);
+    (n != 0).then_some(n)
 }
 
-// The place after the item of a leaf that ends at less, 0 where its text spells no value; of a group the same place.
-fn leaf_end(rows: &[u16], pool: &[u8], s: &[u8], here: Here, less: usize, at: usize) -> usize
+// The place after the item of a leaf that ends at less, none where its text spells no value; of a group the same place.
+fn leaf_end(
+    rows: &[u16],
+    pool: &[u8],
+    s: &[u8],
+    here: Here,
+    less: usize,
+    at: usize,
+) -> Option<usize>
     requires { at ≤ near }
     ensures { Shuts house_kinds rows.now pool.now here.level.row (slice here.value here.quote s.now) (slice here.at less s.now) [] at result [] }
 {
     let row = here.level.row;
     let kind = cell(rows, row, KIND);
     if is_group(kind) {
-        return at;
+        return Some(at);
     }
-    let n = value_size(rows, pool, kind, row, part_of(s, here.at, less));
-    if n == 0 {
-        return 0;
-    }
-    at + 1 + n
+    let n = value_size(rows, pool, kind, row, part_of(s, here.at, less))?;
+    Some(at + 1 + n)
 }
 
 // The header and the root's row byte.
 const HEAD: usize = 7;
 
-// From the root's tag, as it was met, to its end, one step after the other. No sum overflows: each step goes on in a text of at most
-// 1,048,576 bytes, and an item has at most 65,538. The tables are of any length; the one caller lends arrays, so that the compiler knows
-// their lengths here. In house XML the walk is never lost, and the root's tag closes nothing: the answers of these arms are never given.
-pub(crate) fn found(rows: &[u16], pool: &[u8], s: &[u8], first: Turn) -> Answer
-    requires { Ready rows.now pool.now s.now × (first ≡ begin_in rows.now pool.now s.now) }
+// From the root's tag to its end, one step after the other. No sum overflows: each step goes on in a text of at most 1,048,576 bytes, and an
+// item has at most 65,538. The tables are of any length; the one caller lends arrays, so that the compiler knows their lengths here. What
+// stands on the stack above the innermost level is never read, so that it begins with any.
+// Kept: a loop by hand, since each step reads and writes the stack of open levels, and where the next one begins only this one tells.
+pub(crate) fn found(rows: &[u16], pool: &[u8], s: &[u8], root: Here) -> Result<usize, Answer>
+    requires { Ready rows.now pool.now s.now × (begin_in rows.now pool.now s.now ≡ Ok root) }
     ensures { Measured house_kinds (list_of rows.now pool.now) s.now result }
 {
-    let begun = first.met;
-    match begun {
-        Met::Refused(a) => return a,
-        Met::Closed => return Answer::not_house_xml(first.less),
-        Met::Lost => return Answer::not_house_xml(first.less),
-        Met::Opened => {}
-    }
-    let mut stack = [0usize; STACK];
-    let mut here = first.here;
+    let mut stack = [root.level; MOST_LEVELS];
+    let mut here = root;
     let mut at = HEAD;
     loop {
-        let turn = step(rows, pool, s, &mut stack, here);
-        let level = here.level;
-        let met = turn.met;
-        match met {
-            Met::Refused(a) => return a,
-            Met::Lost => return Answer::not_house_xml(turn.less),
-            Met::Opened => {
-                here = turn.here;
-                at = group_end(rows, here.level.row, at);
+        match step(rows, pool, s, &mut stack, here)? {
+            Turn::Opened(inner) => {
+                at = group_end(rows, inner.level.row, at);
+                here = inner;
             }
-            Met::Closed => {
-                if here.depth == 0 {
-                    return Answer::accepted(at + 1);
-                }
-                at = leaf_end(rows, pool, s, here, turn.less, at);
-                if at == 0 {
-                    return Answer::bad_value(level.row, level.place);
-                }
-                here = turn.here;
+            Turn::Closed(outer, less) => {
+                let bad = Answer::bad_value(here.level.row, here.level.place);
+                at = leaf_end(rows, pool, s, here, less, at).ok_or(bad)?;
+                here = outer;
             }
+            Turn::Ended => return Ok(at + 1),
         }
     }
 }

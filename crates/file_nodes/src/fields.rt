@@ -1,5 +1,8 @@
 // A node in its table: how many numbers it has, which of them holds its fields, and how far up in that one each field of eight bits stands.
 
+// Kept: a node is a row of numbers and no struct: tools/lists/make writes the rows as one table of constants, one computed test reads them
+// (`lists_tabled`), and a mask and what it leaves are compared as they stand.
+
 // The numbers of a node.
 pub const WIDTH: usize = 11;
 

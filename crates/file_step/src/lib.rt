@@ -1,5 +1,4 @@
 // One step of the walk: a message against any well-formed list, lent as tables, in document order.
 #![tactic(auto)]
 
-mod stack; // stack.rt: the stack of the open elements around the innermost
 pub mod step; // step.rt: one step, over a text and the tag after it

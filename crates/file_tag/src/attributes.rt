@@ -1,8 +1,6 @@
 // The attributes of a tag below the root: an amount's currency, none for the rest.
 
 ghost use Rattle.std.specs.Prelude.{◌≡◌};
-ghost use Rattle.text.specs.Bytes.{ascii};
-ghost use Rattle.text.specs.Lists.{same};
 ghost use Rattle.file_walk.specs.mirror.Stride.{own_in};
 
 use list::lookup::cell;
@@ -11,17 +9,10 @@ use text::part::{part_of, same};
 use value_codes::ccy::is_ccy;
 use xml_tags::attribute::Attribute;
 
-const CCY: [u8; 3] = *b"Ccy";
-
-// Whether these bytes are the name `Ccy`.
-fn names_ccy(name: &[u8]) -> bool
-    ensures { result ≡ same (ascii "Ccy") name.now }
-{
-    let word = CCY;
-    same(&word, name)
-}
+const CCY: &[u8] = b"Ccy";
 
 // Whether a tag's attributes are exactly those of row r's type.
+#[tactic(auto, unfolding(file_walk::specs::mirror::Stride::own_in, file_walk::specs::mirror::Stride::named))]
 pub fn own(rows: &[u16], s: &[u8], r: usize, count: usize, a: Attribute) -> bool
     ensures { result ≡ own_in rows.now s.now r count a }
 {
@@ -31,7 +22,7 @@ pub fn own(rows: &[u16], s: &[u8], r: usize, count: usize, a: Attribute) -> bool
     if count != 1 {
         return false;
     }
-    if !names_ccy(part_of(s, a.name, a.stop)) {
+    if !same(CCY, part_of(s, a.name, a.stop)) {
         return false;
     }
     is_ccy(part_of(s, a.value, a.quote))

@@ -12,10 +12,7 @@ use list::table::{MATE, PAIR};
 fn misses(other: usize, q: usize) -> bool
     ensures { result ≡ misses other q }
 {
-    if other == 0 {
-        return false;
-    }
-    other != q
+    other != 0 && other != q
 }
 
 // What is due after a child.
@@ -33,29 +30,18 @@ fn next(rows: &[u16], row: usize, due: usize, child: usize) -> usize
 fn odd_after(rows: &[u16], odd: bool, last: usize, child: usize) -> bool
     ensures { result ≡ odd_in rows.now odd last child }
 {
-    if odd {
-        return true;
-    }
-    if child == last {
-        return false;
-    }
-    if misses(cell(rows, child, MATE), last) {
-        return true;
-    }
-    misses(cell(rows, last, PAIR), child)
+    odd || child != last
+        && (misses(cell(rows, child, MATE), last) || misses(cell(rows, last, PAIR), child))
 }
 
 // A child has come.
 pub fn advance(rows: &[u16], lv: Level, child: usize) -> Level
     ensures { result ≡ advance_in rows.now lv child }
 {
-    let due = next(rows, lv.row, lv.due, child);
-    let odd = odd_after(rows, lv.odd, lv.last, child);
     Level {
-        row: lv.row,
-        place: lv.place,
         last: child,
-        due,
-        odd,
+        due: next(rows, lv.row, lv.due, child),
+        odd: odd_after(rows, lv.odd, lv.last, child),
+        ..lv
     }
 }

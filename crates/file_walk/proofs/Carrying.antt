@@ -2,8 +2,7 @@
 use mathlib.Core.Path.{◌≡◌, refl, sym, ◌∙◌, ap}
 use mathlib.Core.Bool.{Bool, true, false, cond, not, ◌&&◌, ◌||◌}
 use mathlib.Core.List.{List, [], ◌∷◌}
-use Prim.Native.Nat.{ℕ, zero, suc, ◌-◌, ◌≤◌, ◌<◌}
-use native.Mathlib.Numerals.{sub-one}
+use Prim.Native.Nat.{ℕ, zero, suc, ◌+◌, ◌≤◌}
 use native.Mathlib.Omega.{arith}
 use lib.ListN.{length, drop}
 use lib.Seq.{slice}
@@ -133,59 +132,15 @@ module _ (t pool s : List ℕ) (sd : Sound t pool) where
 
 -- ---- from what the code's calls told
 
-module _ (t pool s : List ℕ) (known : Bool) (a : Attribute) (h : known ≡ false) (x : Bool) (e : x ≡ named (ascii "xmlns") s a.name a.stop) where
-  pub space_name : x ≡ false → false ≡ (not known && space_in t pool s a)
-  unfolding space_in
-  space_name f = rw (h, sym e ∙ f)
-
-  pub space_value : (y : Bool) → x ≡ true → y ≡ same (list_of t pool).space (slice a.value a.quote s) → y ≡ (not known && space_in t pool s a)
-  unfolding space_in
-  space_value y f g = rw (h, sym e ∙ f) g
-
-module _ (p l x : Bool) (c : Carried) where
-  pub noted_prefix : p ≡ true → record { space = c.space; prefix = true; location = c.location; other = c.other } ≡ noted p l x c
-  unfolding noted
-  noted_prefix e = rw e
-
-  module _ (e : p ≡ false) where
-    pub noted_location : l ≡ true → record { space = c.space; prefix = c.prefix; location = true; other = c.other } ≡ noted p l x c
-    unfolding noted
-    noted_location f = rw (e, f)
-
-    pub noted_space : l ≡ false → (not c.space && x) ≡ true → record { space = true; prefix = c.prefix; location = c.location; other = c.other } ≡ noted p l x c
-    unfolding noted
-    noted_space f g = rw (e, f, g)
-
-    pub noted_other : l ≡ false → (not c.space && x) ≡ false → record { space = c.space; prefix = c.prefix; location = c.location; other = true } ≡ noted p l x c
-    unfolding noted
-    noted_other f g = rw (e, f, g)
-
-module _ (c : Carried) where
-  pub allowed_other : c.other ≡ true → false ≡ allowed c
-  unfolding allowed
-  allowed_other e = rw e
-
-  module _ (e : c.other ≡ false) where
-    pub allowed_bare : c.space ≡ false → false ≡ allowed c
-    unfolding allowed
-    allowed_bare f = rw (e, f)
-
-    pub allowed_located : c.space ≡ true → c.location ≡ true → c.prefix ≡ allowed c
-    unfolding allowed
-    allowed_located f g = rw (e, f, g)
-
-    pub allowed_plain : c.space ≡ true → c.location ≡ false → true ≡ allowed c
-    unfolding allowed
-    allowed_plain f g = rw (e, f, g)
-
--- the loop: so many are left, from o on
+-- the loop: after one more, of which there are so many less, from o on
 module _ (t pool s : List ℕ) where
-  pub carry_on : (c d : Carried) (n o : ℕ) (x : Attribute) → 0 < n → x ≡ attribute_at o (drop o s) → d ≡ noted_in t pool s c x
-      → carried_in t pool s d (n - 1) x.end ≡ carried_in t pool s c n o
+  pub carry_on : (c d : Carried) (m n o : ℕ) (x : Attribute) → n ≡ m + 1 → x ≡ attribute_at o (drop o s) → d ≡ noted_in t pool s c x
+      → carried_in t pool s d m x.end ≡ carried_in t pool s c n o
   unfolding carried_in
-  carry_on c d zero o x h e f = absurd (omega arith)
-  carry_on c d (suc n) o x h e f =
-      ap (λ (k : ℕ). carried_in t pool s d k x.end) (sub-one (suc n)) ∙ ap (λ (z : Carried). carried_in t pool s z n x.end) f
+  carry_on c d m zero o x h e f = absurd (omega arith)
+  carry_on c d m (suc n) o x h e f =
+      let i : m ≡ n = omega arith in
+      ap (λ (k : ℕ). carried_in t pool s d k x.end) i ∙ ap (λ (z : Carried). carried_in t pool s z n x.end) f
       ∙ ap (λ (y : Attribute). carried_in t pool s (noted_in t pool s c y) n y.end) e
 
   pub carry_end : (c : Carried) (n o : ℕ) → n ≤ 0 → carried_in t pool s c n o ≡ c

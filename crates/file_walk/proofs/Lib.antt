@@ -3,7 +3,7 @@
 pub mod Carrying
 -- the first violation of a message, and who has none
 pub mod violation
--- the walk over events, with five numbers for each open element
+-- the walk over events, with a level for each open element
 pub mod events
 -- what the code's calls told, by the mirrors
 pub mod calls

@@ -1,6 +1,4 @@
 -- Of `file_walk`: what the code's calls told, by the mirrors.
--- the tests of a tag over the tables, from what the code's calls told
-pub mod TagTests
 -- one step over bytes and tables, from what the code's calls told
 pub mod Step
 -- the root's tag over bytes and tables, from what the code's calls told

@@ -1,5 +1,5 @@
--- Of `file_walk`: the walk over events, with five numbers for each open element.
--- the walk with five numbers for each open element finds the first violation
+-- Of `file_walk`: the walk over events, with a level for each open element.
+-- the walk with a level for each open element finds the first violation
 pub mod Machine
 -- it hands out the items of the message's content
 pub mod Items

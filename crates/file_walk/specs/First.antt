@@ -1,5 +1,5 @@
 -- The first violation of a message, in document order. Assumes nothing.
-use Rattle.std.specs.Prelude.{◌≡◌, Bool, true, false, cond, ◌&&◌, ◌||◌, not, List, [], ◌∷◌, ℕ, eqb, ltb}
+use Rattle.std.specs.Prelude.{◌≡◌, Bool, true, false, cond, ◌&&◌, ◌||◌, not, List, [], ◌∷◌, ℕ, eqb, ltb, Result, Ok, Err}
 use Rattle.std.specs.Bool.{xor}
 use Rattle.answer.specs.declared.Answer.{Answer}
 use Rattle.answer.specs.Table as table
@@ -8,22 +8,24 @@ use Rattle.text.specs.Lists.{same}
 use Rattle.list.specs.Words.{has, first_from}
 use Rattle.list.specs.Listing.{Leaf, Kind, group, choice, leaf, Rule, both, Listing, row_at, size, child, is_group, at_most_once, required}
 use Rattle.xml.specs.Message.{Attrs, Inside, nothing_inside, character, element}
-use Rattle.file_walk.specs.declared.found.Found.{Found}
-use Rattle.file_walk.specs.declared.found.Found.TheVariants.{Fine, Violation}
 use Rattle.file_walk.specs.Types.{Types, Judge, Decides}
+
+-- what is found: no violation, or the line of document 01's table that answers the first
+abbrev pub Found : Type 0
+Found = Result (Unit {0}) Answer
 
 -- a line of document 01's table, where the test says so
 abbrev pub refuse : Bool → Answer → Found
-refuse true a = Violation a
-refuse false a = Fine
+refuse true a = Err a
+refuse false a = Ok tt
 
 -- "the first violation is the answer"
 abbrev pub or_else : Found → Found → Found
-or_else Fine g = g
-or_else (Violation a) g = Violation a
+or_else (Ok tt) g = g
+or_else (Err a) g = Err a
 
 abbrev pub first_of : List Found → Found
-first_of [] = Fine
+first_of [] = Ok tt
 first_of (f ∷ fs) = or_else f (first_of fs)
 
 abbrev pub is_empty : {A : Type 0} → List A → Bool
@@ -139,7 +141,7 @@ module _ (judge : Judge) (l : Listing) where
 
   -- "the message is walked in document order": what stands in an element of row p, one part after the other; 10 is "non-blank text in a group"
   unfoldable pub inside : ℕ → List ℕ → Inside → Found
-  inside p seen nothing_inside = Fine
+  inside p seen nothing_inside = Ok tt
   inside p seen (character o x k) = first_of (refuse (is_group (kind_of l p) && not (is_blank x)) (table.text_in_group p o) ∷ inside p seen k ∷ [])
   inside p seen (element o n ats i k) =
       let r = child l p n in first_of (
@@ -150,8 +152,8 @@ module _ (judge : Judge) (l : Listing) where
 
   -- of a message, which is one element
   unfoldable pub first_violation : Inside → Found
-  first_violation nothing_inside = Fine
-  first_violation (character o x k) = Fine
+  first_violation nothing_inside = Ok tt
+  first_violation (character o x k) = Ok tt
   first_violation (element o n ats i k) = first_of (
       refuse (not (is_root l n ats)) (table.wrong_root o) ∷
       inside 1 [] i ∷

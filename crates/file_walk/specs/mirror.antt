@@ -1,5 +1,5 @@
 -- Of `file_walk`: mirrors, which say how the code goes.
--- a mirror: the same walk over tags and characters, with five numbers for each open element
+-- a mirror: the same walk over tags and characters, with a level for each open element
 pub mod Machine
 -- a mirror: its numbers and tests over the cells of two tables
 pub mod Tables

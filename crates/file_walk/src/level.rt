@@ -4,10 +4,11 @@ ghost use Rattle.std.specs.Prelude.{◌≡◌};
 ghost use Rattle.file_walk.specs.mirror.Tables.{fresh_in};
 
 use list::lookup::due_after;
-use list::table::MOST_LEVELS;
 
 // Its row, the place of its `<`, the row of its last child (0: none yet), its lowest required child that has not come (0: none), and
 // whether a row of a rule has come for good without the other.
+// Kept: `last` and `due` say 0 for none, which is how the cells of document 01's constant tables say it, and `list::lookup` with them
+// (`cell`, `child`, `due_after`).
 #[derive(Clone, Copy)]
 pub struct Level {
     pub row: usize,
@@ -16,11 +17,6 @@ pub struct Level {
     pub due: usize,
     pub odd: bool,
 }
-
-// How many numbers stand for one on a stack, and those of as many as may be open.
-pub const FIELDS: usize = 5;
-
-pub const STACK: usize = FIELDS * MOST_LEVELS;
 
 // An element that no child has come in yet.
 pub fn fresh(rows: &[u16], row: usize, place: usize) -> Level

@@ -3,6 +3,5 @@
 #![tactic(auto)]
 
 pub mod level; // level.rt: an open element
-pub mod found; // found.rt: what the tests of a tag find
 pub mod hints; // hints.rt: what stands among the root's attributes
 pub mod step; // step.rt: where the walk stands, and what a step meets

@@ -1,4 +1,5 @@
 -- Going over the items for the first that no file may say: those that are passed are of no row that is gone, and the first that is finer is noted. Assumes nothing.
+use Rattle.std.specs.Prelude.{Option as Handed, None, Some, IfSome, is_some}
 use mathlib.Core.Path.{◌≡◌, refl, sym, ◌∙◌, ap, ap₂, subst}
 use mathlib.Core.Logic.{◌≢◌}
 use mathlib.Core.Bool.{Bool, true, false, not, cond, true≢false}
@@ -31,7 +32,7 @@ use Rattle.file_letter.proofs.Meeting.{finer_none, finer_not, not_finer}
 use Rattle.file_letter.specs.Stale.{NoneOf, FirstAt, Withdrawn, Finer}
 use Rattle.file_answers.specs.Answers.{gone_by}
 use Rattle.file_write.specs.mirror.Emit.{ValueAt}
-use Rattle.file_write.specs.mirror.Stale.{finer_by, noted_by, Lined, Searched, FirstFiner, clear, found, FirstStale, lost, kept, Stale}
+use Rattle.file_write.specs.mirror.Stale.{place_in, finer_by, noted_by, Lined, Searched, FirstFiner, clear, found, FirstStale, lost, kept, Stale}
 use Rattle.file_write.proofs.Standing.{inside, rest_there, Standing, stand_in, stand_end, Ahead, ahead, group_none, group_after, Leafed, leafed, value_at_lem, end_is, leaf_after}
 
 -- ---- what is asked of a value's bytes
@@ -116,6 +117,15 @@ module _ (f k : ℕ) (run : List ℕ) (i : ℕ) (z : f ≡ 0) (c : Bool) (e : c 
 
   pub noted_nowhere : c ≡ false → 0 ≡ noted_by f k run i
   noted_nowhere q = sym (noted_by_lem ∙ ap (λ (x : Bool). cond x i 0) q)
+
+-- where a place was noted before, it stays; where none was, it is 0
+pub noted_kept : (f : Handed ℕ) (k : ℕ) (run : List ℕ) (i : ℕ) → IfSome f (λ p. 0 < p) → is_some f ≡ true → place_in f ≡ noted_by (place_in f) k run i
+noted_kept None k run i h e = absurd (true≢false (sym e))
+noted_kept (Some p) k run i h e = noted_before p k run i (λ z. omega (arith, h, z))
+
+pub none_noted : (f : Handed ℕ) → is_some f ≡ false → place_in f ≡ 0
+none_noted None e = refl
+none_noted (Some p) e = absurd (true≢false e)
 
 none_then : (P : Item values → Type 0) (is : List (Item values)) (j : Item values) → NoneOf P is → (P j → ⊥) → NoneOf P (is ++ (j ∷ []))
 none_then P [] j h k = (k, tt)
@@ -290,6 +300,9 @@ module _ (t pool run : List ℕ) (from : ℕ) (pre : Searched t pool run from) w
 
     pub stale_in : i < length run
     stale_in = stand_in t pool pre.sound run i here.stands
+
+    pub stale_late : 0 < i
+    stale_late = omega (arith, here.late)
 
     module _ (x : ℕ) (ex : x ≡ get_or run i 0) where
       pub stale_clear : x ≡ 0 → Stale t pool run from f

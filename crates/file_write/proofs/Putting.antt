@@ -1,24 +1,21 @@
 -- Words and parts put one after the other, and how many bytes they are at most. Assumes nothing.
-use mathlib.Core.Path.{◌≡◌}
+use mathlib.Core.Path.{◌∙◌}
 use mathlib.Core.List.{List, ◌++◌}
 use Prim.Native.Nat.{ℕ, ◌+◌, ◌≤◌}
 use native.Mathlib.Omega.{arith}
 use lib.ListN.{length}
 use lib.Seq.{slice}
-use Rattle.text.specs.Pasting.{pasted}
 use Rattle.text.proofs.Parts.{part_length}
 use Rattle.list.specs.tables.Table.{cell}
 use Rattle.text.specs.Puts.{Puts}
 use Rattle.file_write.specs.mirror.Tags.{start_in}
-use Rattle.text.proofs.Puts.{puts_pasted, puts_then}
+use Rattle.file_write.specs.declared.put.Writer.{Writer}
+use Rattle.file_write.specs.mirror.Writer.{Put}
+use Rattle.text.proofs.Puts.{puts_then}
 
--- after a word
-pub behind_word : (d : List ℕ) (at : ℕ) (w : List ℕ) (n : ℕ) (d₁ v : List ℕ) (q : ℕ) (d₂ : List ℕ) → n ≡ length w → d₁ ≡ pasted d at w → Puts d₁ (at + n) v q d₂ → Puts d at (w ++ v) q d₂
-behind_word d at w n d₁ v q d₂ e f p = puts_then d at w (at + n) d₁ v q d₂ (puts_pasted d at w n d₁ e f) p
-
--- a word after
-pub before_word : (d : List ℕ) (at : ℕ) (v : List ℕ) (q : ℕ) (d₁ w : List ℕ) (n : ℕ) (d₂ : List ℕ) → Puts d at v q d₁ → n ≡ length w → d₂ ≡ pasted d₁ q w → Puts d at (v ++ w) (q + n) d₂
-before_word d at v q d₁ w n d₂ p e f = puts_then d at v q d₁ w (q + n) d₂ p (puts_pasted d₁ q w n d₂ e f)
+-- one after the other
+pub put_then : (w w₁ w₂ : Writer) (u v : List ℕ) → Put w u w₁ → Put w₁ v w₂ → Put w (u ++ v) w₂
+put_then w w₁ w₂ u v x y = (puts_then w.out.now w.at u w₁.at w₁.out.now v w₂.at w₂.out.now x.0 y.0, y.1 ∙ x.1)
 
 -- a part is no longer than what it is a part of
 pub part_most : (a b : ℕ) (s : List ℕ) → length (slice a b s) ≤ length s

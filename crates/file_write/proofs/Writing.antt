@@ -31,9 +31,8 @@ use Rattle.image.specs.Image.{Item, value_bytes, items_bytes, body}
 use Rattle.image.specs.Kinds.{values}
 use Rattle.image.specs.Place.{Holds}
 use Rattle.image.proofs.content.Within.{bytes_within}
-use Rattle.image_reading.specs.declared.front.Reading.{Reading}
 use Rattle.image_reading.specs.Reads.{HouseAccepts}
-use Rattle.image_reading.specs.Forms.{Begun, refuses, accepts}
+use Rattle.image_reading.specs.Forms.{Reading, Begun, refuses, accepts}
 use Rattle.image_reading.proofs.House.{begun_reads}
 use Rattle.file_letter.specs.Letter.{letter_of}
 use Rattle.file_letter.specs.Writes.{asked_in, letter_in, items_in, large, short, delivered, Writes, unread, withdrawn, finer, begun}

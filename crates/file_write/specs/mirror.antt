@@ -5,3 +5,5 @@ pub mod Tags
 pub mod Emit
 -- a mirror: the first item that no file may say any more
 pub mod Stale
+-- a mirror: what a writer puts
+pub mod Writer

@@ -1,53 +1,47 @@
 // The element of a leaf: its opening tag, with the currency of an amount, the text of its value, its closing tag.
-ghost use Rattle.std.specs.Prelude.{◌++◌, ◌≤◌, length};
+ghost use Rattle.std.specs.Prelude.{◌≡◌, ◌++◌, ◌≤◌, length};
 ghost use Rattle.text.specs.Bytes.{ascii};
-ghost use Rattle.text.specs.Puts.{Puts, far};
+ghost use Rattle.text.specs.Puts.{far};
 ghost use Rattle.file_write.specs.mirror.Tags.{start_in, longest_pool};
 ghost use Rattle.file_write.specs.mirror.Emit.{coin_at, LeafPut};
+ghost use Rattle.file_write.specs.mirror.Writer.{Put};
 ghost use Rattle.answer.specs.Table.{limit};
 
-use crate::put::{put_close, put_coin, put_open, put_start};
+use crate::put::Writer;
 use list::lookup::cell;
 use list::table::{AMT, KIND};
-use text_bytes::number::copy;
+use text::part::part_of;
+use value::packed::CURRENCY_SIZE;
 use value_kinds_stored::put::put;
 
 // The opening tag; an amount begins with the three bytes of its currency.
-fn open_leaf(
-    rows: &[u16],
-    pool: &[u8],
-    run: &[u8],
-    x: usize,
-    i: usize,
-    out: &mut [u8],
-    at: usize,
-) -> usize
-    requires { (length pool.now ≤ longest_pool) × (length run.now ≤ limit) × (i ≤ limit) × (at ≤ far) }
-    ensures { Puts out.old at (start_in rows.now pool.now x ++ (coin_at rows.now run.now x i ++ ascii ">")) result out.new }
+fn open_leaf(w: &mut Writer<'_>, rows: &[u16], pool: &[u8], run: &[u8], x: usize, i: usize)
+    requires { (length pool.now ≤ longest_pool) × (i ≤ limit) × (w.old.at ≤ far) }
+    ensures { Put w.old (start_in rows.now pool.now x ++ (coin_at rows.now run.now x i ++ ascii ">")) w.new }
 {
     if cell(rows, x, KIND) != AMT {
-        return put_open(rows, pool, x, out, at);
+        w.open(rows, pool, x);
+        return;
     }
-    let name = put_start(rows, pool, x, out, at);
-    let coin = put_coin(run, i, out, name);
-    copy(b">", 0, 1, out, coin);
-    coin + 1
+    w.start(rows, pool, x);
+    w.coin(part_of(run, i, i + CURRENCY_SIZE));
+    w.put(b">");
 }
 
 // Of row x, whose value stands in the run from i on.
 pub(crate) fn put_leaf(
+    w: &mut Writer<'_>,
     rows: &[u16],
     pool: &[u8],
     run: &[u8],
     x: usize,
     i: usize,
-    out: &mut [u8],
-    at: usize,
-) -> usize
-    requires { (length pool.now ≤ longest_pool) × (length run.now ≤ limit) × (i ≤ limit) × (at ≤ far) }
-    ensures { LeafPut rows.now pool.now run.now x i out.old at result out.new }
+)
+    requires { (length pool.now ≤ longest_pool) × (i ≤ limit) × (w.old.at ≤ far) }
+    ensures { LeafPut rows.now pool.now run.now x i w.old.out.now w.old.at w.new.at w.new.out.now × (w.new.out.ghost_name ≡ w.old.out.ghost_name) }
 {
-    let open = open_leaf(rows, pool, run, x, i, out, at);
-    let text = open + put(rows, pool, x, run, i, out, open);
-    put_close(rows, pool, x, out, text)
+    open_leaf(w, rows, pool, run, x, i);
+    let text = put(rows, pool, x, run, i, w.out, w.at);
+    w.at += text;
+    w.close(rows, pool, x);
 }

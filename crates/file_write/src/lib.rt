@@ -4,7 +4,7 @@
 ghost use Rattle.file_letter.specs.Writes.{Writes};
 
 use answer::Answer;
-use emit::{emit, wide};
+use emit::emit;
 use file_answers::{refusal, sized};
 use image_first::reading;
 use list::lay::lay;
@@ -23,24 +23,23 @@ mod stale; // stale.rt: the first item that no file may say any more
 pub fn write(run: &[u8], out: &mut [u8]) -> Answer
     ensures { Writes run.now out.old result out.new }
 {
-    let read = reading(run);
-    if read.answer.code != Answer::ACCEPTED {
-        return read.answer;
-    }
-    let rows = rows_of(read.kind);
+    let image = match reading(run) {
+        Ok(image) => image,
+        Err(refusal) => return refusal.answer,
+    };
+    let rows = rows_of(image.kind);
     let mut table = [0u16; CELLS];
     lay(&rows, &mut table);
     let pool = pool();
-    let stale = first_stale(&table, &pool, run, read.from);
-    if stale != 0 {
-        return refusal(&table, &pool, wide(run[stale]), stale);
+    if let Some(stale) = first_stale(&table, &pool, run, image.from) {
+        return refusal(&table, &pool, usize::from(run[stale]), stale);
     }
     let mut nothing = [0u8; 1];
-    let n = emit(&table, &pool, run, read.from, &mut nothing);
+    let n = emit(&table, &pool, run, image.from, &mut nothing);
     let answer = sized(n, out.len());
     if answer.code != Answer::ACCEPTED {
         return answer;
     }
-    emit(&table, &pool, run, read.from, out);
+    emit(&table, &pool, run, image.from, out);
     answer
 }

@@ -1,9 +1,9 @@
 // What an image may hold and a file may not say any more: the first item of a row that is gone, or else the first finer date-time.
-ghost use Rattle.std.specs.Prelude.{◌≡◌, ◌≤◌, ◌<◌, drop};
-ghost use Rattle.file_write.specs.mirror.Stale.{finer_by, noted_by, Searched, Stale};
+ghost use Rattle.std.specs.Prelude.{◌≡◌, ◌≤◌, ◌<◌, drop, IfSome};
+ghost use Rattle.file_write.specs.mirror.Stale.{place_in, finer_by, noted_by, Searched, Stale};
 ghost use Rattle.answer.specs.Table.{limit};
 
-use crate::emit::{after, wide};
+use crate::emit::after;
 use file_answers::is_gone;
 use list::kind::is_group;
 use list::lookup::cell;
@@ -24,34 +24,42 @@ fn is_finer(kind: usize, run: &[u8], i: usize) -> bool
 }
 
 // The place of the first finer date-time: the one that was noted before, or else that of the leaf at i, if it is one.
-fn noted(before: usize, kind: usize, run: &[u8], i: usize) -> usize
-    requires { i < limit }
-    ensures { result ≡ noted_by before kind run.now i }
+fn noted(before: Option<usize>, kind: usize, run: &[u8], i: usize) -> Option<usize>
+    requires { (i < limit) × (0 < i) × IfSome before (λ p. 0 < p) }
+    ensures is { place_in result ≡ noted_by (place_in before) kind run.now i }
+    ensures some { IfSome result (λ p. 0 < p) }
 {
-    if before != 0 {
+    if before.is_some() {
         return before;
     }
     if is_finer(kind, run, i + 1) {
-        return i;
+        return Some(i);
     }
-    0
+    None
 }
 
-// Its place, 0 where there is none: items stand after a header. The root is a group with a name, so that the second item is the first to be
+// Its place, none where there is none: items stand after a header. The root is a group with a name, so that the second item is the first to be
 // asked. A row that is gone ends the search: it comes before a finer date-time, wherever that stands.
-pub(crate) fn first_stale(rows: &[u16; CELLS], pool: &[u8], run: &[u8], from: usize) -> usize
+// Kept: a loop by a place, as `emit` is: the next item stands where this one ends.
+pub(crate) fn first_stale(
+    rows: &[u16; CELLS],
+    pool: &[u8],
+    run: &[u8],
+    from: usize,
+) -> Option<usize>
     requires { Searched rows.now pool.now run.now from }
-    ensures { Stale rows.now pool.now run.now from result }
+    ensures is { Stale rows.now pool.now run.now from (place_in result) }
+    ensures some { IfSome result (λ p. 0 < p) }
 {
-    let mut finer = 0;
+    let mut finer = None;
     let mut i = from + 1;
     loop {
-        let x = wide(run[i]);
+        let x = usize::from(run[i]);
         if x == 0 {
             return finer;
         }
         if is_gone(rows, pool, x) {
-            return i;
+            return Some(i);
         }
         let kind = cell(rows, x, KIND);
         if is_group(kind) {

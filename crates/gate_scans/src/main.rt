@@ -2,26 +2,18 @@
 // length and so many bytes. The answers that it is held to were computed by another program.
 #![tactic(auto)]
 
-ghost use Rattle.std.specs.Prelude.{◌<◌};
-
 use program_input::read_full;
 use std::io::Result;
-use xml_scan::Scanned;
+use xml_scan::scan;
 
 // The most bytes that are read.
 const ROOM: usize = 65536;
 
-fn write_answer<P: Print>(rt: &P, answer: Scanned) -> Result<()> {
-    match answer {
-        Scanned::Whole => println!(rt; "whole"),
-        Scanned::Stops(n) => println!(rt; "stops {n}"),
+fn write_answer<P: Print>(rt: &P, text: &[u8]) -> Result<()> {
+    match scan(text) {
+        Ok(()) => println!(rt; "whole"),
+        Err(stopped) => println!(rt; "stops {}", stopped.at),
     }
-}
-
-fn wide(x: u8) -> usize
-    ensures { result < 256 }
-{
-    x as usize
 }
 
 fn scan_all<P: Print>(rt: &P, texts: &[u8]) -> Result<()> {
@@ -31,12 +23,12 @@ fn scan_all<P: Print>(rt: &P, texts: &[u8]) -> Result<()> {
             return Ok(());
         }
         let at = i + 2;
-        let n = wide(texts[i]) * 256 + wide(texts[i + 1]);
+        let n = usize::from(texts[i]) * 256 + usize::from(texts[i + 1]);
         if texts.len() - at < n {
             return Ok(());
         }
         i = at + n;
-        write_answer(rt, xml_scan::scan(&texts[at..i]))?;
+        write_answer(rt, &texts[at..i])?;
     }
     Ok(())
 }

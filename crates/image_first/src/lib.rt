@@ -1,17 +1,16 @@
 // The image that a run begins with: its length, or why it begins with none, and the values in it.
 #![tactic(auto)]
 
-ghost use Rattle.std.specs.Prelude.{◌≡◌};
+ghost use Rattle.std.specs.Prelude.{◌≡◌, IfOk};
 ghost use Rattle.list.specs.tables.Laid.{zeros, laid};
 ghost use Rattle.list_house.specs.mirror.Rows.{kept_rows};
 ghost use Rattle.image_reading.specs.Reads.{HouseReads, HouseAnswers, HousePicked};
-ghost use Rattle.image_reading.specs.Forms.{Begun};
-ghost use Rattle.list.specs.tables.Columns.{CELLS};
+ghost use Rattle.image_reading.specs.Forms.{told, Begun};
 
 use answer::Answer;
 use image_picker::{pick_from, picked_from};
 use image_reader::body;
-use image_reading::front::{Reading, front, refused};
+use image_reading::front::{Image, Refusal, front};
 use list::lay::lay;
 use list::table::{CELLS, REF};
 use list_house::by_byte::kept_rows_of;
@@ -19,33 +18,35 @@ use list_house::kinds::kind;
 
 // Reads it, over a table that is lent as zeros and is, where an image is accepted, its list's from then on: who goes on in that image
 // need not lay it again.
-fn begun(run: &[u8], table: &mut [u16; CELLS]) -> Reading
+fn begun(run: &[u8], table: &mut [u16; CELLS]) -> Result<Image, Refusal>
     requires { table.old ≡ zeros CELLS }
-    ensures { Begun run.now result × (result.answer.code ≡ 0 → table.new ≡ laid (kept_rows result.kind)) }
+    ensures is { Begun run.now (told result) }
+    ensures lays { IfOk result (λ i. table.new ≡ laid (kept_rows i.kind)) }
 {
-    let front = front(run);
-    if front.kind == 0 {
-        return front;
-    }
-    let rows = kept_rows_of(front.kind);
+    let head = match front(run) {
+        Ok(head) => head,
+        Err(answer) => return Err(Refusal { answer, count: 0 }),
+    };
+    let rows = kept_rows_of(head.kind);
     lay(&rows, table);
-    let items = body(table, run, front.from);
-    let answer = items.answer;
-    if answer.code != Answer::ACCEPTED {
-        return refused(answer, items.count);
-    }
-    Reading {
-        answer,
-        kind: front.kind,
-        from: front.from,
-        count: items.count,
+    match body(table, run, head.from) {
+        Ok(items) => Ok(Image {
+            length: items.end,
+            kind: head.kind,
+            from: head.from,
+            count: items.count,
+        }),
+        Err(broken) => Err(Refusal {
+            answer: Answer::broken_image(broken.at),
+            count: broken.count,
+        }),
     }
 }
 
-// The answer for a run, the kind byte of the list of the image that it begins with, where the items of that image begin, and how many
-// were taken, the closing 0 among them.
-pub fn reading(run: &[u8]) -> Reading
-    ensures { Begun run.now result }
+// The image: how long it is, the kind byte of its list, where its items begin, and how many were taken, the closing 0 among them; or why
+// there is none.
+pub fn reading(run: &[u8]) -> Result<Image, Refusal>
+    ensures { Begun run.now (told result) }
 {
     let mut table = [0u16; CELLS];
     begun(run, &mut table)
@@ -55,8 +56,10 @@ pub fn reading(run: &[u8]) -> Reading
 pub fn read(run: &[u8]) -> Answer
     ensures { HouseReads run.now result }
 {
-    let r = reading(run);
-    r.answer
+    match reading(run) {
+        Ok(image) => Answer::accepted(image.length),
+        Err(refusal) => refusal.answer,
+    }
 }
 
 // The answer for the n-th leaf, from 0, of `row` in it: its row, and where its part of the run begins; or why there is none.
@@ -64,14 +67,14 @@ pub fn pick(run: &[u8], row: usize, n: usize) -> Answer
     ensures { HouseAnswers run.now row n result }
 {
     let mut table = [0u16; CELLS];
-    let r = begun(run, &mut table);
-    if r.answer.code != Answer::ACCEPTED {
-        return r.answer;
-    }
+    let image = match begun(run, &mut table) {
+        Ok(image) => image,
+        Err(refusal) => return refusal.answer,
+    };
     if kind(row) < REF {
         return Answer::no_such_leaf();
     }
-    pick_from(&table, run, r.from, row, n)
+    pick_from(&table, run, image.from, row, n)
 }
 
 // That part itself, without row byte and length; empty where `pick` refuses.
@@ -79,12 +82,11 @@ pub fn picked<'a>(run: &'a [u8], row: usize, n: usize) -> &'a [u8]
     ensures { HousePicked run.entry row n result }
 {
     let mut table = [0u16; CELLS];
-    let r = begun(run, &mut table);
-    if r.answer.code != Answer::ACCEPTED {
+    let Ok(image) = begun(run, &mut table) else {
         return &run[0..0];
-    }
+    };
     if kind(row) < REF {
         return &run[0..0];
     }
-    picked_from(&table, run, r.from, row, n)
+    picked_from(&table, run, image.from, row, n)
 }

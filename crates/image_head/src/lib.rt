@@ -1,19 +1,11 @@
-// Whether an image is written at all, and its first bytes, as both passes that write one put them.
+// The first bytes of an image, as both passes that write one put them.
 #![tactic(auto)]
 
-ghost use Rattle.std.specs.Prelude.{◌≡◌, ◌≢◌, ◌≤◌, length};
+ghost use Rattle.std.specs.Prelude.{◌≡◌, length};
 ghost use Rattle.text.specs.Pasting.{pasted};
-ghost use Rattle.value.specs.Judged.{Exactly};
 ghost use Rattle.image_head.specs.Head.{head_of, HeadPut};
 
 use text_bytes::number::copy;
-
-// Whether an image's size is told, and a buffer of this length has room for it: one test, so that the passes keep their registers.
-pub fn is_written(size: usize, len: usize) -> bool
-    ensures { Exactly result ((size ≢ 0) × (size ≤ len)) }
-{
-    (size != 0) & (size <= len)
-}
 
 // `KTO`, version 2 in 16 bits, the kind byte, and the root's row byte.
 pub fn put_head(out: &mut [u8], kind: u8) -> usize

@@ -27,6 +27,7 @@ pub struct Held<'a> {
 }
 
 // What was read at a place, and the place to read at next.
+// Kept: both are told of a refusal too, where the place is the one that it stays at (`Moves`): a Result would leave it out.
 #[derive(Clone, Copy)]
 pub struct Step {
     pub answer: Answer,
@@ -34,6 +35,7 @@ pub struct Step {
 }
 
 // The rest of a run; empty from its end on.
+// Kept: `text::part::rest` says which bytes these are, and not where they lie, which `HeldPicked` asks of `picked_at`.
 fn rest(run: &[u8], at: usize) -> &[u8]
     ensures is { result.now ≡ drop at run.now }
     ensures lies { at ≤ length run.now → Lies run.entry at result }

@@ -1,5 +1,5 @@
 -- One item of an image: what the code finds at a place is what is defined, and nothing else is. Assumes nothing.
-use mathlib.Core.Path.{◌≡◌, refl, sym, ◌∙◌, ap, subst}
+use mathlib.Core.Path.{◌≡◌, refl, sym, ◌∙◌, ap, ap₂, subst}
 use mathlib.Core.Logic.{◌≢◌}
 use mathlib.Core.Bool.{true, false≢true}
 use mathlib.Core.List.{List, [], ◌∷◌, ◌++◌, head-eq_of_cons-eq, tail-eq_of_cons-eq, nil≢cons}
@@ -30,6 +30,7 @@ use Rattle.image.proofs.types.Lawful.{lawful}
 use Rattle.image.proofs.Meaning.{ending, head_is_lem}
 use Rattle.image_reading.specs.Forms.{Headed, bare, leads}
 use Rattle.image_reading.proofs.House.{headed_one}
+use Rattle.image_items.specs.declared.item.ItemAt.{ItemAt}
 use Rattle.image_items.specs.Items.{SaysList, Stands, closes, opens, holds, HouseItem, standing, lacking}
 
 -- ---- only one answer fits
@@ -214,6 +215,10 @@ module _ (t pool : List ℕ) (so : Sound t pool) (run : List ℕ) (from x : ℕ)
                 let hd = head_is_lem t pool so run x f low high k in
                 let fit = fits in
                 there x (from + 1 + m) (holds low high f k v i (drop end run) (here ∙ ap (λ (s : List ℕ). x ∷ s) d) (omega (arith, em, hd)) (omega (arith, em, fit, e.1, o))) e.0
+
+-- an item without bytes of a value
+pub bare_item : (i : ItemAt) (x p : ℕ) → (i.row ≡ x) × (i.place ≡ p) × (i.size ≡ 0) → (picked i.row i.place ≡ picked x p) × (i.size ≡ 0)
+bare_item i x p e = (ap₂ picked e.0 e.1, e.2)
 
 -- ---- over the table of the list that the header says
 

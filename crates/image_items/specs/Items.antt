@@ -1,5 +1,5 @@
 -- One item of the image that a run begins with: what stands at a place, judged alone. Assumes nothing.
-use Rattle.std.specs.Prelude.{◌≡◌, true, List, ◌∷◌, ◌++◌, ℕ, ◌+◌, ◌≤◌, ◌<◌, length, drop}
+use Rattle.std.specs.Prelude.{◌≡◌, true, List, ◌∷◌, ◌++◌, ℕ, ◌+◌, ◌≤◌, ◌<◌, length, drop, Option, None, Some, Result, Ok, Err}
 use Rattle.answer.specs.declared.Answer.{Answer}
 use Rattle.answer.specs.Table.{picked, broken_image}
 use Rattle.list.specs.Listing.{Leaf, leaf, Listing, size, row_at, is_group}
@@ -7,6 +7,25 @@ use Rattle.value.specs.Value.{Value, IsValue, bytes}
 use Rattle.image.specs.Kinds.{length_bytes}
 use Rattle.image.specs.Place.{Among, Front}
 use Rattle.image_reading.specs.Reads.{stored}
+use Rattle.image_items.specs.declared.item.ItemAt.{ItemAt}
+
+-- what is answered for what stands at a place, and how many bytes its value has: an item's row and the place of its value; that none stands there
+abbrev pub answer_at : ℕ → Option ItemAt → Answer
+answer_at from None = broken_image from
+answer_at from (Some i) = picked i.row i.place
+
+abbrev pub size_in : Option ItemAt → ℕ
+size_in None = 0
+size_in (Some i) = i.size
+
+-- the same of a result, whose refusal is its own answer
+abbrev pub answer_of : Result ItemAt Answer → Answer
+answer_of (Ok i) = picked i.row i.place
+answer_of (Err a) = a
+
+abbrev pub size_of : Result ItemAt Answer → ℕ
+size_of (Ok i) = i.size
+size_of (Err a) = 0
 
 -- the list that items are judged by: the run begins as its images do
 pub record SaysList (run : List ℕ) (l : Listing) : Type 0 where

@@ -30,6 +30,7 @@ fn again(rows: &[u16], r: usize) -> bool
 }
 
 // The lowest sibling due after q, 0 where none is. A rule's two rows are neighbours, so its second row comes before any required one.
+// Kept: 0 for none, here and in `before`, `mated` and `inside`: these are cells, and document 01 has the list as constant tables of numbers.
 fn owed(rows: &[u16], q: usize) -> usize
     ensures { result ≡ owed rows.now q }
 {
@@ -104,8 +105,7 @@ fn climbs(rows: &[u16], from: usize, x: usize) -> bool
 {
     let parent = cell(rows, x, PARENT);
     let mut q = from;
-    let mut levels: usize = MOST_LEVELS;
-    while 0 < levels {
+    for _ in 0..MOST_LEVELS {
         if q <= 1 {
             return false;
         }
@@ -117,7 +117,6 @@ fn climbs(rows: &[u16], from: usize, x: usize) -> bool
             return false;
         }
         q = up;
-        levels = levels - 1;
     }
     false
 }
@@ -143,8 +142,7 @@ fn rests(rows: &[u16], from: usize) -> bool
     ensures { result ≡ rests rows.now 16 from }
 {
     let mut q = from;
-    let mut levels: usize = MOST_LEVELS;
-    while 0 < levels {
+    for _ in 0..MOST_LEVELS {
         if q <= 1 {
             return true;
         }
@@ -152,7 +150,6 @@ fn rests(rows: &[u16], from: usize) -> bool
             return false;
         }
         q = cell(rows, q, PARENT);
-        levels = levels - 1;
     }
     false
 }

@@ -1,11 +1,12 @@
 // The picker: the n-th leaf of a row in an image whose items begin at a place of a run.
 #![tactic(auto)]
 
-ghost use Rattle.std.specs.Prelude.{◌≡◌};
+ghost use Rattle.std.specs.Prelude.{◌≡◌, ◌<◌, IfSome};
 ghost use Rattle.image.specs.mirror.Ends.{item_end};
 ghost use Rattle.image.specs.Pick.{Lies};
 ghost use Rattle.image.specs.Means.{SelectsAnswer, SelectsPart};
 ghost use Rattle.image.specs.mirror.Run.{Comes, head_of, hunt, Finds, Answered, Handed};
+ghost use Rattle.image_picker.specs.Values.{place_of};
 
 use answer::Answer;
 use image_order::is_leaf;
@@ -13,10 +14,11 @@ use image_reader::item_end;
 use list::lookup::cell;
 use list::table::{CCY, CELLS, KIND};
 
-fn wide(x: u8) -> usize
-    ensures { result ≡ x }
-{
-    x as usize
+// Where the value of a leaf stands, after its row byte, and where it ends.
+#[derive(Clone, Copy)]
+struct Value {
+    at: usize,
+    end: usize,
 }
 
 // How many bytes stand before a value's own: the two of a text's length.
@@ -29,40 +31,41 @@ pub fn head(rows: &[u16], r: usize) -> usize
     0
 }
 
-// Where the value of the n-th leaf of `row` stands, after its row byte; 0 where there is none.
-fn find(rows: &[u16; CELLS], run: &[u8], from: usize, row: usize, n: usize) -> usize
-    ensures { Finds rows.now (item_end rows.now run.now) run.now from row n result }
+// The value of the n-th leaf of `row`; none where there is no such leaf.
+fn find(rows: &[u16; CELLS], run: &[u8], from: usize, row: usize, n: usize) -> Option<Value>
+    ensures is { Finds rows.now (item_end rows.now run.now) run.now from row n (place_of result) }
+    ensures ends { IfSome result (λ v. (0 < v.at) × (v.end ≡ item_end rows.now run.now row v.at)) }
 {
-    if is_leaf(rows, row) {
-        return find_leaf(rows, run, from, row, n);
+    if !is_leaf(rows, row) {
+        return None;
     }
-    0
+    find_leaf(rows, run, from, row, n)
 }
 
 // The same for a row of a leaf.
-fn find_leaf(rows: &[u16; CELLS], run: &[u8], from: usize, row: usize, n: usize) -> usize
-    ensures { Comes (hunt rows.now (item_end rows.now run.now) run.now row) result n from }
+// Kept: a loop by a place, as the reader's is: the next item stands where this one ends.
+fn find_leaf(rows: &[u16; CELLS], run: &[u8], from: usize, row: usize, n: usize) -> Option<Value>
+    ensures is { Comes (hunt rows.now (item_end rows.now run.now) run.now row) (place_of result) n from }
+    ensures ends { IfSome result (λ v. (0 < v.at) × (v.end ≡ item_end rows.now run.now row v.at)) }
 {
     let mut left = n;
     let mut i = from;
     while i < run.len() {
         let at = i;
-        let x = wide(run[at]);
+        let x = usize::from(run[at]);
         if x == 0 {
-            return 0;
+            return None;
         }
-        i = item_end(rows, run, x, at + 1);
-        if i == 0 {
-            return 0;
-        }
+        let end = item_end(rows, run, x, at + 1)?;
         if x == row {
             if left == 0 {
-                return at + 1;
+                return Some(Value { at: at + 1, end });
             }
-            left = left - 1;
+            left -= 1;
         }
+        i = end;
     }
-    0
+    None
 }
 
 // The answer for the n-th leaf, from 0, of `row`: its row, and where its part begins.
@@ -70,11 +73,10 @@ pub fn pick_from(rows: &[u16; CELLS], run: &[u8], from: usize, row: usize, n: us
     ensures is { Answered rows.now (item_end rows.now run.now) run.now from row n result }
     ensures means { SelectsAnswer rows.now run.now from row n result }
 {
-    let at = find(rows, run, from, row, n);
-    if at == 0 {
+    let Some(value) = find(rows, run, from, row, n) else {
         return Answer::no_such_leaf();
-    }
-    Answer::picked(row, at + head(rows, row))
+    };
+    Answer::picked(row, value.at + head(rows, row))
 }
 
 // Its part of the run: the value's bytes without row byte and length, empty where `pick_from` refuses.
@@ -89,11 +91,8 @@ pub fn picked_from<'a>(
     ensures means { SelectsPart rows.now run.now from row n result.now }
     ensures lies { (a : Answer) → Answered rows.now (item_end rows.now run.now) run.now from row n a → a.code ≡ 0 → Lies run.entry a.place result }
 {
-    let value = find(rows, run, from, row, n);
-    if value == 0 {
+    let Some(value) = find(rows, run, from, row, n) else {
         return &run[0..0];
-    }
-    let first = value + head(rows, row);
-    let end = item_end(rows, run, row, value);
-    &run[first..end]
+    };
+    &run[value.at + head(rows, row)..value.end]
 }

@@ -28,9 +28,8 @@ use Rattle.image.specs.mirror.Ends.{item_end}
 use Rattle.image.specs.mirror.Run.{Turn, stop, next, Comes, halts, moves, steps, closing, head_of, turn, Behind, rooted, hunt, leaves, found}
 use Rattle.image.specs.Example.{printed_body, printed, written}
 use Rattle.image_reading.specs.Reads.{HouseReads, HouseCounts, HousePicks}
-use Rattle.image_reading.specs.Forms.{Begun, Fronts}
+use Rattle.image_reading.specs.Forms.{Reading, Begun, Fronts}
 use Rattle.image_reading.specs.mirror.Front.{version_of}
-use Rattle.image_reading.specs.declared.front.Reading.{Reading}
 use Rattle.image_reading.proofs.Heads.{good_kind}
 use Rattle.image_reading.proofs.House.{Says, starts_former, starts_current, front_starts, begins_with, begins_not, begun_reads, begun_counts, begun_picks}
 
@@ -140,7 +139,7 @@ fronted_former s n h l u = front_starts s (begun 5 5 0) (omega (arith, h.long)) 
 fronted_current : (s : List ℕ) (n : ℕ) → Shaped s n 2 6 → get_or s 5 0 ≡ 1 → 6 < n → n ≤ 68 → Fronts s (begun 6 6 0)
 fronted_current s n h b l u =
     front_starts s (begun 6 6 0) (omega (arith, h.long))
-    (starts_current s (begun 6 6 0) (omega (arith, h.long), h.named) h.versioned 1 (good_kind s 1 (sym b) (omega arith)) (λ z. omega arith) refl refl (refl, refl))
+    (starts_current s (begun 6 6 0) (omega (arith, h.long), h.named) h.versioned 1 (good_kind s 1 (λ z. omega arith) (sym b) (omega arith)) refl refl (refl, refl))
 
 -- read as n bytes, or broken off at a place
 module _ (s : List ℕ) (n v from : ℕ) (h : Shaped s n v from) (l : from < n) (f : Fronts s (begun from from 0)) where

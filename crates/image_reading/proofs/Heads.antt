@@ -2,6 +2,7 @@
 use mathlib.Core.Path.{◌≡◌, refl, sym, ◌∙◌, ap, ap₂}
 use mathlib.Core.Logic.{◌≢◌, ◌⊎◌, inl, inr}
 use mathlib.Core.Bool.{Bool, true, false, true≢false, false≢true}
+use Rattle.std.specs.Prelude.{Option, None, Some}
 use mathlib.Core.List.{List, [], ◌∷◌, ◌++◌, head-eq_of_cons-eq, tail-eq_of_cons-eq}
 use Prim.Native.Nat.{ℕ, ◌≤◌, ◌<◌}
 use native.Mathlib.Omega.{arith}
@@ -90,17 +91,14 @@ module _ (s : List ℕ) where
 
   -- ---- the kind byte
 
-  no_byte : (get_or s 5 0 ≡ 0) ⊎ (2 < get_or s 5 0) → KindByte s 0
-  no_byte h = record { its = λ n. absurd (n refl); none = λ e. h }
+  pub no_kind : length s < 6 → KindByte s None
+  no_kind h = inl (get_or-eq_default s 0 {n = 5} (omega (arith, h)))
 
-  pub no_kind : length s < 6 → KindByte s 0
-  no_kind h = no_byte (inl (get_or-eq_default s 0 {n = 5} (omega (arith, h))))
+  pub bad_kind : (k : ℕ) → k ≡ get_or s 5 0 → 2 < k → KindByte s None
+  bad_kind k e h = inr (omega (arith, e, h))
 
-  pub bad_kind : (k : ℕ) → k ≡ get_or s 5 0 → 2 < k → KindByte s 0
-  bad_kind k e h = no_byte (inr (omega (arith, e, h)))
-
-  pub good_kind : (k : ℕ) → k ≡ get_or s 5 0 → k ≤ 2 → KindByte s k
-  good_kind k e h = record { its = λ n. (h, e); none = λ z. inl (sym e ∙ z) }
+  pub good_kind : (k : ℕ) → k ≢ 0 → k ≡ get_or s 5 0 → k ≤ 2 → KindByte s (Some k)
+  good_kind k n e h = (n, h, e)
 
   -- ---- what is told is told of every run
 
@@ -113,11 +111,13 @@ module _ (s : List ℕ) where
       go (no h) (yes a) (no b) = (false, not_t (omega arith) b)
       go (no h) (yes a) (yes b) = (eqb (get_or s 2 0) 79, last_letter (omega arith) a b)
 
-  pub kind_told : (k : ℕ) × KindByte s k
-  kind_told = elim (dec_lt 2 (get_or s 5 0)) [
-    | yes h ↦ (0, bad_kind (get_or s 5 0) refl h)
-    | no h ↦ (get_or s 5 0, good_kind (get_or s 5 0) refl (omega arith))
-  ]
+  pub kind_told : (k : Option ℕ) × KindByte s k
+  kind_told = go (dec_lt 2 (get_or s 5 0)) (ℕ_discrete (get_or s 5 0) 0)
+    where
+      go : Dec (2 < get_or s 5 0) → Dec (get_or s 5 0 ≡ 0) → (k : Option ℕ) × KindByte s k
+      go (yes h) d = (None, inr h)
+      go (no h) (yes z) = (None, inl z)
+      go (no h) (no n) = (Some (get_or s 5 0), good_kind (get_or s 5 0) n refl (omega arith))
 
 -- ---- the kind bytes of the lists
 
@@ -153,18 +153,18 @@ sixth : (s : List ℕ) (b : ℕ) → take 6 s ≡ 75 ∷ 84 ∷ 79 ∷ 0 ∷ 2 �
 sixth s b e = sym (get_or-take 6 s 5 0 (omega arith)) ∙ ap (λ (u : List ℕ). get_or u 5 0) e
 
 -- a missing or bad one is none's
-pub kind_none : (s : List ℕ) → KindByte s 0 → (l : Listing) → Among l stored → take 6 s ≢ header l
-kind_none s k l i e = go (k.none refl) (sixth s l.byte (e ∙ header_bytes l)) (byte_low l i)
+pub kind_none : (s : List ℕ) → KindByte s None → (l : Listing) → Among l stored → take 6 s ≢ header l
+kind_none s k l i e = go k (sixth s l.byte (e ∙ header_bytes l)) (byte_low l i)
   where
     go : (get_or s 5 0 ≡ 0) ⊎ (2 < get_or s 5 0) → get_or s 5 0 ≡ l.byte → (1 ≤ l.byte) × (l.byte ≤ 2) → ⊥
     go (inl z) d h = omega (arith, h.0)
     go (inr z) d h = omega (arith, h.1)
 
 -- any other is of a list, whose header the run begins with
-pub kind_some : (s : List ℕ) (k : ℕ) → KindByte s k → k ≢ 0 → Kinded k
-kind_some s k b n = kinded k n (b.its n).0
+pub kind_some : (s : List ℕ) (k : ℕ) → KindByte s (Some k) → Kinded k
+kind_some s k b = kinded k b.0 b.1
 
-pub kind_header : (s : List ℕ) → take 5 s ≡ versioned 2 → (k : ℕ) → KindByte s k → k ≢ 0 → (l : Listing) → k ≡ l.byte → take 6 s ≡ header l
-kind_header s v k b n l e =
-    let g : get_or s 5 0 ≡ k = sym (b.its n).1 in
-    six s (λ z. n (sym g ∙ z)) ∙ ap₂ (λ (h : List ℕ) (x : ℕ). h ++ (x ∷ [])) v (g ∙ e) ∙ sym (header_is l)
+pub kind_header : (s : List ℕ) → take 5 s ≡ versioned 2 → (k : ℕ) → KindByte s (Some k) → (l : Listing) → k ≡ l.byte → take 6 s ≡ header l
+kind_header s v k b l e =
+    let g : get_or s 5 0 ≡ k = sym b.2 in
+    six s (λ z. b.0 (sym g ∙ z)) ∙ ap₂ (λ (h : List ℕ) (x : ℕ). h ++ (x ∷ [])) v (g ∙ e) ∙ sym (header_is l)

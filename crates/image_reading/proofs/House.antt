@@ -2,6 +2,8 @@
 use mathlib.Core.Path.{◌≡◌, refl, sym, ◌∙◌, ap, subst}
 use mathlib.Core.Logic.{◌≢◌, ◌⊎◌, ◌↔◌, inl}
 use mathlib.Core.Bool.{Bool, true, false}
+use Rattle.std.specs.Prelude.{Option, None, Some, IfSome, Result, Ok, Err}
+use Rattle.std.specs.Result.{result_ok}
 use mathlib.Core.List.{List, [], ◌++◌, append_assoc}
 use Prim.Native.Nat.{ℕ, ◌+◌, ◌≤◌, ◌<◌}
 use native.Mathlib.Omega.{arith}
@@ -37,9 +39,9 @@ use Rattle.image.proofs.types.Lawful.{lawful}
 use Rattle.image.proofs.Meaning.{body_means, body_some, pick_means}
 use Rattle.image.proofs.answers.Some.{picks_some}
 use Rattle.image_reading.specs.Reads.{stored, HouseAccepts, HouseReads, HouseCounts, HousePicks, HouseAnswers, HouseHands}
-use Rattle.image_reading.specs.Forms.{Headed, bare, leads, Fronts, nothing, headed, Begun, refuses, accepts}
+use Rattle.image_reading.specs.Forms.{Reading, told_of_head, kind_in, from_in, Headed, bare, leads, Fronts, nothing, headed, Begun, refuses, accepts}
+use Rattle.image_reading.specs.declared.front.Head.{Head}
 use Rattle.image_reading.specs.mirror.Front.{Kto, Named, version_of, KindByte, Starts}
-use Rattle.image_reading.specs.declared.front.Reading.{Reading}
 use Rattle.image_reading.proofs.Heads.{version_first, version_second, not_first, not_second, named_some, kind_told, kind_none, kind_some, kind_header}
 
 lists_apart : Apart stored
@@ -81,7 +83,7 @@ module _ (run : List ℕ) where
         let v' = not_second run k.0 v in
         no_start (λ l i h s f at. not_version run l h s f at u' v') (λ lim. version lim k.0 k.1 u' v' e) (λ z. omega (arith, ap (λ (y : Answer). y.code) e))
 
-    pub starts_kindless : Kto run → version_of run ≡ 2 → KindByte run 0 → a ≡ broken_image 5 → Starts run x
+    pub starts_kindless : Kto run → version_of run ≡ 2 → KindByte run None → a ≡ broken_image 5 → Starts run x
     starts_kindless k v b e =
         let v' = version_second run k v in
         let n = kind_none run b in
@@ -103,10 +105,10 @@ module _ (run : List ℕ) where
         starts stored_house house_stored (take 5 run) (drop 5 run) (earlier stored_house_byte (version_first run k v)) (sym (take-append-drop 5 run)) (e ∙ sym stored_house_byte)
         (f ∙ sym (length-take-le 5 run k.0)) (o.0 ∙ ap accepted (sym f), o.1)
 
-    pub starts_current : Kto run → version_of run ≡ 2 → (k : ℕ) → KindByte run k → k ≢ 0 → x.kind ≡ k → x.from ≡ 6 → (x.answer ≡ accepted 6) × (x.count ≡ 0) → Starts run x
-    starts_current k v b j n e f u =
-        let o = kind_some run b j n in
-        let w = kind_header run (version_second run k v) b j n o.list o.byte in
+    pub starts_current : Kto run → version_of run ≡ 2 → (k : ℕ) → KindByte run (Some k) → x.kind ≡ k → x.from ≡ 6 → (x.answer ≡ accepted 6) × (x.count ≡ 0) → Starts run x
+    starts_current k v b j e f u =
+        let o = kind_some run b j in
+        let w = kind_header run (version_second run k v) b j o.list o.byte in
         starts o.list o.among (take 6 run) (drop 6 run) (current w) (sym (take-append-drop 6 run)) (e ∙ o.byte) (f ∙ sym (ap length w ∙ header_length o.list))
         (u.0 ∙ ap accepted (sym f), u.1)
 
@@ -119,23 +121,38 @@ module _ (run : List ℕ) where
         go (leads l i h u f at k e) =
             let o = s.so (λ z. omega (arith, k, z, (kept_well l i).byte.0)) in headed lim l i h u f at k e (o.0 ∙ ap accepted e) o.1
 
+  -- the header alone
+  pub head_told : (r : Result Head Answer) (o : Option Head) → o ≡ result_ok r → Starts run (told_of_head r) → Headed run (kind_in o) (from_in o)
+  head_told r o e s = subst (λ (o : Option Head). Headed run (kind_in o) (from_in o)) (sym e) (go r s.head)
+    where
+      go : (r : Result Head Answer) → Headed run (told_of_head r).kind (told_of_head r).from → Headed run (kind_in (result_ok r)) (from_in (result_ok r))
+      go (Ok h) w = w
+      go (Err a) w = w
+
+  pub head_known : (r : Result Head Answer) (o : Option Head) → o ≡ result_ok r → Starts run (told_of_head r) → IfSome o (λ h. h.kind ≢ 0)
+  head_known r o e s = subst (λ (o : Option Head). IfSome o (λ h. h.kind ≢ 0)) (sym e) (go r s)
+    where
+      go : (r : Result Head Answer) → Starts run (told_of_head r) → IfSome (result_ok r) (λ h. h.kind ≢ 0)
+      go (Ok h) s = λ z. (s.why z).0 refl
+      go (Err a) s = tt
+
   -- every run begins somehow
   pub starts_some : (x : Reading) × Starts run x
   starts_some = let n = named_some run in named n.0 n.1
     where
-      of_kind_lem : Kto run → version_of run ≡ 2 → (b : ℕ) → KindByte run b → Dec (b ≡ 0) → (x : Reading) × Starts run x
-      of_kind_lem k v b j (yes z) =
+      of_kind_lem : Kto run → version_of run ≡ 2 → (b : Option ℕ) → KindByte run b → (x : Reading) × Starts run x
+      of_kind_lem k v None j =
           let x : Reading = record { answer = broken_image 5; kind = 0; from = 0; count = 0 } in
-          (x, starts_kindless x (broken_image 5) (refl, refl, refl, refl) k v (subst (KindByte run) z j) refl)
-      of_kind_lem k v b j (no z) =
+          (x, starts_kindless x (broken_image 5) (refl, refl, refl, refl) k v j refl)
+      of_kind_lem k v (Some b) j =
           let x : Reading = record { answer = accepted 6; kind = b; from = 6; count = 0 } in
-          (x, starts_current x k v b j z refl refl (refl, refl))
+          (x, starts_current x k v b j refl refl (refl, refl))
 
       of_version : Kto run → Dec (version_of run ≡ 1) → Dec (version_of run ≡ 2) → (x : Reading) × Starts run x
       of_version k (yes v) d =
           let x : Reading = record { answer = accepted 5; kind = 1; from = 5; count = 0 } in
           (x, starts_former x k v refl refl (refl, refl))
-      of_version k (no u) (yes v) = let b = kind_told run in of_kind_lem k v b.0 b.1 (ℕ_discrete b.0 0)
+      of_version k (no u) (yes v) = let b = kind_told run in of_kind_lem k v b.0 b.1
       of_version k (no u) (no v) =
           let x : Reading = record { answer = wrong_version; kind = 0; from = 0; count = 0 } in
           (x, starts_version x wrong_version (refl, refl, refl, refl) k u v refl)
@@ -211,6 +228,11 @@ module _ (run : List ℕ) where
   begins_none x (nothing b h n f g c) z = (refuses h n f g c, n)
   begins_none x (headed lim l i h s f at k e u v) z = absurd (omega (arith, k, z, (kept_well l i).byte.0))
 
+  -- where an answer so far accepts, one may
+  pub fronts_kind : (x : Reading) → Fronts run x → x.answer.code ≡ 0 → x.kind ≢ 0
+  fronts_kind x (nothing b h n f g c) z = absurd (n z)
+  fronts_kind x (headed lim l i h s f at k e u v) z = λ y. omega (arith, k, y, (kept_well l i).byte.0)
+
   -- where one may, by what its items say
   module _ (x : Reading) (g : Fronts run x) (z : x.kind ≢ 0) (t : List ℕ) (y : Says t x.kind) where
     module _ (a : Answer) (m : ℕ) (b : Behind t (item_end t run) run x.from a m) where
@@ -247,6 +269,11 @@ module _ (run : List ℕ) where
   pub begun_reads : (x : Reading) → Begun run x → HouseReads run x.answer
   begun_reads x (refuses h n f g c) = h
   begun_reads x (accepts lim n w e f g c) = whole_image lim n w e
+
+  -- where no kind is told the answer refuses
+  pub begun_refuses : (x : Reading) → Begun run x → x.kind ≡ 0 → x.answer.code ≢ 0
+  begun_refuses x (refuses h n f g c) z = n
+  begun_refuses x (accepts lim n w e f g c) z = λ y. omega (arith, f, z, (kept_well w.list w.among).byte.0)
 
   pub begun_counts : (x : Reading) → Begun run x → HouseCounts run x.answer x.count
   begun_counts x (refuses h n f g c) = c

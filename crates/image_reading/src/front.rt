@@ -1,23 +1,29 @@
 // How a run begins: the list of its first image, by its name, its version and its kind byte, and where the items of that image stand.
-ghost use Rattle.std.specs.Prelude.{◌≡◌, ◌≤◌, ◌<◌, length};
-ghost use Rattle.answer.specs.Table.{accepted};
-ghost use Rattle.image_reading.specs.Forms.{Headed, Fronts};
+ghost use Rattle.std.specs.Prelude.{◌≡◌, ◌≢◌, ◌≤◌, ◌<◌, length, IfSome};
+ghost use Rattle.image_reading.specs.Forms.{kind_in, from_in, told_of_head, Headed, Fronts};
 ghost use Rattle.image_reading.specs.mirror.Front.{Named, version_of, KindByte, Starts};
 
 use answer::Answer;
 use list_house::by_byte::REPORT;
 
-// What is told of the image that a run begins with: the answer, the kind byte of its list and where its items begin, 0 and 0 where none
-// begins there; and how many items were taken.
+// The image that a run begins with: how long it is, the kind byte of its list, where its items begin, and how many there are, the closing 0
+// among them.
 #[derive(Clone, Copy)]
-pub struct Reading {
-    pub answer: Answer,
+pub struct Image {
+    pub length: usize,
     pub kind: usize,
     pub from: usize,
     pub count: usize,
 }
 
-// The middle two of these, which are told without reading an item.
+// Why a run begins with none, and how many items were taken before that was seen.
+#[derive(Clone, Copy)]
+pub struct Refusal {
+    pub answer: Answer,
+    pub count: usize,
+}
+
+// What a header tells: the kind byte of its list, and where the items begin.
 #[derive(Clone, Copy)]
 pub struct Head {
     pub kind: usize,
@@ -33,23 +39,6 @@ const ITEMS: usize = KIND_BYTE + 1;
 
 // The kind byte of a statement, which version 1 leaves out.
 const STATEMENT: usize = 1;
-
-pub fn refused(answer: Answer, count: usize) -> Reading
-    ensures { (result.answer ≡ answer) × (result.kind ≡ 0) × (result.from ≡ 0) × (result.count ≡ count) }
-{
-    Reading {
-        answer,
-        kind: 0,
-        from: 0,
-        count,
-    }
-}
-
-fn wide(x: u8) -> usize
-    ensures { (result ≡ x) × (result < 256) }
-{
-    x as usize
-}
 
 // Five bytes or more, the first three `KTO`.
 fn named(run: &[u8]) -> bool
@@ -72,71 +61,63 @@ fn version(run: &[u8]) -> usize
     requires { 5 ≤ length run.now }
     ensures { result ≡ version_of run.now }
 {
-    256 * wide(run[Answer::VERSION]) + wide(run[VERSION_END])
+    256 * usize::from(run[Answer::VERSION]) + usize::from(run[VERSION_END])
 }
 
-// The byte after it; 0 where it is missing or no list's.
-fn kind_byte(run: &[u8]) -> usize
+// The byte after it, where it is there and a list's.
+fn kind_byte(run: &[u8]) -> Option<usize>
     ensures { KindByte run.now result }
 {
     if run.len() < ITEMS {
-        return 0;
+        return None;
     }
-    let kind = wide(run[KIND_BYTE]);
+    let kind = usize::from(run[KIND_BYTE]);
+    if kind == 0 {
+        return None;
+    }
     if REPORT < kind {
-        return 0;
+        return None;
     }
-    kind
+    Some(kind)
 }
 
-// How a run begins, whatever its length: the answer is code 0 and the header's length where an image may begin.
-fn start(run: &[u8]) -> Reading
-    ensures { Starts run.now result }
+// How a run begins, whatever its length: where an image may begin, the header's length is where its items begin.
+fn start(run: &[u8]) -> Result<Head, Answer>
+    ensures { Starts run.now (told_of_head result) }
 {
     if !named(run) {
-        return refused(Answer::no_header(), 0);
+        return Err(Answer::no_header());
     }
     let version = version(run);
     if version == 1 {
-        return Reading {
-            answer: Answer::accepted(KIND_BYTE),
+        return Ok(Head {
             kind: STATEMENT,
             from: KIND_BYTE,
-            count: 0,
-        };
+        });
     }
     if version != 2 {
-        return refused(Answer::wrong_version(), 0);
+        return Err(Answer::wrong_version());
     }
-    let kind = kind_byte(run);
-    if kind == 0 {
-        return refused(Answer::broken_image(KIND_BYTE), 0);
-    }
-    Reading {
-        answer: Answer::accepted(ITEMS),
-        kind,
-        from: ITEMS,
-        count: 0,
-    }
+    let Some(kind) = kind_byte(run) else {
+        return Err(Answer::broken_image(KIND_BYTE));
+    };
+    Ok(Head { kind, from: ITEMS })
 }
 
-// The kind byte and the place of the first item, of a run of any length.
-pub fn head_of(run: &[u8]) -> Head
-    ensures { Headed run.now result.kind result.from }
+// The kind byte and the place of the first item, of a run of any length; none where it begins as no image does.
+pub fn head_of(run: &[u8]) -> Option<Head>
+    ensures is { Headed run.now (kind_in result) (from_in result) }
+    ensures known { IfSome result (λ h. h.kind ≢ 0) }
 {
-    let start = start(run);
-    Head {
-        kind: start.kind,
-        from: start.from,
-    }
+    start(run).ok()
 }
 
 // All that is asked of a run before its items.
-pub fn front(run: &[u8]) -> Reading
-    ensures { Fronts run.now result }
+pub fn front(run: &[u8]) -> Result<Head, Answer>
+    ensures { Fronts run.now (told_of_head result) }
 {
     if Answer::LIMIT < run.len() {
-        return refused(Answer::too_long(), 0);
+        return Err(Answer::too_long());
     }
     start(run)
 }

@@ -22,12 +22,11 @@ use Rattle.image.specs.Kinds.{values}
 use Rattle.image.proofs.answers.Heads.{front_long}
 use Rattle.image.proofs.answers.One.{accepting, accepts_in}
 use Rattle.image_reading.specs.Reads.{stored, HouseReads, HouseCounts}
-use Rattle.image_reading.specs.Forms.{Begun}
-use Rattle.image_reading.specs.declared.front.Reading.{Reading}
+use Rattle.image_reading.specs.Forms.{Reading, Begun}
 use Rattle.image_reading.proofs.House.{house_reads_one, begun_reads, begun_counts, house_counts_one, house_few_items}
 use Rattle.image_hold.specs.Held.{Steps}
 use Rattle.image_hold.specs.declared.held.Step.{Step}
-use Rattle.images.specs.Divides.{image_line, Divides, at_end, another, left_over}
+use Rattle.images.specs.Divides.{Taken, image_line, Divides, at_end, another, left_over}
 
 -- ---- an image's line
 
@@ -88,9 +87,12 @@ image_least s a r z =
     let w = (accepting values stored s a r z).1 in
     omega (arith, w.long, front_long w.list w.head w.front, w.holds.long, length-append (items_bytes values w.list (items w.holds.content)) (0 ∷ []))
 
--- what is told of the rest of a run, as it is lent
-pub rest_told : (run : List ℕ) (at : ℕ) (x : Reading) → Begun (take (length run - at) (drop at run)) x → Begun (drop at run) x
-rest_told run at x b = subst (λ (s : List ℕ). Begun s x) (take_all (length run - at) (drop at run) (omega (arith, length-drop at run))) b
+-- what is told of a run, and of its rest, as it is lent
+pub told_taken : (run : List ℕ) (x : Reading) → Begun run x → Taken run x.count
+told_taken run x b = record { answer = x.answer; reads = begun_reads run x b; counts = begun_counts run x b }
+
+pub rest_taken : (run : List ℕ) (at n : ℕ) → Taken (take (length run - at) (drop at run)) n → Taken (drop at run) n
+rest_taken run at n b = subst (λ (s : List ℕ). Taken s n) (take_all (length run - at) (drop at run) (omega (arith, length-drop at run))) b
 
 -- ---- a loop that has written what stands before a place
 
@@ -185,8 +187,8 @@ module _ (run d : List ℕ) (at n : ℕ) (w : Dividing run d at n) where
         }
 
       -- as the plain reader counts them
-      pub told_counts : (x : Reading) → Begun (drop at run) x → HouseCounts (drop at run) a x.count
-      told_counts x b = subst (λ (y : Answer). HouseCounts (drop at run) y x.count) (house_reads_one (drop at run) x.answer a (begun_reads (drop at run) x b) s.reads) (begun_counts (drop at run) x b)
+      pub told_counts : (n : ℕ) → Taken (drop at run) n → HouseCounts (drop at run) a n
+      told_counts n b = subst (λ (y : Answer). HouseCounts (drop at run) y n) (house_reads_one (drop at run) b.answer a b.reads s.reads) b.counts
 
 -- ---- only one output fits
 

@@ -10,6 +10,12 @@ use Rattle.image_reading.specs.Reads.{HouseReads, HouseCounts}
 unfoldable pub image_line : ℕ → ℕ → ℕ → List ℕ
 image_line place size count = in_digits place ++ (code " " ∷ (in_digits size ++ (code " " ∷ (in_digits count ++ (code "\n" ∷ [])))))
 
+-- so many items the reader takes of a run, whatever it answers
+pub record Taken (run : List ℕ) (n : ℕ) : Type 0 where
+  pub answer : Answer
+  pub reads : HouseReads run answer
+  pub counts : HouseCounts run answer n
+
 -- how long it is at most, and room for all lines of a run with that of a refusal: no image is shorter than six bytes, no line of one longer than 24
 abbrev pub longest_line : ℕ
 longest_line = 63

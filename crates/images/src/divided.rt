@@ -2,7 +2,7 @@
 ghost use Rattle.std.specs.Prelude.{◌≡◌, ◌+◌, ◌≤◌, length, take};
 ghost use Rattle.io.specs.Counts.{IsPrefixLen};
 ghost use Rattle.text.specs.Pasting.{pasted};
-ghost use Rattle.images.specs.Divides.{image_line, Divides, longest_line, all_lines};
+ghost use Rattle.images.specs.Divides.{Taken, image_line, Divides, longest_line, all_lines};
 
 use answer::Answer;
 use image_first::reading;
@@ -29,12 +29,23 @@ fn put_image(out: &mut [u8], to: usize, place: usize, size: usize, count: usize)
     end + 1
 }
 
+// How many items the reader takes of a run.
+fn taken(run: &[u8]) -> usize
+    ensures { Taken run.now result }
+{
+    match reading(run) {
+        Ok(image) => image.count,
+        Err(refusal) => refusal.count,
+    }
+}
+
 // Puts what is written for a run to the start of a buffer, and answers how many bytes it is.
 pub(crate) fn divided(run: &[u8], out: &mut [u8]) -> usize
     requires { length out.old ≡ all_lines }
     ensures is { Divides run.now 0 (take result out.new) }
     ensures within { IsPrefixLen result out.new }
 {
+    // Kept: `next_at` says at each turn where the next image begins, so no range and no iterator knows the turns beforehand.
     let mut at: usize = 0;
     let mut n: usize = 0;
     while at < run.len() {
@@ -42,8 +53,8 @@ pub(crate) fn divided(run: &[u8], out: &mut [u8]) -> usize
         if step.answer.code != Answer::ACCEPTED {
             return n + put_refusal(out, n, step.answer);
         }
-        let told = reading(&run[at..]);
-        n = put_image(out, n, at, step.answer.place, told.count);
+        let count = taken(&run[at..]);
+        n = put_image(out, n, at, step.answer.place, count);
         at = step.at;
     }
     n

@@ -13,6 +13,7 @@ use unit::read::read;
 pub(crate) const MOST: usize = 65536;
 
 // The answer to longer input: of the file as the program reads it, no more is known.
+// Kept: `Answer::too_long()` names another limit, that of files, so these three numbers stand here alone.
 fn longer() -> Answer
     ensures { result ≡ record { code = 1; row = 0; place = most } }
 {

@@ -6,8 +6,8 @@ use Prim.Native.Nat.{ℕ, zero, suc, ◌+◌, ◌*◌, ◌≤◌, ◌<◌, min}
 use native.Mathlib.Omega.{arith}
 use native.Mathlib.Decide.{dec_lt}
 use lib.Dec.{leb}
-use lib.ListN.{length, get_or, set, take, drop, length-take, length-replicate}
-use lib.Seq.{sets, sets-eq, length-take-le, take_all, take-suc, get_or-take, get_or-drop}
+use lib.ListN.{length, get_or, take, drop, length-take, length-replicate}
+use lib.Seq.{sets, sets-eq, take_all, get_or-take, get_or-drop}
 use borrow.Author.Tests.{leb-true}
 use Rattle.list.specs.Listing.{Row, Listing, size}
 use Rattle.list.specs.WellFormed.{WellFormed}
@@ -48,40 +48,21 @@ module _ (t : List ℕ) where
   unfolding laid onto
   laid_at j h = over_at (take 4096 t) 4096 (omega (arith, length-take 4096 t)) j ∙ get_or-take 4096 t j 0 h
 
--- ---- as the loop lays them: of the first n cells of d i are those of t
+-- ---- as they are laid: the first n cells of t, and what stood behind them
 
-pub record Laying (t d : List ℕ) (n : ℕ) (to : List ℕ) (i : ℕ) : Type 0 where
-  pub end : n ≡ min (length t) 4096
-  pub within : i ≤ n
-  pub so : to ≡ sets d 0 (take i t)
+pub laid_front : (t d u : List ℕ) (n : ℕ) → n ≡ min (length t) 4096 → length d ≡ 4096 → u ≡ take n t → u ++ drop n d ≡ onto t d
+unfolding onto
+laid_front t d u n e l f =
+    ap (λ (x : List ℕ). x ++ drop n d) (f ∙ front (dec_lt 4096 (length t)))
+    ∙ ap (λ (m : ℕ). take 4096 t ++ drop m d) (sym long)
+    ∙ sym (sets-eq (take 4096 t) d 0 (omega (arith, long)))
+  where
+    long : 0 + length (take 4096 t) ≡ n
+    long = omega (arith, length-take 4096 t)
 
-sets_more : (d : List ℕ) (k : ℕ) (xs : List ℕ) (a n : ℕ) → k + length xs ≡ n → sets d k (xs ++ (a ∷ [])) ≡ set (sets d k xs) n a
-sets_more d k [] a n e = ap (λ (m : ℕ). set d m a) (omega (arith, e))
-sets_more d k (x ∷ xs) a n e = sets_more (set d k x) (suc k) xs a n (omega (arith, e))
-
-pub lay_none : (t d : List ℕ) (n : ℕ) → n ≡ min (length t) 4096 → Laying t d n d 0
-lay_none t d n e = record { end = e; within = omega arith; so = refl }
-
-module _ (t d : List ℕ) (n : ℕ) (to : List ℕ) (i : ℕ) (l : Laying t d n to i) where
-  pub lay_more : i < n → Laying t d n (set to i (get_or t i 0)) (i + 1)
-  lay_more h = record {
-    end = l.end;
-    within = omega arith;
-    so =
-        let g : i < length t = omega (arith, l.end) in
-        let z : i + 1 ≡ suc i = omega arith in
-        ap (λ (x : List ℕ). set x i (get_or t i 0)) l.so
-        ∙ sym (sets_more d 0 (take i t) (get_or t i 0) i (omega (arith, length-take-le i t (omega arith))))
-        ∙ ap (sets d 0) (sym (take-suc t i 0 g) ∙ ap (λ (m : ℕ). take m t) (sym z));
-  }
-
-  pub lay_all : n ≤ i → to ≡ onto t d
-  unfolding onto
-  lay_all h = l.so ∙ ap (sets d 0) (all (dec_lt 4096 (length t)))
-    where
-      all : Dec (4096 < length t) → take i t ≡ take 4096 t
-      all (Dec.yes y) = let e : i ≡ 4096 = omega (arith, l.end, l.within) in ap (λ (m : ℕ). take m t) e
-      all (Dec.no y) = take_all i t (omega (arith, l.end)) ∙ sym (take_all 4096 t (omega arith))
+    front : Dec (4096 < length t) → take n t ≡ take 4096 t
+    front (Dec.yes y) = let g : n ≡ 4096 = omega arith in ap (λ (m : ℕ). take m t) g
+    front (Dec.no y) = take_all n t (omega arith) ∙ sym (take_all 4096 t (omega arith))
 
 -- ---- tables that are alike in every cell say one list
 

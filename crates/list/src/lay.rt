@@ -5,16 +5,11 @@ ghost use Rattle.std.specs.Prelude.{◌≡◌};
 ghost use Rattle.list.specs.tables.Laid.{onto};
 
 use crate::table::CELLS;
-use text::part::least;
 
 // The first cells become those of `rows`; of more than 4,096 the first. What is lent is filled, since an array that is handed back is copied.
 pub fn lay(rows: &[u16], table: &mut [u16; CELLS])
     ensures { table.new ≡ onto rows.now table.old }
 {
-    let n = least(rows.len(), CELLS);
-    let mut i = 0;
-    while i < n {
-        table[i] = rows[i];
-        i += 1;
-    }
+    let n = rows.len().min(CELLS);
+    table[..n].copy_from_slice(&rows[..n]);
 }

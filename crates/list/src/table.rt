@@ -1,4 +1,5 @@
 // The columns of a table of rows, and the numbers that stand for counts and kinds (specs/Table).
+// Kept: they are numbers, since the lists are constant tables of cells (document 01), in which every number says a count and a kind.
 
 ghost use Rattle.std.specs.Prelude.{◌≡◌, [], ◌∷◌, ◌++◌, map};
 ghost use Rattle.list.specs.Listing.{alternative};

@@ -5,6 +5,7 @@ ghost use Rattle.list_house.specs.mirror.Rows.{asked_rows, kept_rows};
 use crate::tables::{Rows, report_rows, rows, stored_report_rows, stored_rows};
 
 // The kind byte of a report; every other has the rows of a statement.
+// Kept: a number, since it is a byte of an image, and `asked_rows` and `kept_rows` answer for each byte.
 pub const REPORT: usize = 2;
 
 // The rows of the list that files are asked to keep to.

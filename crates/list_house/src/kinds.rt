@@ -5,6 +5,7 @@ ghost use Rattle.list_house.specs.Kind.{house_kind};
 use list::table::{AMT, BOOL, CCY, CHOICE, DATE, DTM, ENUM, GROUP, IBAN, NUM, REF, TXT};
 
 // A group's for 0 and for every number above the last row.
+// Kept: by `match` on the row's number with ranges, to the cells of the column of kinds (document 01).
 pub fn kind(row: usize) -> usize
     ensures { result ≡ house_kind row }
 {

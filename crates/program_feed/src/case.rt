@@ -1,47 +1,33 @@
 // What the head of a case asks for.
-ghost use Rattle.std.specs.Prelude.{◌≡◌, ◌+◌, ◌≤◌, ◌<◌, ◌^◌, min, length, get_or, take, drop};
+ghost use Rattle.std.specs.Prelude.{◌≡◌, ◌≤◌, ◌<◌, min, length, take, drop, MatchOption};
 ghost use Rattle.text.specs.Little.{little};
 ghost use Rattle.answer.specs.Table.{limit};
-ghost use Rattle.program_feed.specs.Cases.{number_at, op_by, case_of, size_of, case_in, goes_on, head_size, second_at};
+ghost use Rattle.program_feed.specs.Cases.{op_by, case_of, size_of, case_in, goes_on};
 
 use answer::Answer;
-use text::part::least;
 use text::width::WIDTH_32;
 
-#[derive(Clone, Copy)]
-pub enum Case {
-    // A file of `size` bytes, for a buffer of `room`.
-    Check {
-        room: usize,
-        size: usize,
-    },
-    // A run of `size` bytes.
-    Read {
-        size: usize,
-    },
-    // The leaf number `nth`, from 0, of `row` in a run of `size` bytes.
-    Pick {
-        row: usize,
-        nth: usize,
-        size: usize,
-    },
-    // A run of `size` bytes that is to be written as a file, for a buffer of `room`.
-    Write {
-        room: usize,
-        size: usize,
-    },
-    // A run of `size` bytes, whose items are to be counted.
-    Count {
-        size: usize,
-    },
-    // A file of `size` bytes that is to be tidied, for buffers of `room` for its image and of `space` for the file.
-    Tidy {
-        room: usize,
-        space: usize,
-        size: usize,
-    },
-    // No case: the head breaks off, or names another op or a length over the longest.
-    Broken,
+#[derive(Clone, Copy, PartialEq, Eq)]
+pub enum Ask {
+    // To check a file, for a buffer of `room`.
+    Check { room: usize },
+    // To read a run.
+    Read,
+    // The leaf number `nth`, from 0, of `row` in a run.
+    Pick { row: usize, nth: usize },
+    // To write a run as a file, for a buffer of `room`.
+    Write { room: usize },
+    // To count the items of a run.
+    Count,
+    // To tidy a file, for buffers of `room` for its image and of `space` for the file.
+    Tidy { room: usize, space: usize },
+}
+
+// What is asked of the `size` bytes after the head.
+#[derive(Clone, Copy, PartialEq, Eq)]
+pub struct Case {
+    pub ask: Ask,
+    pub size: usize,
 }
 
 // The ops.
@@ -57,153 +43,90 @@ const COUNT: u8 = 6;
 
 const TIDY: u8 = 8;
 
-// A head is the op and three numbers of 32 bits: where these stand, and how many bytes it has.
-const FIRST: usize = 1;
-
-const SECOND: usize = FIRST + WIDTH_32;
-
-const SIZE: usize = SECOND + WIDTH_32;
-
-pub const HEAD: usize = SIZE + WIDTH_32;
+// How many bytes a head has: the op and three numbers of 32 bits.
+pub const HEAD: usize = 1 + 3 * WIDTH_32;
 
 // The most bytes that a case may have: one more than a file may.
 pub const LONGEST: usize = Answer::LIMIT + 1;
 
-const LAST_BYTE: usize = WIDTH_32 - 1;
-
-fn wide(x: u8) -> usize
-    ensures { (result ≡ x) × (result < 256) }
+// The number of 32 bits that bytes begin with, its least significant byte first, and the bytes after it.
+fn number(s: &[u8]) -> Option<(usize, &[u8])>
+    ensures { MatchOption result (length s.now < 4) (λ r. (4 ≤ length s.now) × (r.0 ≡ little (take 4 s.now)) × (r.1.now ≡ drop 4 s.now)) }
 {
-    x as usize
+    let (bytes, rest) = s.split_first_chunk::<WIDTH_32>()?;
+    Some((u32::from_le_bytes(*bytes) as usize, rest))
 }
 
-// The number of 32 bits at a place, its least significant byte first.
-fn number(s: &[u8], at: usize) -> usize
-    requires { at + 4 ≤ length s.now }
-    ensures { result ≡ little (take 4 (drop at s.now)) }
+// The room that a head asks for; more than a buffer may need counts as that much.
+fn room_of(n: usize) -> usize
+    ensures { result ≡ min n limit }
 {
-    wide(s[at]) + 256 * (wide(s[at + 1]) + 256 * (wide(s[at + 2]) + 256 * wide(s[at + LAST_BYTE])))
+    n.min(Answer::LIMIT)
 }
 
-// A room that a head asks for; more than a buffer may need counts as that much.
-fn room_at(head: &[u8], at: usize) -> usize
-    requires { at + 4 ≤ length head.now }
-    ensures { result ≡ min (number_at at head.now) limit }
+// The case that a whole head asks for by its op and the three numbers after it.
+#[tactic(auto, unfolding(crate::specs::Cases::op_by))]
+fn by_op(op: u8, first: usize, second: usize, size: usize) -> Option<Case>
+    ensures { result ≡ op_by op first second size }
 {
-    least(number(head, at), Answer::LIMIT)
+    let ask = match op {
+        CHECK => Ask::Check {
+            room: room_of(first),
+        },
+        READ => Ask::Read,
+        PICK => Ask::Pick {
+            row: first,
+            nth: second,
+        },
+        WRITE => Ask::Write {
+            room: room_of(first),
+        },
+        COUNT => Ask::Count,
+        TIDY => Ask::Tidy {
+            room: room_of(first),
+            space: room_of(second),
+        },
+        _ => return None,
+    };
+    Some(Case { ask, size })
 }
 
-// The case that a whole head asks for, of so many bytes.
-fn by_op(head: &[u8], size: usize) -> Case
-    requires { head_size ≤ length head.now }
-    ensures { result ≡ op_by (get_or head.now 0 0) (number_at 1 head.now) (number_at second_at head.now) size }
-{
-    let op = head[0];
-    if op == CHECK {
-        return Case::Check {
-            room: room_at(head, FIRST),
-            size: size,
-        };
-    }
-    if op == READ {
-        return Case::Read { size: size };
-    }
-    if op == PICK {
-        return Case::Pick {
-            row: number(head, FIRST),
-            nth: number(head, SECOND),
-            size: size,
-        };
-    }
-    if op == WRITE {
-        return Case::Write {
-            room: room_at(head, FIRST),
-            size: size,
-        };
-    }
-    if op == COUNT {
-        return Case::Count { size: size };
-    }
-    if op == TIDY {
-        return Case::Tidy {
-            room: room_at(head, FIRST),
-            space: room_at(head, SECOND),
-            size: size,
-        };
-    }
-    Case::Broken
-}
-
-// The case that a head asks for; what stands after it does not matter.
-pub fn case_of(head: &[u8]) -> Case
+// The case that a head asks for; what stands after it does not matter. None where the head breaks off, or names another op or a length over
+// the longest.
+pub fn case_of(head: &[u8]) -> Option<Case>
     ensures { result ≡ case_of head.now }
 {
-    if head.len() < HEAD {
-        return Case::Broken;
-    }
-    let size = number(head, SIZE);
+    let (op, numbers) = head.split_first()?;
+    let (first, numbers) = number(numbers)?;
+    let (second, numbers) = number(numbers)?;
+    let (size, _) = number(numbers)?;
     if LONGEST < size {
-        return Case::Broken;
+        return None;
     }
-    by_op(head, size)
+    by_op(*op, first, second, size)
 }
 
 // How many bytes a case has after its head.
-pub fn size_of(c: Case) -> usize
+pub fn size_of(c: Option<Case>) -> usize
     ensures { result ≡ size_of c }
 {
-    match c {
-        Case::Check { room: _, size } => size,
-        Case::Read { size } => size,
-        Case::Pick {
-            row: _,
-            nth: _,
-            size,
-        } => size,
-        Case::Write { room: _, size } => size,
-        Case::Count { size } => size,
-        Case::Tidy {
-            room: _,
-            space: _,
-            size,
-        } => size,
-        Case::Broken => 0,
-    }
+    c.map_or(0, |case| case.size)
 }
 
-// The case that a feed begins with, its head and its bytes; broken where the feed breaks off before they end.
-pub fn case_in(feed: &[u8]) -> Case
+// The case that a feed begins with, its head and its bytes; none where the feed breaks off before they end.
+pub fn case_in(feed: &[u8]) -> Option<Case>
     ensures { result ≡ case_in feed.now }
 {
-    if feed.len() < HEAD {
-        return Case::Broken;
+    let case = case_of(feed)?;
+    if feed.len() < HEAD + case.size {
+        return None;
     }
-    let c = case_of(feed);
-    if feed.len() - HEAD < size_of(c) {
-        return Case::Broken;
-    }
-    c
+    Some(case)
 }
 
 // Whether more is read after a case.
-pub fn goes_on(c: Case) -> bool
+pub fn goes_on(c: Option<Case>) -> bool
     ensures { result ≡ goes_on c }
 {
-    match c {
-        Case::Check { room: _, size: _ } => true,
-        Case::Read { size: _ } => true,
-        Case::Pick {
-            row: _,
-            nth: _,
-            size: _,
-        } => true,
-        Case::Write { room: _, size: _ } => true,
-        Case::Count { size: _ } => true,
-        Case::Tidy {
-            room: _,
-            space: _,
-            size: _,
-        } => true,
-        Case::Broken => false,
-    }
+    c.is_some()
 }

@@ -14,6 +14,7 @@ pub fn read_full<R: Read>(input: &mut R, buf: &mut [u8]) -> Result<usize>
     ensures bytes { IfOk result (λ n. Consumes (R.remaining input.old) (R.remaining input.new) (take n buf.new)) }
     ensures ends { IfOk result (λ n. n < length buf.new → IsAtEnd (R.remaining input.new)) }
 {
+    // Kept: `Read::read` says at each turn how far the place moves on, so no range and no iterator knows the turns beforehand.
     let mut done = 0;
     while done < buf.len() {
         let n = input.read(&mut buf[done..])?;

@@ -1,9 +1,8 @@
 -- Hexadecimal: two digits for each byte, one after the other, and back. Assumes nothing.
 use mathlib.Core.Path.{◌≡◌, refl, sym, ◌∙◌, ap, ap₂}
 use mathlib.Core.List.{List, [], ◌∷◌, ◌++◌, nil≢cons, head-eq_of_cons-eq, tail-eq_of_cons-eq}
-use Prim.Native.Nat.{ℕ, ◌+◌, ◌-◌, ◌/◌, ◌%◌, ◌≤◌, ◌<◌, zero-le}
+use Prim.Native.Nat.{ℕ, ◌+◌, ◌-◌, ◌*◌, ◌/◌, ◌%◌, ◌≤◌, ◌<◌}
 use native.Mathlib.Numerals.{add-one}
-use native.Mathlib.Nat.{add_assoc}
 use native.Mathlib.Decide.{dec_lt}
 use native.Mathlib.Omega.{arith}
 use lib.ListN.{length, get_or, drop, set, length-drop, length-set, drop_of_length-le}
@@ -67,51 +66,33 @@ hex_one (x ∷ s) (y ∷ t) p q e =
 
 -- ---- a loop that has written the digits of k bytes
 
-pub record Spreading (s d₀ : List ℕ) (at n : ℕ) (d : List ℕ) (k to : ℕ) : Type 0 where
-  pub whole : n ≡ length s
-  pub upto : k ≤ n
-  pub place : to ≡ at + (k + k)
-  pub room : at + (n + n) ≤ length d
-  pub long : length d ≡ length d₀
-  pub here : pasted d to (hexadecimal (drop k s)) ≡ pasted d₀ at (hexadecimal s)
+pub hex_not : (d : List ℕ) (at : ℕ) (s : List ℕ) → length d < at + 2 * length s → d ≡ pasted d at (hexadecimal s)
+hex_not d at s h = sym (pasted_no d at (hexadecimal s) (omega (arith, length_hex s)))
 
-pub hex_not : (d : List ℕ) (at : ℕ) (s : List ℕ) (n : ℕ) → n ≡ length s → length d < at + (n + n) → d ≡ pasted d at (hexadecimal s)
-hex_not d at s n e h = sym (pasted_no d at (hexadecimal s) (omega (arith, length_hex s)))
+module _ (s d₀ : List ℕ) (at : ℕ) where
+  -- with the digits of the bytes that are left, all digits stand there
+  abbrev pub Spreading : List ℕ → ℕ → Type 0
+  Spreading d k = pasted d (at + 2 * k) (hexadecimal (drop k s)) ≡ pasted d₀ at (hexadecimal s)
 
-module _ (s d₀ : List ℕ) (at n : ℕ) where
-  pub hex_start : n ≡ length s → at + (n + n) ≤ length d₀ → Spreading s d₀ at n d₀ 0 at
-  hex_start e h = record { whole = e; upto = zero-le; place = omega arith; room = h; long = refl; here = refl }
-
-  module _ (d : List ℕ) (k to : ℕ) (w : Spreading s d₀ at n d k to) where
-    pub hex_end : n ≤ k → d ≡ pasted d₀ at (hexadecimal s)
+  module _ (d : List ℕ) (k : ℕ) (w : Spreading d k) where
+    pub hex_end : length s ≤ k → d ≡ pasted d₀ at (hexadecimal s)
     unfolding hexadecimal
     hex_end h =
-        let l : length s ≤ k = omega (arith, w.whole) in
-        sym (pasted_none d to) ∙ ap (λ (u : List ℕ). pasted d to (hexadecimal u)) (sym (drop_of_length-le s l)) ∙ w.here
+        sym (pasted_none d (at + 2 * k)) ∙ ap (λ (u : List ℕ). pasted d (at + 2 * k) (hexadecimal u)) (sym (drop_of_length-le s h)) ∙ w
 
-    module _ (h : k < n) where
-      pub hex_from : k < length s
-      hex_from = omega (arith, w.whole)
-
-      pub hex_to : to + 1 < length d
-      hex_to = omega (arith, w.room, w.place)
-
-      pub hex_again : (u v : ℕ) → u ≡ hex_digit (get_or s k 0 / 16) → v ≡ hex_digit (get_or s k 0 % 16) → Spreading s d₀ at n (set (set d to u) (to + 1) v) (k + 1) (to + 2)
-      hex_again u v eu ev =
-          let x : ℕ = get_or s k 0 in
-          let t : List ℕ = drop (k + 1) s in
-          let e : drop k s ≡ x ∷ t = rw (add-one k) (drop-cons s k 0 hex_from) in
-          let l : length t ≡ n - (k + 1) = omega (arith, w.whole, length-drop (k + 1) s) in
-          let f : hexadecimal (drop k s) ≡ u ∷ v ∷ hexadecimal t =
-          ap hexadecimal e ∙ hex_cons x t ∙ ap₂ (λ (p q : ℕ). p ∷ q ∷ hexadecimal t) (sym eu) (sym ev) in
-          record {
-            whole = w.whole;
-            upto = omega arith;
-            place = omega (arith, w.place);
-            room = omega (arith, w.room, length-set (set d to u) (to + 1) v, length-set d to u);
-            long = length-set (set d to u) (to + 1) v ∙ length-set d to u ∙ w.long;
-            here =
-                rw (← add_assoc to 1 1)
-                (pasted_first (set d to u) (to + 1) v (hexadecimal t) (omega (arith, w.room, w.place, length-set d to u, length_hex t))
-                ∙ pasted_first d to u (v ∷ hexadecimal t) (omega (arith, w.room, w.place, length_hex t)) ∙ ap (pasted d to) (sym f) ∙ w.here);
-          }
+    pub hex_again : k < length s → at + 2 * length s ≤ length d → {u v : ℕ} → u ≡ hex_digit (get_or s k 0 / 16) → v ≡ hex_digit (get_or s k 0 % 16)
+        → Spreading (set (set d (at + 2 * k) u) (at + 2 * k + 1) v) (k + 1)
+    hex_again h room {u} {v} eu ev =
+        let to : ℕ = at + 2 * k in
+        let x : ℕ = get_or s k 0 in
+        let t : List ℕ = drop (k + 1) s in
+        let e : drop k s ≡ x ∷ t = rw (add-one k) (drop-cons s k 0 h) in
+        let l : length t ≡ length s - (k + 1) = length-drop (k + 1) s in
+        let f : hexadecimal (drop k s) ≡ u ∷ v ∷ hexadecimal t =
+        ap hexadecimal e ∙ hex_cons x t ∙ ap₂ (λ (p q : ℕ). p ∷ q ∷ hexadecimal t) (sym eu) (sym ev) in
+        let g : at + 2 * (k + 1) ≡ to + 1 + 1 = omega arith in
+        ap (λ (n : ℕ). pasted (set (set d to u) (to + 1) v) n (hexadecimal t)) g
+        ∙ pasted_first (set d to u) (to + 1) v (hexadecimal t) (omega (arith, room, l, length-set d to u, length_hex t))
+        ∙ pasted_first d to u (v ∷ hexadecimal t) (omega (arith, room, l, length_hex t))
+        ∙ ap (pasted d to) (sym f)
+        ∙ w

@@ -1,5 +1,5 @@
 // Bytes in lower-case hexadecimal, two digits each.
-ghost use Rattle.std.specs.Prelude.{◌≡◌, ◌/◌, ◌%◌, ◌<◌};
+ghost use Rattle.std.specs.Prelude.{◌≡◌, ◌<◌};
 ghost use Rattle.text.specs.Pasting.{pasted};
 ghost use Rattle.program_line.specs.Hex.{hex_digit, hexadecimal};
 
@@ -18,36 +18,17 @@ fn digit(n: u8) -> u8
     LETTERS + n
 }
 
-fn high(x: u8) -> u8
-    ensures { result ≡ hex_digit (x / 16) }
-{
-    digit(x / BASE)
-}
-
-fn low(x: u8) -> u8
-    ensures { result ≡ hex_digit (x % 16) }
-{
-    digit(x % BASE)
-}
-
 // Writes bytes in hexadecimal at a place of out, or nothing where they do not fit. There are twice as many digits as bytes, which may be
 // more than a number holds: so the room is halved, and they are not doubled, to see whether they fit.
 pub fn put(bytes: &[u8], out: &mut [u8], at: usize)
     ensures { out.new ≡ pasted out.old at (hexadecimal bytes.now) }
 {
-    let n = bytes.len();
-    if out.len() < at {
+    if out.len() < at || (out.len() - at) / 2 < bytes.len() {
         return;
     }
-    if (out.len() - at) / 2 < n {
-        return;
-    }
-    let mut k = 0;
-    let mut to = at;
-    while k < n {
-        out[to] = high(bytes[k]);
-        out[to + 1] = low(bytes[k]);
-        k += 1;
-        to += 2;
+    for (k, b) in bytes.iter().enumerate() {
+        let to = at + 2 * k;
+        out[to] = digit(*b / BASE);
+        out[to + 1] = digit(*b % BASE);
     }
 }

@@ -10,7 +10,7 @@ use program_line::answer_line::put_refusal;
 pub fn outcome(a: Answer, out: &mut [u8]) -> usize
     ensures { Outcome a out.old result out.new }
 {
-    if a.code == Answer::ACCEPTED {
+    if a.is_accepted() {
         return a.place;
     }
     put_refusal(out, 0, a)

@@ -1,15 +1,17 @@
 -- A line, written from the start of a buffer on, piece by piece; where it fits and where it does not. Assumes nothing.
-use mathlib.Core.Path.{◌≡◌, refl, sym, ◌∙◌, ap}
-use mathlib.Core.Bool.{cond}
+use mathlib.Core.Path.{◌≡◌, refl, sym, ◌∙◌, ap, ap₂, subst}
+use mathlib.Core.Bool.{Bool}
 use mathlib.Core.List.{List, [], ◌∷◌, ◌++◌, append_assoc}
 use Prim.Native.Nat.{ℕ, ◌+◌, ◌≤◌, ◌<◌}
 use native.Mathlib.Omega.{arith}
 use lib.ListN.{length, take, length-append}
 use borrow.Author.Tests.{le-leb, lt-leb}
+use Rattle.std.specs.Prelude.{Option, Some, None, IsSome, leb, unwrap_or}
+use Rattle.std.specs.Bool.{then_some}
 use Rattle.text.specs.Bytes.{ascii}
 use Rattle.text.specs.Digits.{in_digits}
 use Rattle.text.specs.Pasting.{pasted}
-use Rattle.text.proofs.Pasting.{pasted_no}
+use Rattle.text.proofs.Pasting.{pasted_no, length_pasted}
 use Rattle.answer.specs.declared.Answer.{Answer}
 use Rattle.program_line.specs.Line.{numbers}
 use Rattle.program_line.specs.Hex.{hexadecimal}
@@ -91,22 +93,39 @@ broken n d end e h =
 -- ---- where a line fits, and where it does not
 
 module _ (l d : List ℕ) where
-  pub put_whole : (r : ℕ) (after : List ℕ) → length l ≤ length d → r ≡ length l → after ≡ pasted d 0 l → Put l d r after
+  abbrev length_where : Bool → Option ℕ
+  length_where b = then_some b (length l)
+
+  pub put_whole : (r : ℕ) (after : List ℕ) → length l ≤ length d → r ≡ length l → after ≡ pasted d 0 l → Put l d (Some r) after
   put_whole r after h e f =
-      record { length' = e ∙ sym (ap (λ b. cond b (length l) 0) (le-leb (length l) (length d) h)); buffer = f }
+      record { length' = ap Some e ∙ sym (ap length_where (le-leb (length l) (length d) h)); buffer = f }
 
-  pub put_short : (after : List ℕ) → length d < length l → after ≡ pasted d 0 l → Put l d 0 after
-  put_short after h f = record { length' = sym (ap (λ b. cond b (length l) 0) (lt-leb (length l) (length d) h)); buffer = f }
+  pub put_none : length d < length l → Put l d None d
+  put_none h =
+      record { length' = sym (ap length_where (lt-leb (length l) (length d) h)); buffer = sym (pasted_no d 0 l (omega arith)) }
 
-  pub put_none : length d < length l → Put l d 0 d
-  put_none h = put_short d h (sym (pasted_no d 0 l (omega arith)))
+  -- by the length of the line, asked of the buffer afterwards
+  pub put_where : (n : ℕ) (r : Option ℕ) (after : List ℕ) → n ≡ length l → r ≡ then_some (leb n (length after)) n → after ≡ pasted d 0 l → Put l d r after
+  put_where n r after e f g =
+      record {
+        length' = f ∙ ap₂ (λ (m k : ℕ). then_some (leb m k) m) e (ap length g ∙ length_pasted d 0 l);
+        buffer = g;
+      }
 
--- a line that fits stands at the start
-pub put_taken : (l d : List ℕ) (r : ℕ) (after : List ℕ) → length l ≤ length d → Put l d r after → take r after ≡ l
-put_taken l d r after h p =
-    let e : r ≡ length l = p.length' ∙ ap (λ b. cond b (length l) 0) (le-leb (length l) (length d) h) in
-    ap (take r) p.buffer ∙ taken_out d l r e (omega arith)
+-- a line that fits stands at the start, and its length is told
+module _ (l d : List ℕ) (r : Option ℕ) (after : List ℕ) (h : length l ≤ length d) (p : Put l d r after) where
+  pub put_fits : r ≡ Some (length l)
+  put_fits = p.length' ∙ ap (λ b. then_some b (length l)) (le-leb (length l) (length d) h)
+
+  pub put_told : IsSome r
+  put_told = subst IsSome (sym put_fits) refl
+
+  pub put_length : (n : ℕ) → r ≡ Some n → n ≡ length l
+  put_length n e = ap (λ (o : Option ℕ). unwrap_or o 0) (sym e ∙ put_fits)
+
+  pub put_taken : (n : ℕ) → r ≡ Some n → take n after ≡ l
+  put_taken n e = ap (take n) p.buffer ∙ taken_out d l n (put_length n e) (omega (arith, put_length n e))
 
 -- only one result and one buffer fit
-pub put_one : (l d : List ℕ) (r r' : ℕ) (a a' : List ℕ) → Put l d r a → Put l d r' a' → (r ≡ r') × (a ≡ a')
+pub put_one : (l d : List ℕ) (r r' : Option ℕ) (a a' : List ℕ) → Put l d r a → Put l d r' a' → (r ≡ r') × (a ≡ a')
 put_one l d r r' a a' p q = (p.length' ∙ sym q.length', p.buffer ∙ sym q.buffer)

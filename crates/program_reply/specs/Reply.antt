@@ -1,5 +1,6 @@
 -- The lines that answer a feed. Assumes nothing.
-use Rattle.std.specs.Prelude.{◌≡◌, cond, List, [], ◌∷◌, ◌++◌, ℕ, leb, eqb, length}
+use Rattle.std.specs.Prelude.{◌≡◌, cond, List, [], ◌∷◌, ◌++◌, ℕ, Option, leb, eqb, length}
+use Rattle.std.specs.Bool.{then_some}
 use Prim.Native.Char.{code}
 use Rattle.text.specs.Bytes.{ascii}
 use Rattle.text.specs.Digits.{in_digits}
@@ -20,9 +21,9 @@ pair_line a p q = numbers a ++ (code " " ∷ (hexadecimal p ++ (code "/" ∷ (he
 unfoldable pub broken_line : ℕ → List ℕ
 broken_line n = ascii "feed broken at case " ++ (in_digits n ++ (code "\n" ∷ []))
 
--- a line put to the start of a buffer: r is its length, 0 where the buffer is too short; the buffer before and after
-pub record Put (l before : List ℕ) (r : ℕ) (after : List ℕ) : Type 0 where
-  pub length' : r ≡ cond (leb (length l) (length before)) (length l) 0
+-- a line put to the start of a buffer: r is its length, none where the buffer is too short; the buffer before and after
+pub record Put (l before : List ℕ) (r : Option ℕ) (after : List ℕ) : Type 0 where
+  pub length' : r ≡ then_some (leb (length l) (length before)) (length l)
   pub buffer : after ≡ pasted before 0 l
 
 -- "HEX is the image of an accepted check .., the file of an accepted write, else nothing": as many of the buffer's first bytes as the answer says

@@ -16,7 +16,9 @@ const BROKEN: [u8; 20] = *b"feed broken at case ";
 // Its most bytes.
 const BROKEN_LINE: usize = BROKEN.len() + decimal::MOST_DIGITS + 1;
 
-// What stands beside the numbers and the digits in the line of an answer with two parts: a blank, a slash, and LF.
+// What stands beside the numbers and the digits in the line of an answer: a blank and LF; with two parts a slash, too.
+const ANSWER_MARKS: usize = 2;
+
 const PAIR_MARKS: usize = 3;
 
 // The line of an answer into a buffer that holds it; how many bytes it is.
@@ -32,21 +34,17 @@ fn spread_answer(a: Answer, s: &[u8], out: &mut [u8]) -> usize
     end + 1
 }
 
-// Writes `CODE ROW PLACE HEX` and LF from the start of a buffer on, HEX being the bytes of s, and answers how many bytes it is; 0 where
-// it does not fit, and then nothing is changed. It is at most 64 bytes and two for each byte of s.
-pub fn put_answer(a: Answer, s: &[u8], out: &mut [u8]) -> usize
+// Writes `CODE ROW PLACE HEX` and LF from the start of a buffer on, HEX being the bytes of s, and answers how many bytes it is; none
+// where it does not fit, and then nothing is changed. It is at most 64 bytes and two for each byte of s.
+pub fn put_answer(a: Answer, s: &[u8], out: &mut [u8]) -> Option<usize>
     ensures put { Put (answer_line a s.now) out.old result out.new }
     ensures most { length (answer_line a s.now) ≤ longest_answer + (length s.now + length s.now) }
 {
-    let mut space = [0u8; ROOM];
-    let n = put_numbers(&mut space, 0, a) + 2;
-    if out.len() < n {
-        return 0;
+    let n = put_numbers(&mut [0u8; ROOM], 0, a) + ANSWER_MARKS;
+    if out.len() < n || (out.len() - n) / 2 < s.len() {
+        return None;
     }
-    if (out.len() - n) / 2 < s.len() {
-        return 0;
-    }
-    spread_answer(a, s, out)
+    Some(spread_answer(a, s, out))
 }
 
 // The line of an answer with two parts into a buffer that holds it; how many bytes it is.
@@ -65,25 +63,17 @@ fn spread_pair(a: Answer, s: &[u8], t: &[u8], out: &mut [u8]) -> usize
     end + 1
 }
 
-// Writes `CODE ROW PLACE HEX/HEX` and LF from the start of a buffer on, for two slices, and answers how many bytes it is; 0 where it does
-// not fit, and then nothing is changed. It is at most 65 bytes and two for each byte of the slices.
-pub fn put_pair(a: Answer, s: &[u8], t: &[u8], out: &mut [u8]) -> usize
+// Writes `CODE ROW PLACE HEX/HEX` and LF from the start of a buffer on, for two slices, and answers how many bytes it is; none where it
+// does not fit, and then nothing is changed. It is at most 65 bytes and two for each byte of the slices.
+pub fn put_pair(a: Answer, s: &[u8], t: &[u8], out: &mut [u8]) -> Option<usize>
     ensures put { Put (pair_line a s.now t.now) out.old result out.new }
     ensures most { length (pair_line a s.now t.now) ≤ longest_pair + (length s.now + length s.now) + (length t.now + length t.now) }
 {
-    let mut space = [0u8; ROOM];
-    let n = put_numbers(&mut space, 0, a) + PAIR_MARKS;
-    if out.len() < n {
-        return 0;
+    let n = put_numbers(&mut [0u8; ROOM], 0, a) + PAIR_MARKS;
+    if out.len() < n || (out.len() - n) / 2 < s.len() + t.len() {
+        return None;
     }
-    let room = (out.len() - n) / 2;
-    if room < s.len() {
-        return 0;
-    }
-    if room - s.len() < t.len() {
-        return 0;
-    }
-    spread_pair(a, s, t, out)
+    Some(spread_pair(a, s, t, out))
 }
 
 // The line of a broken feed into a buffer that holds it; how many bytes it is.
@@ -97,17 +87,14 @@ fn spread_broken(n: u64, buf: &mut [u8]) -> usize
     end + 1
 }
 
-// Writes `feed broken at case N` and LF from the start of a buffer on, and answers how many bytes it is; 0 where it does not fit, and
-// then nothing is changed. It is at most 41 bytes.
-pub fn put_broken(n: u64, out: &mut [u8]) -> usize
+// Writes `feed broken at case N` and LF from the start of a buffer on, and answers how many bytes it is; none where it does not fit,
+// and then nothing is changed. It is at most 41 bytes.
+pub fn put_broken(n: u64, out: &mut [u8]) -> Option<usize>
     ensures put { Put (broken_line n) out.old result out.new }
     ensures most { length (broken_line n) ≤ longest_broken }
 {
     let mut space = [0u8; BROKEN_LINE];
     let w = spread_broken(n, &mut space);
     copy(&space, 0, w, out, 0);
-    if out.len() < w {
-        return 0;
-    }
-    w
+    (w <= out.len()).then_some(w)
 }

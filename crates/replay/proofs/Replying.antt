@@ -2,12 +2,13 @@
 use mathlib.Core.Path.{◌≡◌, refl, sym, ◌∙◌, ap, ap₂, subst}
 use mathlib.Core.Bool.{Bool, true, false, cond}
 use mathlib.Core.List.{List, []}
-use Prim.Native.Nat.{ℕ, ◌+◌, ◌≤◌, ◌<◌}
+use Prim.Native.Nat.{ℕ, ◌+◌, ◌≤◌, ◌<◌, zero-le}
 use native.Mathlib.Omega.{arith}
 use native.Mathlib.Decide.{ℕ_discrete}
 use lib.Dec.{eqb}
 use lib.ListN.{length, take, drop, length-take}
-use borrow.Author.Tests.{le-leb, eqb-true}
+use borrow.Author.Tests.{eqb-true}
+use Rattle.std.specs.Prelude.{Option, Some, None}
 use Rattle.io.specs.Counts.{IsPrefixLen}
 use Rattle.text.specs.Numbers.{big_endian}
 use Rattle.text.proofs.Pasting.{length_pasted}
@@ -22,13 +23,14 @@ use Rattle.file.proofs.Rooms.{rooms_alike}
 use Rattle.file.proofs.answers.House.{accepted_exactly, accepted_image, image_no_longer}
 use Rattle.file_letter.specs.Tidies.{Tidies, turned_away, handed_on}
 use Rattle.file_letter.proofs.Tidying.{tidied_fits, tidied_alike}
+use Rattle.program_feed.specs.declared.case.Ask.{Ask}
+use Rattle.program_feed.specs.declared.case.Ask.TheVariants.{Check, Read, Pick, Write, Count, Tidy}
 use Rattle.program_feed.specs.declared.case.Case.{Case}
-use Rattle.program_feed.specs.declared.case.Case.TheVariants.{Check, Read, Pick, Write, Count, Tidy, Broken}
-use Rattle.program_feed.specs.Cases.{longest, case_of, size_of, case_in, bytes_in}
+use Rattle.program_feed.specs.Cases.{longest, case, case_of, size_of, case_in, bytes_in}
 use Rattle.program_reply.specs.Reply.{answer_line, pair_line, broken_line, held_length, Put}
-use Rattle.program_feed.proofs.Heads.{whole, Kept, kept}
+use Rattle.program_feed.proofs.Heads.{whole, Roomy, Kept, kept}
 use Rattle.program_held.proofs.Holding.{held_none, held_some}
-use Rattle.program_reply.proofs.Replies.{put_taken}
+use Rattle.program_reply.proofs.Replies.{put_told, put_length, put_taken}
 use Rattle.program_line.proofs.Lines.{counts}
 use Rattle.replay.specs.Replies.{held_by, ImageHeld, Filled, Checked, Measured, Tallied, Picked, Written, Tidied, Replies, checked, measured, tallied, picked, written, tidied, broken}
 
@@ -76,30 +78,31 @@ tidied_room s d e a d' e' t =
 
 -- ---- what stands there of a case
 
-module _ (s : List ℕ) where
-  of_case : (c : Case) → c ≡ case_in s → (c ≡ Broken → ⊥) → (13 + size_of c ≤ length s) × Kept c
-  of_case c e n = let w = whole s c e n in (w.1, subst Kept w.0 (kept s))
+module _ (s : List ℕ) (c : Case) (e : Some c ≡ case_in s) where
+  there : 13 + c.size ≤ length s
+  there = (whole s c e).1
 
-  pub in_check : (room size : ℕ) → Check room size ≡ case_in s → (13 + size ≤ length s) × ((size ≤ longest) × (room ≤ limit))
-  in_check room size e = of_case (Check room size) e (λ n. let z : ◌≡◌ {A = ℕ} 0 1 = cc in omega arith)
+  keeps : Kept (Some c)
+  keeps = subst Kept (whole s c e).0 (kept s)
 
-  pub in_write : (room size : ℕ) → Write room size ≡ case_in s → (13 + size ≤ length s) × ((size ≤ longest) × (room ≤ limit))
-  in_write room size e = of_case (Write room size) e (λ n. let z : ◌≡◌ {A = ℕ} 0 1 = cc in omega arith)
+  pub case_there : (13 + c.size ≤ length s) × (c.size ≤ longest)
+  case_there = (there, keeps.0)
 
-  pub in_read : (size : ℕ) → Read size ≡ case_in s → (13 + size ≤ length s) × (size ≤ longest)
-  in_read size e = let w = of_case (Read size) e (λ n. let z : ◌≡◌ {A = ℕ} 0 1 = cc in omega arith) in (w.0, w.1.0)
+  -- what it asks for
+  module _ {a : Ask} (f : c.ask ≡ a) where
+    pub roomy : Roomy a
+    roomy = subst Roomy f keeps.1
 
-  pub in_tidy : (room space size : ℕ) → Tidy room space size ≡ case_in s → (13 + size ≤ length s) × ((size ≤ longest) × ((room ≤ limit) × (space ≤ limit)))
-  in_tidy room space size e = of_case (Tidy room space size) e (λ n. let z : ◌≡◌ {A = ℕ} 0 1 = cc in omega arith)
+    pub asked : case_in s ≡ Some (case a c.size)
+    asked = sym e ∙ ap (λ (x : Ask). Some (case x c.size)) f
 
-  pub in_count : (size : ℕ) → Count size ≡ case_in s → 13 + size ≤ length s
-  in_count size e = (of_case (Count size) e (λ n. let z : ◌≡◌ {A = ℕ} 0 1 = cc in omega arith)).0
-
-  pub in_pick : (row n size : ℕ) → Pick row n size ≡ case_in s → (13 + size ≤ length s) × (size ≤ longest)
-  in_pick row n size e = let w = of_case (Pick row n size) e (λ m. let z : ◌≡◌ {A = ℕ} 0 1 = cc in omega arith) in (w.0, w.1.0)
-
-  pub size_most : (c : Case) (n : ℕ) → c ≡ case_of s → n ≡ size_of c → n ≤ longest
-  size_most c n e f = omega (arith, (kept s).0, f ∙ ap size_of e)
+-- of a head that asks for nothing there are none
+pub size_most : (s : List ℕ) (o : Option Case) (n : ℕ) → o ≡ case_of s → n ≡ size_of o → n ≤ longest
+size_most s o n e f = omega (arith, f, go o (subst Kept (sym e) (kept s)))
+  where
+    go : (x : Option Case) → Kept x → size_of x ≤ longest
+    go None w = zero-le
+    go (Some c) w = w.0
 
 pub bytes_most : (s b : List ℕ) (size : ℕ) → b ≡ bytes_in size s → size ≤ longest → length b ≤ longest
 bytes_most s b size e h = omega (arith, ap length e, length-take size (drop 13 s))
@@ -109,40 +112,40 @@ take_most n xs k h = omega (arith, length-take n xs)
 
 -- ---- a line that fits
 
-pub put_long : (l d : List ℕ) (r : ℕ) (after : List ℕ) → length l ≤ length d → Put l d r after → r ≤ length d
-put_long l d r after h p = omega (arith, p.length' ∙ ap (λ (b : Bool). cond b (length l) 0) (le-leb (length l) (length d) h))
-
-pub put_fitting : (l d : List ℕ) (r : ℕ) (after : List ℕ) → length l ≤ length d → Put l d r after → (take r after ≡ l) × IsPrefixLen r after
-put_fitting l d r after h p =
-    (put_taken l d r after h p, counts r after (omega (arith, put_long l d r after h p, ap length p.buffer, length_pasted d 0 l)))
+pub put_fitting : (l d : List ℕ) {r : Option ℕ} {after : List ℕ} → length l ≤ length d → Put l d r after → (n : ℕ) → r ≡ Some n → (take n after ≡ l) × IsPrefixLen n after
+put_fitting l d {r} {after} h p n e =
+    (put_taken l d r after h p n e, counts n after (omega (arith, put_length l d r after h p n e, ap length p.buffer, length_pasted d 0 l)))
 
 -- a tidying: the answer's line with what stands in either buffer
-pub put_tidied : (s d e d' e' : List ℕ) (a : Answer) → Tidies s d e a d' e' → (room m n : ℕ) → ImageHeld s room m → n ≡ held_length a → length d ≡ room → m ≤ limit → n ≤ limit → (line : List ℕ) (r : ℕ) (after : List ℕ) → 4194369 ≤ length line
-    → length (pair_line a (take m d') (take n e')) ≤ 65 + (length (take m d') + length (take m d')) + (length (take n e') + length (take n e')) → Put (pair_line a (take m d') (take n e')) line r after → Tidied s d e d' e' (take r after) × IsPrefixLen r after
-put_tidied s d e d' e' a t room m n h k i x y line r after z w p =
-    let q = tidies_checks s d e a d' e' t in
-    let g = put_fitting (pair_line a (take m d') (take n e')) line r after (omega (arith, w, z, take_most m d' limit x, take_most n e' limit y)) p in
-    let f : m ≡ held_length q.0 = h d q.0 d' i q.1 in
-    (record { answer = a; tidies = t; checked = q.0; checks = q.1; line = g.0 ∙ ap₂ (λ (j u : ℕ). pair_line a (take j d') (take u e')) f k }, g.1)
+module _ (s d e d' e' : List ℕ) (a : Answer) (t : Tidies s d e a d' e') (room m n : ℕ) (h : ImageHeld s room m) (k : n ≡ held_length a) where
+  pub put_tidied : length d ≡ room → (l : List ℕ) → l ≡ pair_line a (take m d') (take n e') → Tidied s d e d' e' l
+  put_tidied i l g =
+      let q = tidies_checks s d e a d' e' t in
+      let f : m ≡ held_length q.0 = h d q.0 d' i q.1 in
+      record { answer = a; tidies = t; checked = q.0; checks = q.1; line = g ∙ ap₂ (λ (j u : ℕ). pair_line a (take j d') (take u e')) f k }
 
--- a check, for a buffer that begins another
-pub put_check : (s : List ℕ) (k room size : ℕ) (b d d' l : List ℕ) → Check room size ≡ case_in s → b ≡ bytes_in size s → length d ≡ room → Checked b d d' l → Replies s k l
-put_check s k room size b d d' l e f n p = checked room size (sym e) d d' n (subst (λ (x : List ℕ). Checked x d d' l) f p)
+  pub tidied_long : m ≤ limit → n ≤ limit → length (pair_line a (take m d') (take n e')) ≤ 65 + (length (take m d') + length (take m d')) + (length (take n e') + length (take n e')) → length (pair_line a (take m d') (take n e')) ≤ 4194369
+  tidied_long x y w = omega (arith, w, take_most m d' limit x, take_most n e' limit y)
 
-pub put_write : (s : List ℕ) (k room size : ℕ) (b d d' l : List ℕ) → Write room size ≡ case_in s → b ≡ bytes_in size s → length d ≡ room → Written b d d' l → Replies s k l
-put_write s k room size b d d' l e f n p = written room size (sym e) d d' n (subst (λ (x : List ℕ). Written x d d' l) f p)
+-- what a call puts for a case is the case's line: b are its bytes, l is the line
+module _ (s : List ℕ) (k : ℕ) (c : Case) (e : Some c ≡ case_in s) (b : List ℕ) (i : b ≡ bytes_in c.size s) (l : List ℕ) where
+  pub put_check : (room : ℕ) → c.ask ≡ Check room → (d d' : List ℕ) → length d ≡ room → Checked b d d' l → Replies s k l
+  put_check room f d d' n p = checked room c.size (asked s c e f) d d' n (subst (λ (x : List ℕ). Checked x d d' l) i p)
 
-pub put_read : (s : List ℕ) (k size : ℕ) (b l : List ℕ) → Read size ≡ case_in s → b ≡ bytes_in size s → Measured b l → Replies s k l
-put_read s k size b l e f p = measured size (sym e) (subst (λ (x : List ℕ). Measured x l) f p)
+  pub put_read : c.ask ≡ Read → Measured b l → Replies s k l
+  put_read f p = measured c.size (asked s c e f) (subst (λ (x : List ℕ). Measured x l) i p)
 
-pub put_tidy : (s : List ℕ) (k room space size : ℕ) (b d e d' e' l : List ℕ) → Tidy room space size ≡ case_in s → b ≡ bytes_in size s → length d ≡ room → length e ≡ space → Tidied b d e d' e' l → Replies s k l
-put_tidy s k room space size b d e d' e' l q f m n p = tidied room space size (sym q) d e d' e' m n (subst (λ (x : List ℕ). Tidied x d e d' e' l) f p)
+  pub put_pick : (row n : ℕ) → c.ask ≡ Pick row n → Picked b row n l → Replies s k l
+  put_pick row n f p = picked row n c.size (asked s c e f) (subst (λ (x : List ℕ). Picked x row n l) i p)
 
-pub put_count : (s : List ℕ) (k size : ℕ) (b l : List ℕ) → Count size ≡ case_in s → b ≡ bytes_in size s → Tallied b l → Replies s k l
-put_count s k size b l e f p = tallied size (sym e) (subst (λ (x : List ℕ). Tallied x l) f p)
+  pub put_write : (room : ℕ) → c.ask ≡ Write room → (d d' : List ℕ) → length d ≡ room → Written b d d' l → Replies s k l
+  put_write room f d d' n p = written room c.size (asked s c e f) d d' n (subst (λ (x : List ℕ). Written x d d' l) i p)
 
-pub put_pick : (s : List ℕ) (k row n size : ℕ) (b l : List ℕ) → Pick row n size ≡ case_in s → b ≡ bytes_in size s → Picked b row n l → Replies s k l
-put_pick s k row n size b l e f p = picked row n size (sym e) (subst (λ (x : List ℕ). Picked x row n l) f p)
+  pub put_count : c.ask ≡ Count → Tallied b l → Replies s k l
+  put_count f p = tallied c.size (asked s c e f) (subst (λ (x : List ℕ). Tallied x l) i p)
+
+  pub put_tidy : (room space : ℕ) → c.ask ≡ Tidy room space → (d g d' g' : List ℕ) → length d ≡ room → length g ≡ space → Tidied b d g d' g' l → Replies s k l
+  put_tidy room space f d g d' g' m n p = tidied room space c.size (asked s c e f) d g d' g' m n (subst (λ (x : List ℕ). Tidied x d g d' g' l) i p)
 
 -- ---- only one line fits
 
@@ -192,15 +195,18 @@ tidy_one s d e d' e' g h g' h' l m i j p q =
     ∙ sym q.line
 
 -- what a case asks of its line
-abbrev Asks : List ℕ → ℕ → List ℕ → Case → Type 0
-Asks s k l (Check room size) = (d : List ℕ) × (d' : List ℕ) × (length d ≡ room) × Checked (bytes_in size s) d d' l
-Asks s k l (Read size) = Measured (bytes_in size s) l
-Asks s k l (Pick row n size) = Picked (bytes_in size s) row n l
-Asks s k l (Write room size) = (d : List ℕ) × (d' : List ℕ) × (length d ≡ room) × Written (bytes_in size s) d d' l
-Asks s k l (Count size) = Tallied (bytes_in size s) l
-Asks s k l (Tidy room space size) =
+abbrev Asked : List ℕ → ℕ → List ℕ → Ask → Type 0
+Asked s size l (Check room) = (d : List ℕ) × (d' : List ℕ) × (length d ≡ room) × Checked (bytes_in size s) d d' l
+Asked s size l Read = Measured (bytes_in size s) l
+Asked s size l (Pick row n) = Picked (bytes_in size s) row n l
+Asked s size l (Write room) = (d : List ℕ) × (d' : List ℕ) × (length d ≡ room) × Written (bytes_in size s) d d' l
+Asked s size l Count = Tallied (bytes_in size s) l
+Asked s size l (Tidy room space) =
     (d : List ℕ) × (e : List ℕ) × (d' : List ℕ) × (e' : List ℕ) × (length d ≡ room) × (length e ≡ space) × Tidied (bytes_in size s) d e d' e' l
-Asks s k l Broken = l ≡ broken_line k
+
+abbrev Asks : List ℕ → ℕ → List ℕ → Option Case → Type 0
+Asks s k l None = l ≡ broken_line k
+Asks s k l (Some c) = Asked s c.size l c.ask
 
 asks : (s : List ℕ) (k : ℕ) (l : List ℕ) → Replies s k l → Asks s k l (case_in s)
 asks s k l (checked r z e d d' n p) = subst (Asks s k l) (sym e) (d, d', n, p)
@@ -211,17 +217,20 @@ asks s k l (tallied z e p) = subst (Asks s k l) (sym e) p
 asks s k l (tidied r x z q d e d' e' m n p) = subst (Asks s k l) (sym q) (d, e, d', e', m, n, p)
 asks s k l (broken e q) = subst (Asks s k l) (sym e) q
 
-asks_one : (s : List ℕ) (k : ℕ) (l m : List ℕ) (c : Case) → Asks s k l c → Asks s k m c → l ≡ m
-asks_one s k l m (Check r z) (d, d', n, p) (e, e', i, q) =
+asked_one : (s : List ℕ) (z : ℕ) (l m : List ℕ) (a : Ask) → Asked s z l a → Asked s z m a → l ≡ m
+asked_one s z l m (Check r) (d, d', n, p) (e, e', i, q) =
     filled_one (Checks (bytes_in z s) d) (Checks (bytes_in z s) e) d' e' l m (λ a b. rooms_alike (bytes_in z s) d e (n ∙ sym i) a b d' e') p q
-asks_one s k l m (Read z) p q = read_one (bytes_in z s) l m p q
-asks_one s k l m (Pick w n z) p q = pick_one (bytes_in z s) w n l m p q
-asks_one s k l m (Write r z) (d, d', n, p) (e, e', i, q) =
+asked_one s z l m Read p q = read_one (bytes_in z s) l m p q
+asked_one s z l m (Pick w n) p q = pick_one (bytes_in z s) w n l m p q
+asked_one s z l m (Write r) (d, d', n, p) (e, e', i, q) =
     filled_one (Writes (bytes_in z s) d) (Writes (bytes_in z s) e) d' e' l m (λ a b. written_alike d e (n ∙ sym i) (bytes_in z s) a b d' e') p q
-asks_one s k l m (Count z) p q = count_one (bytes_in z s) l m p q
-asks_one s k l m (Tidy r x z) (d, e, d', e', i, j, p) (g, h, g', h', u, v, q) =
+asked_one s z l m Count p q = count_one (bytes_in z s) l m p q
+asked_one s z l m (Tidy r x) (d, e, d', e', i, j, p) (g, h, g', h', u, v, q) =
     tidy_one (bytes_in z s) d e d' e' g h g' h' l m (i ∙ sym u) (j ∙ sym v) p q
-asks_one s k l m Broken p q = p ∙ sym q
+
+asks_one : (s : List ℕ) (k : ℕ) (l m : List ℕ) (c : Option Case) → Asks s k l c → Asks s k m c → l ≡ m
+asks_one s k l m None p q = p ∙ sym q
+asks_one s k l m (Some c) p q = asked_one s c.size l m c.ask p q
 
 pub replies_one : (s : List ℕ) (k : ℕ) (l m : List ℕ) → Replies s k l → Replies s k m → l ≡ m
 replies_one s k l m p q = asks_one s k l m (case_in s) (asks s k l p) (asks s k m q)

@@ -1,13 +1,13 @@
 -- The line that answers a case of a feed. Assumes nothing.
-use Rattle.std.specs.Prelude.{◌≡◌, List, [], ℕ, length, take}
+use Rattle.std.specs.Prelude.{◌≡◌, List, [], ℕ, Some, None, length, take}
 use Rattle.answer.specs.declared.Answer.{Answer}
 use Rattle.text.specs.Numbers.{big_endian}
 use Rattle.image_reading.specs.Reads.{HouseReads, HouseCounts, HousePicks}
 use Rattle.file.specs.Checks.{Checks}
 use Rattle.file_letter.specs.Writes.{Writes}
 use Rattle.file_letter.specs.Tidies.{Tidies}
-use Rattle.program_feed.specs.declared.case.Case.TheVariants.{Check, Read, Pick, Write, Count, Tidy, Broken}
-use Rattle.program_feed.specs.Cases.{case_in, bytes_in}
+use Rattle.program_feed.specs.declared.case.Ask.TheVariants.{Check, Read, Pick, Write, Count, Tidy}
+use Rattle.program_feed.specs.Cases.{case, case_in, bytes_in}
 use Rattle.program_reply.specs.Reply.{answer_line, pair_line, broken_line, held_length}
 
 -- what an accepted call leaves in its buffer
@@ -61,16 +61,16 @@ pub record Tidied (s d e d' e' l : List ℕ) : Type 0 where
 -- s is the feed from the case on, as far as it was read; k is the case's number; l the line
 pub data Replies (s : List ℕ) (k : ℕ) (l : List ℕ) : Type 0 where
   -- for a buffer of so much room
-  checked : (room size : ℕ) → case_in s ≡ Check room size → (d d' : List ℕ) → length d ≡ room → Checked (bytes_in size s) d d' l → Replies s k l
-  measured : (size : ℕ) → case_in s ≡ Read size → Measured (bytes_in size s) l → Replies s k l
-  picked : (row n size : ℕ) → case_in s ≡ Pick row n size → Picked (bytes_in size s) row n l → Replies s k l
+  checked : (room size : ℕ) → case_in s ≡ Some (case (Check room) size) → (d d' : List ℕ) → length d ≡ room → Checked (bytes_in size s) d d' l → Replies s k l
+  measured : (size : ℕ) → case_in s ≡ Some (case Read size) → Measured (bytes_in size s) l → Replies s k l
+  picked : (row n size : ℕ) → case_in s ≡ Some (case (Pick row n) size) → Picked (bytes_in size s) row n l → Replies s k l
   -- for a buffer of so much room
-  written : (room size : ℕ) → case_in s ≡ Write room size → (d d' : List ℕ) → length d ≡ room → Written (bytes_in size s) d d' l → Replies s k l
-  tallied : (size : ℕ) → case_in s ≡ Count size → Tallied (bytes_in size s) l → Replies s k l
+  written : (room size : ℕ) → case_in s ≡ Some (case (Write room) size) → (d d' : List ℕ) → length d ≡ room → Written (bytes_in size s) d d' l → Replies s k l
+  tallied : (size : ℕ) → case_in s ≡ Some (case Count size) → Tallied (bytes_in size s) l → Replies s k l
   -- for two buffers of so much room
-  tidied : (room space size : ℕ) → case_in s ≡ Tidy room space size → (d e d' e' : List ℕ) → length d ≡ room → length e ≡ space → Tidied (bytes_in size s) d e d' e' l → Replies s k l
+  tidied : (room space size : ℕ) → case_in s ≡ Some (case (Tidy room space) size) → (d e d' e' : List ℕ) → length d ≡ room → length e ≡ space → Tidied (bytes_in size s) d e d' e' l → Replies s k l
   -- "A feed that breaks off, names another op or a greater length ends with the line `feed broken at case N` (N from 0)"
-  broken : case_in s ≡ Broken → l ≡ broken_line k → Replies s k l
+  broken : case_in s ≡ None → l ≡ broken_line k → Replies s k l
 
 -- n bytes of its image are what check leaves of the file s in a buffer of so much room, whatever stood there
 abbrev pub ImageHeld : List ℕ → ℕ → ℕ → Type 0

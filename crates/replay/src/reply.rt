@@ -7,7 +7,7 @@ ghost use Rattle.replay.specs.Replies.{held_by, ImageHeld, Checked, Measured, Ta
 ghost use Rattle.answer.specs.Table.{limit};
 
 use answer::Answer;
-use program_feed::case::{Case, HEAD, case_in};
+use program_feed::case::{Ask, HEAD, case_in};
 use program_held::{held, put_bare, put_count};
 use program_reply::{put_answer, put_broken, put_pair};
 use text::part::part_of;
@@ -24,7 +24,7 @@ fn put_line(a: Answer, s: &[u8], line: &mut [u8]) -> usize
     ensures is { take result line.new ≡ answer_line a s.now }
     ensures within { IsPrefixLen result line.new }
 {
-    put_answer(a, s, line)
+    put_answer(a, s, line).unwrap()
 }
 
 // The line of a call's answer, with what it then holds in the buffer that it was lent.
@@ -62,7 +62,7 @@ fn measured(run: &[u8], line: &mut [u8]) -> usize
     ensures is { Measured run.now (take result line.new) }
     ensures within { IsPrefixLen result line.new }
 {
-    put_bare(read(run), line)
+    put_bare(read(run), line).unwrap()
 }
 
 // How many bytes of a file's image check leaves in a buffer of so much room: by the file alone, so that the buffer itself shows what was written.
@@ -86,7 +86,7 @@ fn tidied(file: &[u8], image: &mut [u8], out: &mut [u8], line: &mut [u8]) -> usi
     let a = tidy(file, image, out);
     let m = image_held(file, image.len());
     let n = held(a);
-    put_pair(a, &image[..m], &out[..n], line)
+    put_pair(a, &image[..m], &out[..n], line).unwrap()
 }
 
 // A read, with the number of items in four bytes.
@@ -96,7 +96,7 @@ fn tallied(run: &[u8], line: &mut [u8]) -> usize
     ensures within { IsPrefixLen result line.new }
 {
     let told = reading(run);
-    put_count(told.answer, told.count, line)
+    put_count(told.answer, told.count, line).unwrap()
 }
 
 // A pick, with its part.
@@ -115,9 +115,7 @@ fn bytes_behind<'a>(feed: &'a [u8], size: usize) -> &'a [u8]
     requires { head_size + size ≤ length feed.now }
     ensures { result.now ≡ bytes_in size feed.now }
 {
-    let end = HEAD + size;
-    let behind = &feed[HEAD..end];
-    behind
+    &feed[HEAD..HEAD + size]
 }
 
 // The line for the case that a feed begins with, its number counted from 0; how many bytes it is. Of the feed, no more than the case need be there.
@@ -132,18 +130,18 @@ pub(crate) fn reply(
     ensures is { Replies feed.now number (take result line.new) }
     ensures within { IsPrefixLen result line.new }
 {
-    match case_in(feed) {
-        Case::Check { room, size } => checked(bytes_behind(feed, size), &mut buffer[..room], line),
-        Case::Read { size } => measured(bytes_behind(feed, size), line),
-        Case::Pick { row, nth, size } => part_picked(bytes_behind(feed, size), row, nth, line),
-        Case::Write { room, size } => written(bytes_behind(feed, size), &mut buffer[..room], line),
-        Case::Count { size } => tallied(bytes_behind(feed, size), line),
-        Case::Tidy { room, space, size } => tidied(
-            bytes_behind(feed, size),
-            &mut buffer[..room],
-            &mut second[..space],
-            line,
-        ),
-        Case::Broken => put_broken(number, line),
+    let Some(case) = case_in(feed) else {
+        return put_broken(number, line).unwrap();
+    };
+    let bytes = bytes_behind(feed, case.size);
+    match case.ask {
+        Ask::Check { room } => checked(bytes, &mut buffer[..room], line),
+        Ask::Read => measured(bytes, line),
+        Ask::Pick { row, nth } => part_picked(bytes, row, nth, line),
+        Ask::Write { room } => written(bytes, &mut buffer[..room], line),
+        Ask::Count => tallied(bytes, line),
+        Ask::Tidy { room, space } => {
+            tidied(bytes, &mut buffer[..room], &mut second[..space], line)
+        }
     }
 }

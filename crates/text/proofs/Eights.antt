@@ -6,20 +6,15 @@ use lib.Count.{trailing_le}
 use Rattle.text.specs.Lists.{span}
 use Rattle.text.specs.Bytes.{is_ascii, is_blank}
 use Rattle.text.specs.Little.{little, Loaded}
-use Rattle.text.specs.mirror.Zeros.{zero_bytes}
+use Rattle.text.specs.mirror.Zeros.{zero_bytes, Multiple, Tells}
 use Rattle.text.proofs.Classes.{is_ascii_lem}
 use Rattle.text.proofs.Spans.{span_jump}
 use Rattle.text.proofs.Littles.{repeated, begins_alike, begins_masked}
-use Rattle.text.proofs.Zeros.{Multiple, zeros_bytes}
+use Rattle.text.proofs.Zeros.{zeros_bytes}
 
 -- the zeros of 64 bits are eight bytes at most
 pub few : (d r : ℕ) → r ≡ zero_bytes d → r ≤ 8
 few d r e = omega (arith, e, trailing_le 64 d)
-
--- where d is a multiple of 256 to the q, the first q of the eight bytes at i pass
-pub record Tells (p : ℕ → Bool) (s : List ℕ) (i d : ℕ) : Type 0 where
-  pub room : i + 8 ≤ length s
-  pub passing : (q : ℕ) → q ≤ 8 → Multiple (256 ^ q) d → (k : ℕ) → k < q → p (get_or s (i + k) 0) ≡ true
 
 -- ---- a loop that has come to i: what is still to come makes up the answer n
 
@@ -68,11 +63,11 @@ module _ (s : List ℕ) (i x : ℕ) (l : Loaded 8 s i x) (h : i + 8 ≤ length s
     tells_blanks = record { room = h; passing = λ q b m k j. ap is_blank (space q b m k j) }
 
   -- their top bits
-  pub tells_ascii : Tells is_ascii s i (bit_and x (repeated 128 8))
-  tells_ascii = record {
+  pub tells_ascii : (d : ℕ) → d ≡ bit_and x (repeated 128 8) → Tells is_ascii s i d
+  tells_ascii d z = record {
     room = h;
     passing = λ q b m k j.
-        let e : bit_and (little (take 8 (drop i s))) (repeated 128 8) ≡ m.times * 256 ^ q = ap (λ (y : ℕ). bit_and y (repeated 128 8)) (sym l.is) ∙ m.is in
+        let e : bit_and (little (take 8 (drop i s))) (repeated 128 8) ≡ m.times * 256 ^ q = ap (λ (y : ℕ). bit_and y (repeated 128 8)) (sym l.is) ∙ sym z ∙ m.is in
         let w = begins_masked 128 (omega arith) 8 q m.times (take 8 (drop i s)) b l.bytes e k j in
         ap is_ascii (there k (omega arith)) ∙ top_none (get_or (take 8 (drop i s)) k 0) w.0 w.1;
   }

@@ -1,6 +1,7 @@
 -- Bytes as a number, the first the least. Assumes nothing.
-use Rattle.std.proofs.Common.{◌≡◌, ℕ, zero, suc, ◌+◌, ◌*◌, ◌^◌, ◌<◌, ◌≤◌, List, [], ◌∷◌, ◌++◌, length, get_or, take, drop, sym, refl, ap, ◌∙◌, subst, ap₂, mul_assoc, pow-suc, arith, drop_of_length-le, drop-cons, drop-drop, take-add}
+use Rattle.std.proofs.Common.{◌≡◌, ℕ, zero, suc, ◌+◌, ◌*◌, ◌^◌, ◌<◌, ◌≤◌, List, [], ◌∷◌, ◌++◌, length, get_or, take, drop, sym, refl, ap, ◌∙◌, subst, ap₂, mul_assoc, pow-suc, arith, drop_of_length-le, drop-cons, drop-drop, take-add, take-take, w64, ◌-◌}
 use native.Mathlib.Decide.{dec_lt}
+use Rattle.std.specs.Int.{from_le_bytes}
 use lib.Bits.{bit_and, and_block, and_lt, and_zero_l}
 use lib.ListN.{get_or-eq_default}
 use lib.Seq.{take-nil}
@@ -89,12 +90,33 @@ load_eight s at a b n x y e =
       bytes = subst (Each Byte) (sym (take-add 4 4 (drop at s))) (each_append Byte (take 4 (drop at s)) (take 4 (drop 4 (drop at s))) x.bytes (subst (λ (l : List ℕ). Each Byte (take 4 l)) (sym h) y.bytes));
     }
 
--- the same eight bytes, four by four
-pub load_eights : (s : List ℕ) (at a b n : ℕ) → a ≡ little (four_at s at) → Each Byte (four_at s at)
-    → b ≡ little (four_at s (at + 1 + 1 + 1 + 1)) → Each Byte (four_at s (at + 1 + 1 + 1 + 1)) → n ≡ a + 4294967296 * b → Loaded 8 s at n
-load_eights s at a b n e h f g i =
-    let j : at + 1 + 1 + 1 + 1 ≡ at + 4 = omega arith in
-    load_eight s at a b n (load_four s at a e h) (subst (λ (m : ℕ). Loaded 4 s m b) j (load_four s (at + 1 + 1 + 1 + 1) b f g)) i
+-- the library's number of eight bytes, of which each is in range
+bytes_of : (k : ℕ) (s : List ℕ) (at : ℕ) → ((i : ℕ) → get_or s i 0 < 256) → Each Byte (take k (drop at s))
+bytes_of zero s at h = tt
+bytes_of (suc k) s at h = bytes_one k s at (h at) (bytes_of k s (suc at) h)
+
+little_all : (l : List ℕ) → from_le_bytes w64 l ≡ little (take 8 l)
+unfolding little
+little_all l =
+    let a = little_one 7 l 0 in
+    let b = little_one 6 l 1 in
+    let c = little_one 5 l 2 in
+    let d = little_one 4 l 3 in
+    let e = little_one 3 l 4 in
+    let f = little_one 2 l 5 in
+    let g = little_one 1 l 6 in
+    let h = little_one 0 l 7 in
+    let o : little (take 0 (drop 8 l)) ≡ 0 = refl in
+    omega (arith, a, b, c, d, e, f, g, h)
+
+pub load_all : (s l : List ℕ) (at n : ℕ) → ((i : ℕ) → get_or s i 0 < 256) → l ≡ take 8 (take (at + 8 - at) (drop at s)) → n ≡ from_le_bytes w64 l → Loaded 8 s at n
+load_all s l at n h e f =
+    let g : at + 8 - at ≡ 8 = omega arith in
+    let m : l ≡ take 8 (drop at s) = e ∙ ap (λ (k : ℕ). take 8 (take k (drop at s))) g ∙ take-take 8 8 (drop at s) (omega arith) in
+    record {
+      is = f ∙ little_all l ∙ ap (λ (x : List ℕ). little (take 8 x)) m ∙ ap little (take-take 8 8 (drop at s) (omega arith));
+      bytes = bytes_of 8 s at h;
+    }
 
 -- near the end, counted from a place on
 pub load_near : (s : List ℕ) (at j a b c d n : ℕ) → a ≡ get_or s (at + j) 0 → b ≡ get_or s (at + (j + 1)) 0 → c ≡ get_or s (at + (j + 1 + 1)) 0 → d ≡ get_or s (at + (j + 1 + 1 + 1)) 0

@@ -1,12 +1,11 @@
 -- Numbers as big-endian bytes and back, over the width. Assumes nothing.
-use Rattle.std.proofs.Common.{◌≡◌, ℕ, zero, suc, ◌+◌, ◌-◌, ◌*◌, ◌/◌, ◌%◌, ◌^◌, ◌<◌, ◌≤◌, List, [], ◌∷◌, ◌++◌, length, get_or, take, drop, sym, refl, ap, ◌∙◌, subst, zero-le, pow-suc, add-one, arith, length-append, length-drop, drop_of_length-le, length-take, length-take-le, get_or-drop, take_all, drop-cons, get_or-take, take-suc, take_at, drop_at}
-use native.Mathlib.Nat.{pow-le-pow_right}
-use lib.Seq.{slice}
+use Rattle.std.proofs.Common.{◌≡◌, ℕ, zero, suc, ◌+◌, ◌-◌, ◌*◌, ◌/◌, ◌%◌, ◌^◌, ◌<◌, ◌≤◌, List, [], ◌∷◌, ◌++◌, length, get_or, take, drop, sym, refl, ap, ap₂, mul_comm, ◌∙◌, subst, pow-suc, add-one, arith, length-append, drop_of_length-le, length-take-le, take_all, drop-cons, take-suc, take_at, drop_at}
+use native.Mathlib.Nat.{pow-le-pow_right, div-div-eq-div-mul}
+use Rattle.std.specs.Int.{byte_at, bytes_high_first}
 use Rattle.text.specs.Lists.{Each}
 pub use Rattle.text.specs.Little.{Byte}
 use Rattle.text.specs.Numbers.{big_endian, number_from, number}
 use Rattle.text.specs.Pasting.{pasted}
-use Rattle.text.proofs.Parts.{part_length}
 use Rattle.text.proofs.Pasting.{rest_pasted}
 use Rattle.text.proofs.Lasts.{Made}
 
@@ -112,71 +111,48 @@ pub big_made : Made big_endian (λ (n : ℕ). n / 256) (λ (n : ℕ). n % 256)
 unfolding big_endian
 big_made = record { none = λ n. refl; long = big_length; more = big_pred }
 
--- ---- a loop that has read k bytes of n, which write r
+-- the library's bytes of a number
+high_shift : (k n : ℕ) → bytes_high_first (suc k) n ≡ bytes_high_first k (n / 256) ++ ((n % 256) ∷ [])
+high_shift zero n = refl
+high_shift (suc k) n = ap₂ (λ (b : ℕ) (l : List ℕ). b ∷ l) (byte_shift k) (high_shift k n)
+  where
+    byte_shift : (j : ℕ) → byte_at (suc j) n ≡ byte_at j (n / 256)
+    byte_shift zero = refl
+    byte_shift (suc j) =
+        ap (λ (w : ℕ). n / w % 256) (pow-suc 256 (suc j) ∙ mul_comm (256 ^ suc j) 256) ∙ ap (λ (w : ℕ). w % 256) (sym (div-div-eq-div-mul n 256 (256 ^ suc j)))
 
-pub record Getting (s : List ℕ) (at w n r k : ℕ) : Type 0 where
-  pub count : n ≡ length (take w (drop at s))
-  pub upto : k ≤ n
+pub big_high : (k n : ℕ) → bytes_high_first k n ≡ big_endian k n
+unfolding big_endian
+big_high zero n = refl
+big_high (suc k) n = high_shift k n ∙ ap (λ (l : List ℕ). l ++ ((n % 256) ∷ [])) (big_high k (n / 256))
+
+-- ---- a loop that has read k bytes of s, which write r
+
+pub record Getting (s : List ℕ) (r k : ℕ) : Type 0 where
   pub below : r < 256 ^ k
-  pub here : number_from r (drop k (take w (drop at s))) ≡ number (take w (drop at s))
+  pub here : number_from r (drop k s) ≡ number s
 
--- of w bytes, as many as there are
-module _ (s : List ℕ) (at w m : ℕ) (e : m ≡ length (slice at (length s) s)) where
-  pub get_less : m < w → m ≡ length (take w (drop at s))
-  get_less h = omega (arith, part_length at (length s) s, length-take w (drop at s), length-drop at s)
+pub get_start : (s : List ℕ) → Getting s 0 0
+get_start s = record { below = omega arith; here = refl }
 
-  pub get_whole : w ≤ m → w ≡ length (take w (drop at s))
-  get_whole h = omega (arith, part_length at (length s) s, length-take w (drop at s), length-drop at s)
+module _ (s : List ℕ) (r k : ℕ) (g : Getting s r k) where
+  pub get_end : length s ≤ k → r ≡ number s
+  unfolding number_from
+  get_end h = ap (number_from r) (sym (drop_of_length-le s h)) ∙ g.here
 
-module _ (s : List ℕ) (at w n : ℕ) where
-  pub get_start : n ≡ length (take w (drop at s)) → Getting s at w n 0 0
-  get_start e =
+  -- the next one fits in 64 bits
+  pub get_fits : k < 8 → r < 256 ^ 7
+  get_fits b =
+      let i : k ≤ 7 = omega arith in
+      let q : 256 ^ k ≤ 256 ^ 7 = pow-le-pow_right (omega arith) i in
+      omega (arith, g.below)
+
+  pub get_again : (x : ℕ) → x ≡ get_or s k 0 → k < length s → get_or s k 0 < 256 → Getting s (r * 256 + x) (k + 1)
+  unfolding number_from
+  get_again x e h b =
+      let c : drop k s ≡ get_or s k 0 ∷ drop (k + 1) s = rw (add-one k) (drop-cons s k 0 h) in
+      let p : 256 ^ (k + 1) ≡ 256 ^ k * 256 = ap (λ (m : ℕ). 256 ^ m) (add-one k) ∙ pow-suc 256 k in
       record {
-        count = e;
-        upto = zero-le;
-        below = omega arith;
-        here = refl;
+        below = omega (arith, g.below);
+        here = ap (λ (z : ℕ). number_from (r * 256 + z) (drop (k + 1) s)) e ∙ ap (number_from r) (sym c) ∙ g.here;
       }
-
-  module _ (r k : ℕ) (g : Getting s at w n r k) where
-    width : n ≤ w
-    width = omega (arith, g.count, length-take w (drop at s))
-
-    pub get_end : n ≤ k → r ≡ number (take w (drop at s))
-    unfolding number_from
-    get_end h =
-        let l : length (take w (drop at s)) ≤ k = omega (arith, g.count) in
-        ap (number_from r) (sym (drop_of_length-le (take w (drop at s)) l)) ∙ g.here
-
-    pub get_below : r < 256 ^ w
-    get_below =
-        let i : k ≤ w =
-        omega (arith, g.upto, width) in let q : 256 ^ k ≤ 256 ^ w = pow-le-pow_right (omega arith) i in omega (arith, g.below)
-
-    module _ (h : k < n) where
-      pub get_room : at + k < length s
-      get_room = omega (arith, g.count, length-take w (drop at s), length-drop at s)
-
-      -- the next one fits in 64 bits
-      pub get_fits : w ≤ 8 → r < 256 ^ 7
-      get_fits b =
-          let i : k ≤ 7 = omega (arith, width) in let q : 256 ^ k ≤ 256 ^ 7 = pow-le-pow_right (omega arith) i in omega (arith, g.below)
-
-      pub get_again : (x : ℕ) → x ≡ get_or s (at + k) 0 → x < 256 → Getting s at w n (r * 256 + x) (k + 1)
-      unfolding number_from
-      get_again x e b =
-          let l : k < length (take w (drop at s)) = omega (arith, g.count) in
-          let i : k < w = omega (arith, width) in
-          let y : get_or (take w (drop at s)) k 0 ≡ x = get_or-take w (drop at s) k 0 i ∙ get_or-drop at s k 0 ∙ sym e in
-          let c : drop k (take w (drop at s)) ≡ get_or (take w (drop at s)) k 0 ∷ drop (k + 1) (take w (drop at s)) =
-          rw (add-one k) (drop-cons (take w (drop at s)) k 0 l) in
-          let p : 256 ^ (k + 1) ≡ 256 ^ k * 256 = ap (λ (m : ℕ). 256 ^ m) (add-one k) ∙ pow-suc 256 k in
-          record {
-            count = g.count;
-            upto = omega arith;
-            below = omega (arith, g.below);
-            here =
-                ap (λ (z : ℕ). number_from (r * 256 + z) (drop (k + 1) (take w (drop at s)))) (sym y)
-                ∙ ap (number_from r) (sym c)
-                ∙ g.here;
-          }

@@ -1,11 +1,11 @@
 -- A list written into another: what stands where afterwards, and lists written one after the other. Assumes nothing.
-use Rattle.std.proofs.Common.{◌≡◌, ℕ, ◌+◌, ◌-◌, ◌<◌, ◌≤◌, List, [], ◌∷◌, ◌++◌, length, get_or, take, drop, set, sym, refl, ap, ◌∙◌, ap₂, append_assoc, zero-le, add-zero, add_assoc, add-one, arith, length-append, length-drop, length-set, take-append-drop, drop_of_length-le, length-take-le, get_or-drop, drop-cons, get_or-take, take-take, drop-drop, take_at, drop_at, le-leb}
+use Rattle.std.proofs.Common.{◌≡◌, ℕ, ◌+◌, ◌-◌, ◌<◌, ◌≤◌, List, [], ◌∷◌, ◌++◌, length, get_or, take, drop, set, sym, refl, ap, ◌∙◌, ap₂, append_assoc, add-zero, add-one, arith, length-append, length-drop, take-append-drop, length-take-le, get_or-drop, get_or-take, take-take, drop-drop, take_at, drop_at, le-leb}
 use native.Mathlib.Decide.{dec_le}
 use lib.ListN.{get_or-append}
 use lib.Seq.{slice, set_split}
 use borrow.Author.Tests.{lt-leb}
 use Rattle.text.specs.Pasting.{pasted}
-use Rattle.text.proofs.Parts.{part_take, part_room, part_at}
+use Rattle.text.proofs.Parts.{part_take}
 
 -- ---- where it does not fit, and where it does
 
@@ -122,46 +122,13 @@ pub pasted_last : (d : List ℕ) (at : ℕ) (u : List ℕ) (x : ℕ) → at + (l
     → pasted (set d (at + length u) x) at u ≡ pasted d at (u ++ (x ∷ []))
 pasted_last d at u x h = rw (← pasted_one d (at + length u) x (omega arith)) (pasted_before d at u (x ∷ []) h)
 
--- ---- a loop that has copied k elements of a part
-
-pub record Copying (src : List ℕ) (a b : ℕ) (d₀ : List ℕ) (at n : ℕ) (d : List ℕ) (k : ℕ) : Type 0 where
-  pub part : n ≡ length (slice a b src)
-  pub upto : k ≤ n
-  pub room : at + n ≤ length d
-  pub long : length d ≡ length d₀
-  pub here : pasted d (at + k) (drop k (slice a b src)) ≡ pasted d₀ at (slice a b src)
+-- ---- a part written over
 
 pub copy_not : (d : List ℕ) (at : ℕ) (vs : List ℕ) (n : ℕ) → n ≡ length vs → length d < at + n → d ≡ pasted d at vs
 copy_not d at vs n e h = sym (pasted_no d at vs (omega arith))
 
-module _ (src : List ℕ) (a b : ℕ) (d₀ : List ℕ) (at n : ℕ) where
-  pub copy_start : n ≡ length (slice a b src) → at + n ≤ length d₀ → Copying src a b d₀ at n d₀ 0
-  copy_start e h = record { part = e; upto = zero-le; room = h; long = refl; here = rw add-zero }
-
-  module _ (d : List ℕ) (k : ℕ) (w : Copying src a b d₀ at n d k) where
-    pub copy_end : n ≤ k → d ≡ pasted d₀ at (slice a b src)
-    copy_end h =
-        let l : length (slice a b src) ≤ k = omega (arith, w.part) in
-        sym (pasted_none d (at + k)) ∙ ap (pasted d (at + k)) (sym (drop_of_length-le (slice a b src) l)) ∙ w.here
-
-    module _ (h : k < n) where
-      inside : k < length (slice a b src)
-      inside = omega (arith, w.part)
-
-      pub copy_from : a + k < length src
-      copy_from = part_room a b k src inside
-
-      pub copy_again : Copying src a b d₀ at n (set d (at + k) (get_or src (a + k) 0)) (k + 1)
-      copy_again =
-          let x : ℕ = get_or (slice a b src) k 0 in
-          let e : drop k (slice a b src) ≡ x ∷ drop (k + 1) (slice a b src) = rw (add-one k) (drop-cons (slice a b src) k 0 inside) in
-          let l : length (drop (k + 1) (slice a b src)) ≡ n - (k + 1) = omega (arith, w.part, length-drop (k + 1) (slice a b src)) in
-          record {
-            part = w.part;
-            upto = omega arith;
-            room = omega (arith, w.room, length-set d (at + k) (get_or src (a + k) 0));
-            long = length-set d (at + k) (get_or src (a + k) 0) ∙ w.long;
-            here =
-                rw (← add_assoc at k 1, ← part_at a b k src inside)
-                (pasted_first d (at + k) x (drop (k + 1) (slice a b src)) (omega (arith, w.room)) ∙ ap (pasted d (at + k)) (sym e) ∙ w.here);
-          }
+pub copy_over : (d ys vs : List ℕ) (at : ℕ) → at + length vs ≤ length d → ys ≡ vs → take at d ++ (ys ++ drop (at + length vs - at) (drop at d)) ≡ pasted d at vs
+copy_over d ys vs at h e =
+    let f : at + (at + length vs - at) ≡ at + length vs = omega arith in
+    let g : drop (at + length vs - at) (drop at d) ≡ drop (at + length vs) d = drop-drop (at + length vs - at) at d ∙ ap (λ (n : ℕ). drop n d) f in
+    ap₂ (λ (y z : List ℕ). take at d ++ (y ++ z)) e g ∙ sym (pasted_yes d at vs h)

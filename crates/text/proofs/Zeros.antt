@@ -1,10 +1,7 @@
 -- The zeros at a number's end, by bits and by bytes. Assumes nothing.
 use Rattle.std.proofs.Common.{◌≡◌, ℕ, zero, suc, ◌+◌, ◌*◌, ◌/◌, ◌%◌, ◌^◌, sym, refl, ap, ◌∙◌, mul_assoc, pow-suc, mul-one, arith, pow-add}
 use lib.Count.{count_trailing_zeros, under}
-
-pub record Multiple (m n : ℕ) : Type 0 where
-  pub times : ℕ
-  pub is : n ≡ times * m
+use Rattle.text.specs.mirror.Zeros.{Multiple}
 
 zeros_bits : (k n : ℕ) → Multiple (2 ^ count_trailing_zeros k n) n
 unfolding count_trailing_zeros

@@ -1,5 +1,6 @@
 // Bytes by class. Where a span of text runs over a class, no two neighbours stand in one row: such rows become one test of a mask,
 // and a row of neighbours, or a second range, would be one more branch for each byte.
+// Kept: ranges and no methods of the library, as document 01 has the classes.
 
 ghost use Rattle.std.specs.Prelude.{◌≡◌};
 ghost use Rattle.text.specs.Bytes.{is_blank, is_capital, is_letter, is_digit, is_name_start};

@@ -3,6 +3,7 @@
 #![tactic(auto)]
 
 pub mod class; // class.rt: bytes by class
+pub mod run; // run.rt: how far a class reaches, by any test of a byte
 pub mod span; // span.rt: how far a class reaches
 pub mod chunk; // chunk.rt: bytes as one number
 pub mod part; // part.rt: parts of slices, cut out and compared

@@ -10,6 +10,7 @@ pub fn read(run: &[u8]) -> Answer
 }
 
 // The same answer with the items that were taken for it, the closing 0 among them.
+// Kept: document 01 has the count beside the answer ("The reader returns the number of items it took"), and both are told of a refusal too.
 #[derive(Clone, Copy)]
 pub struct Counted {
     pub answer: Answer,
@@ -20,10 +21,14 @@ pub fn reading(run: &[u8]) -> Counted
     ensures is { HouseReads run.now result.answer }
     ensures counts { HouseCounts run.now result.answer result.count }
 {
-    let told = image_first::reading(run);
-    let answer = told.answer;
-    Counted {
-        answer,
-        count: told.count,
+    match image_first::reading(run) {
+        Ok(image) => Counted {
+            answer: Answer::accepted(image.length),
+            count: image.count,
+        },
+        Err(refusal) => Counted {
+            answer: refusal.answer,
+            count: refusal.count,
+        },
     }
 }

@@ -1,4 +1,5 @@
 // The unit for C, a static library: each export calls the unit's function of its name, under the same clauses. A slice is a pointer and its length.
+// Kept: the C interface; a caller in C is handed a code as a number, and the row and the place through pointers.
 #![tactic(auto)]
 
 ghost use Rattle.answer.specs.Handed.{handed};

@@ -13,7 +13,5 @@ pub mod Amounts
 pub mod Numbered
 -- what the end of a value means, for a leaf of a list
 pub mod Meaning
--- the answers of `value_end`
-pub mod Placing
 -- texts: REF, TXTk, IBAN and CCY
 pub mod texts

@@ -5,8 +5,6 @@ pub mod Values
 pub mod Shaped
 -- types by their numbers
 pub mod Numbered
--- a judgement that no arm of a match takes
-pub mod Variants
 -- judgements by kind are right
 pub mod Rights
 -- the decision finds exactly the value that characters spell

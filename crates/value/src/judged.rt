@@ -1,4 +1,11 @@
-// What the raw text of a leaf is judged to be: the value, or that it has none.
+// What the raw text of a leaf is judged to be; `None` of this, where it has no value.
+
+#[derive(Clone, Copy)]
+pub struct Day {
+    pub year: u16,
+    pub month: u8,
+    pub day: u8,
+}
 
 // A moment is its written parts: microseconds, and offset minutes plus 840.
 #[derive(Clone, Copy)]
@@ -15,13 +22,12 @@ pub struct Moment {
 
 #[derive(Clone, Copy)]
 pub enum Judged {
-    Refused,
     // a text whose characters have so many bytes; they stand in the raw text
     Text(usize),
     Truth(bool),
     Natural(u64),
     // coefficient and scale; the currency stands in its attribute
     Amount(u64, u8),
-    Day(u16, u8, u8),
+    Day(Day),
     Moment(Moment),
 }

@@ -1,6 +1,6 @@
 // AMT: one pass over the digits, a function for each stage, each the tail call of the one before.
 
-ghost use Rattle.std.specs.Prelude.{◌^◌, ◌≤◌, ◌<◌, ◌+◌, ◌≡◌, length, drop};
+ghost use Rattle.std.specs.Prelude.{◌^◌, ◌≤◌, ◌<◌, ◌+◌, ◌≡◌};
 ghost use Rattle.value.specs.mirror.Reading.{found, answer, frac_of, whole_of, signed_of};
 ghost use Rattle.list.specs.Listing.{amt};
 ghost use Rattle.value.specs.Judged.{FormedAny};
@@ -25,23 +25,14 @@ const LAST_PLACE: usize = MOST_SCALE as usize - 1;
 
 const FOURTH_PLACE: usize = LAST_PLACE - 1;
 
-fn wide(x: u8) -> u64
-    ensures { result ≡ x }
-{
-    x as u64
-}
-
-fn finish(neg: bool, c: u64, k: u8) -> Judged
+fn finish(neg: bool, c: u64, k: u8) -> Option<Judged>
     requires { (c < 10 ^ 18) × (k ≤ 5) }
     ensures { result ≡ answer (found neg c k) }
 {
-    if neg {
-        if c == 0 {
-            return Judged::Amount(c, k);
-        }
-        return Judged::Refused;
+    if neg && c != 0 {
+        return None;
     }
-    Judged::Amount(c, k)
+    Some(Judged::Amount(c, k))
 }
 
 // Ten to the power of z + 1, of which there are five.
@@ -59,97 +50,82 @@ fn shift(z: usize) -> u64
 }
 
 // After the point: z zeros were read after c over 10^k. Zeros without end cost nothing but time.
-fn frac(t: &[u8], at: usize, neg: bool, whole: u64) -> Judged
-    requires { (at ≤ length t.now) × (whole < 10 ^ 18) }
-    ensures { result ≡ answer (frac_of neg whole 0 whole 0 (drop at t.now)) }
+fn frac(t: &[u8], neg: bool, whole: u64) -> Option<Judged>
+    requires { whole < 10 ^ 18 }
+    ensures { result ≡ answer (frac_of neg whole 0 whole 0 t.now) }
 {
-    let mut i = at;
     let mut c = whole;
     let mut k: usize = 0;
     let mut z: usize = 0;
-    while i < t.len() {
-        let b = t[i];
-        if !is_digit(b) {
-            return Judged::Refused;
+    for b in t {
+        if !is_digit(*b) {
+            return None;
         }
-        i += 1;
-        if b == b'0' {
+        if *b == b'0' {
             z += 1;
-        } else {
-            if LAST_PLACE < k + z {
-                return Judged::Refused;
-            }
-            let p = shift(z);
-            if NUMBER_LIMIT / p <= c {
-                return Judged::Refused;
-            }
-            c = c * p + wide(b - b'0');
-            k = k + z + 1;
-            z = 0;
+            continue;
         }
+        if LAST_PLACE < k + z {
+            return None;
+        }
+        let p = shift(z);
+        if NUMBER_LIMIT / p <= c {
+            return None;
+        }
+        c = c * p + u64::from(*b - b'0');
+        k = k + z + 1;
+        z = 0;
     }
     finish(neg, c, k as u8)
 }
 
 // Digits before the point.
-fn whole(t: &[u8], at: usize, neg: bool) -> Judged
-    requires { at ≤ length t.now }
-    ensures { result ≡ answer (whole_of neg 0 (drop at t.now)) }
+fn whole(t: &[u8], neg: bool) -> Option<Judged>
+    ensures { result ≡ answer (whole_of neg 0 t.now) }
 {
-    let mut i = at;
     let mut c: u64 = 0;
-    while i < t.len() {
-        let b = t[i];
-        if !is_digit(b) {
-            if b == b'.' {
-                return frac(t, i + 1, neg, c);
+    for (i, b) in t.iter().enumerate() {
+        if !is_digit(*b) {
+            if *b == b'.' {
+                return frac(&t[i + 1..], neg, c);
             }
-            return Judged::Refused;
+            return None;
         }
         if NUMBER_LIMIT / 10 <= c {
-            return Judged::Refused;
+            return None;
         }
-        c = c * 10 + wide(b - b'0');
-        i += 1;
+        c = c * 10 + u64::from(*b - b'0');
     }
     finish(neg, c, 0)
 }
 
 // After the sign: a digit, or a point with a digit after it.
-fn signed(t: &[u8], at: usize, neg: bool) -> Judged
-    requires { at ≤ length t.now }
-    ensures { result ≡ answer (signed_of neg (drop at t.now)) }
+fn signed(t: &[u8], neg: bool) -> Option<Judged>
+    ensures { result ≡ answer (signed_of neg t.now) }
 {
-    if t.len() <= at {
-        return Judged::Refused;
+    let (first, rest) = t.split_first()?;
+    if is_digit(*first) {
+        return whole(t, neg);
     }
-    let b = t[at];
-    if is_digit(b) {
-        return whole(t, at, neg);
+    if *first != b'.' {
+        return None;
     }
-    if b != b'.' {
-        return Judged::Refused;
+    if rest.is_empty() {
+        return None;
     }
-    let next = at + 1;
-    if t.len() <= next {
-        return Judged::Refused;
-    }
-    frac(t, next, neg, 0)
+    frac(rest, neg, 0)
 }
 
 // The amount that a text without blanks around it writes.
-pub fn amount(t: &[u8]) -> Judged
+pub fn amount(t: &[u8]) -> Option<Judged>
     ensures { FormedAny amt t.now result }
 {
-    if t.len() == 0 {
-        return Judged::Refused;
+    let (first, rest) = t.split_first()?;
+    if *first == b'+' {
+        return signed(rest, false);
     }
-    let b = t[0];
-    if b == b'+' {
-        return signed(t, 1, false);
+    if *first == b'-' {
+        return signed(rest, true);
     }
-    if b == b'-' {
-        return signed(t, 1, true);
-    }
-    signed(t, 0, false)
+    signed(t, false)
 }

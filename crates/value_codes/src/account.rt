@@ -1,6 +1,6 @@
 // IBAN: capitals, digits, letters or digits.
 
-ghost use Rattle.std.specs.Prelude.{◌≡◌};
+ghost use Rattle.std.specs.Prelude.{◌≡◌, true, EachIndex, slice_index};
 ghost use Rattle.value.specs.types.Code.{is_letter_or_digit, Iban};
 ghost use Rattle.value.specs.mirror.Layout.{iban_at};
 ghost use Rattle.value.specs.Judged.{Exactly};
@@ -36,6 +36,13 @@ fn iban_byte(i: usize, b: u8) -> bool
     }
 }
 
+// Whether each byte may stand where it stands.
+fn are_in_place(t: &[u8]) -> bool
+    ensures { Exactly result (EachIndex t.now (λ i. iban_at i (slice_index t.now i) ≡ true)) }
+{
+    t.iter().enumerate().all(|(i, b)| iban_byte(i, *b))
+}
+
 pub fn is_iban(t: &[u8]) -> bool
     ensures { Exactly result (Iban t.now) }
 {
@@ -45,12 +52,5 @@ pub fn is_iban(t: &[u8]) -> bool
     if MOST < t.len() {
         return false;
     }
-    let mut i = 0;
-    while i < t.len() {
-        if !iban_byte(i, t[i]) {
-            return false;
-        }
-        i += 1;
-    }
-    true
+    are_in_place(t)
 }

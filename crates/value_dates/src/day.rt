@@ -2,13 +2,13 @@
 
 ghost use Rattle.std.specs.Prelude.{◌≡◌, drop};
 ghost use Rattle.value.specs.types.Day.{month_days, Real};
-ghost use Rattle.value.specs.mirror.Digits.{Two, Mark, DayAt, NextAt};
+ghost use Rattle.value.specs.mirror.Digits.{One, Two, Mark, DayAt, NextAt};
 ghost use Rattle.list.specs.Listing.{date};
 ghost use Rattle.value.specs.Judged.{FormedAny};
 
 use text::class::is_digit;
 use value::bounds::{LAST_MONTH, LAST_YEAR};
-use value::judged::Judged;
+use value::judged::{Day, Judged};
 use value::written;
 
 // How many days a month of a year has, 0 where there is no such month.
@@ -39,108 +39,101 @@ pub fn month_days(y: u16, m: u8) -> u8
     }
 }
 
-// What stands for the number of two digits that are none: it is beyond each that two digits write.
-const NO_NUMBER: u8 = 100;
-
-const LAST_NUMBER: u8 = NO_NUMBER - 1;
-
 // The years that the first two digits of one count.
 const CENTURY: u16 = 100;
 
-// The number of two digits.
-pub(crate) fn two(s: &[u8], at: usize) -> u8
-    ensures { Two (drop at s.now) result }
+// The number of one digit.
+pub(crate) fn one(s: &[u8], at: usize) -> Option<u8>
+    ensures { One (drop at s.now) result }
 {
     if s.len() <= at {
-        return NO_NUMBER;
+        return None;
     }
-    let x = s[at];
-    let next = at + 1;
-    if s.len() <= next {
-        return NO_NUMBER;
+    if !is_digit(s[at]) {
+        return None;
     }
-    let y = s[next];
-    if !is_digit(x) {
-        return NO_NUMBER;
-    }
-    if !is_digit(y) {
-        return NO_NUMBER;
-    }
-    (x - b'0') * 10 + (y - b'0')
+    Some(s[at] - b'0')
+}
+
+// The number of two digits.
+pub(crate) fn two(s: &[u8], at: usize) -> Option<u8>
+    ensures { Two (drop at s.now) result }
+{
+    let x = one(s, at)?;
+    let y = one(s, at + 1)?;
+    Some(x * 10 + y)
 }
 
 // Whether this byte stands there.
 pub(crate) fn mark(s: &[u8], at: usize, b: u8) -> bool
     ensures { Mark (drop at s.now) b result }
 {
-    if s.len() <= at {
-        return false;
-    }
-    s[at] == b
-}
-
-fn wide16(x: u8) -> u16
-    ensures { result ≡ x }
-{
-    x as u16
+    at < s.len() && s[at] == b
 }
 
 // The day that a text begins with.
-pub(crate) fn day_at(t: &[u8]) -> Judged
+pub(crate) fn day_at(t: &[u8]) -> Option<Day>
     ensures { DayAt t.now result }
 {
-    let hi = two(t, 0);
-    let lo = two(t, 2);
-    let m = two(t, written::MONTH);
-    let d = two(t, written::DAY);
-    if LAST_NUMBER < hi {
-        return Judged::Refused;
-    }
-    if LAST_NUMBER < lo {
-        return Judged::Refused;
-    }
+    let hi = two(t, 0)?;
+    let lo = two(t, 2)?;
+    let month = two(t, written::MONTH)?;
+    let day = two(t, written::DAY)?;
     if !mark(t, written::FIRST_DASH, b'-') {
-        return Judged::Refused;
+        return None;
     }
     if !mark(t, written::SECOND_DASH, b'-') {
-        return Judged::Refused;
+        return None;
     }
-    let y = wide16(hi) * CENTURY + wide16(lo);
-    if y == 0 {
-        return Judged::Refused;
+    let year = u16::from(hi) * CENTURY + u16::from(lo);
+    if year == 0 {
+        return None;
     }
-    if d == 0 {
-        return Judged::Refused;
+    if day == 0 {
+        return None;
     }
-    if month_days(y, m) < d {
-        return Judged::Refused;
+    if month_days(year, month) < day {
+        return None;
     }
-    Judged::Day(y, m, d)
+    Some(Day { year, month, day })
 }
 
 // The day after a real day; after 9999-12-31 there is none.
-pub(crate) fn next_day(y: u16, m: u8, d: u8) -> Judged
-    requires { Real y m d }
-    ensures { NextAt y m d result }
+pub(crate) fn next_day(date: Day) -> Option<Day>
+    requires { Real date.year date.month date.day }
+    ensures { NextAt date.year date.month date.day result }
 {
-    if d < month_days(y, m) {
-        return Judged::Day(y, m, d + 1);
+    let Day { year, month, day } = date;
+    if day < month_days(year, month) {
+        return Some(Day {
+            year,
+            month,
+            day: day + 1,
+        });
     }
-    if m < LAST_MONTH {
-        return Judged::Day(y, m + 1, 1);
+    if month < LAST_MONTH {
+        return Some(Day {
+            year,
+            month: month + 1,
+            day: 1,
+        });
     }
-    if y < LAST_YEAR {
-        return Judged::Day(y + 1, 1, 1);
+    if year < LAST_YEAR {
+        return Some(Day {
+            year: year + 1,
+            month: 1,
+            day: 1,
+        });
     }
-    Judged::Refused
+    None
 }
 
 // The day that a text is.
-pub fn day(t: &[u8]) -> Judged
+pub fn day(t: &[u8]) -> Option<Judged>
     ensures { FormedAny date t.now result }
 {
     if t.len() != written::DATE_END {
-        return Judged::Refused;
+        return None;
     }
-    day_at(t)
+    Some(Judged::Day(day_at(t)?))
 }

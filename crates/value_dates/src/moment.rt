@@ -2,24 +2,16 @@
 
 ghost use Rattle.std.specs.Prelude.{◌≡◌, drop, ◌≤◌};
 ghost use Rattle.list.specs.Listing.{dtm};
-ghost use Rattle.value.specs.mirror.Digits.{One, FractionAt, ZoneAt, ClockAt, MidnightAt};
+ghost use Rattle.value.specs.mirror.Digits.{FractionAt, by_last, ZoneAt, ClockAt, MidnightAt};
 ghost use Rattle.value.specs.types.Day.{Real};
 ghost use Rattle.value.specs.Judged.{FormedAny};
 ghost use Rattle.value.specs.Places.{written_fraction, written_zone};
 
-use crate::day::{day_at, mark, next_day, two};
-use text::class::is_digit;
+use crate::day::{day_at, mark, next_day, one, two};
 use text::part::begins;
-use value::judged::{Judged, Moment};
+use value::judged::{Day, Judged, Moment};
 use value::written::CLOCK_END;
 use value::{bounds, written};
-
-// What stands for the number of a digit that is none, and for a zone that is none.
-const NO_DIGIT: u32 = 10;
-
-const LAST_DIGIT: u32 = NO_DIGIT - 1;
-
-const NO_ZONE: u16 = 9999;
 
 // A fraction of a second in microseconds, and the place after it.
 #[derive(Clone, Copy)]
@@ -28,36 +20,20 @@ struct Split {
     end: usize,
 }
 
-fn split_at(micros: u32, end: usize) -> Split
-    ensures { (result.micros ≡ micros) × (result.end ≡ end) }
+// No fraction.
+const BARE: Split = Split {
+    micros: 0,
+    end: CLOCK_END,
+};
+
+// What a fraction is whose last digit this is: none, where it is zero.
+fn ended(last: u8, micros: u32, end: usize) -> Split
+    ensures { (result.micros ≡ by_last last micros 0) × (result.end ≡ by_last last end written_fraction) }
 {
+    if last == 0 {
+        return BARE;
+    }
     Split { micros, end }
-}
-
-fn wide16(x: u8) -> u16
-    ensures { result ≡ x }
-{
-    x as u16
-}
-
-fn wide32(x: u8) -> u32
-    ensures { result ≡ x }
-{
-    x as u32
-}
-
-// The number of one digit.
-fn one(s: &[u8], at: usize) -> u32
-    ensures { One (drop at s.now) result }
-{
-    if s.len() <= at {
-        return NO_DIGIT;
-    }
-    let x = s[at];
-    if !is_digit(x) {
-        return NO_DIGIT;
-    }
-    wide32(x - b'0')
 }
 
 // None, or a point and one to three digits, the last not zero, at 19. Where the digits are none or end in zero there is none, and no zone is found there either.
@@ -65,150 +41,126 @@ fn fraction(t: &[u8]) -> Split
     ensures { FractionAt (drop written_fraction t.now) result.micros (drop result.end t.now) × (result.end ≤ written_zone) }
 {
     if !mark(t, CLOCK_END, b'.') {
-        return split_at(0, CLOCK_END);
+        return BARE;
     }
-    let a = one(t, written::TENTHS);
-    let b = one(t, written::HUNDREDTHS);
-    let c = one(t, written::THOUSANDTHS);
-    if LAST_DIGIT < a {
-        return split_at(0, CLOCK_END);
-    }
-    if LAST_DIGIT < b {
-        if a == 0 {
-            return split_at(0, CLOCK_END);
-        }
-        return split_at(a * bounds::TENTH, written::HUNDREDTHS);
-    }
-    if LAST_DIGIT < c {
-        if b == 0 {
-            return split_at(0, CLOCK_END);
-        }
-        return split_at((a * 10 + b) * bounds::HUNDREDTH, written::THOUSANDTHS);
-    }
-    if c == 0 {
-        return split_at(0, CLOCK_END);
-    }
-    split_at(
-        ((a * 10 + b) * 10 + c) * bounds::THOUSANDTH,
-        written::FRACTION_END,
-    )
+    let Some(a) = one(t, written::TENTHS) else {
+        return BARE;
+    };
+    let tenths = u32::from(a);
+    let Some(b) = one(t, written::HUNDREDTHS) else {
+        return ended(a, tenths * bounds::TENTH, written::HUNDREDTHS);
+    };
+    let hundredths = tenths * 10 + u32::from(b);
+    let Some(c) = one(t, written::THOUSANDTHS) else {
+        return ended(b, hundredths * bounds::HUNDREDTH, written::THOUSANDTHS);
+    };
+    let thousandths = hundredths * 10 + u32::from(c);
+    ended(c, thousandths * bounds::THOUSANDTH, written::FRACTION_END)
 }
 
 // `Z` or a sign with `hh:mm`, up to the end: offset minutes plus 840.
-fn zone(t: &[u8], at: usize) -> u16
+fn zone(t: &[u8], at: usize) -> Option<u16>
     requires { at ≤ written_zone }
     ensures { ZoneAt (drop at t.now) result }
 {
     if t.len() == at + 1 {
         if mark(t, at, b'Z') {
-            return bounds::ZERO_OFFSET;
+            return Some(bounds::ZERO_OFFSET);
         }
-        return NO_ZONE;
+        return None;
     }
     if t.len() != at + written::ZONE_END {
-        return NO_ZONE;
+        return None;
     }
-    let h = two(t, at + 1);
-    let m = two(t, at + written::ZONE_MINUTE);
+    let h = two(t, at + 1)?;
+    let m = two(t, at + written::ZONE_MINUTE)?;
     if bounds::LAST_ZONE_HOUR < h {
-        return NO_ZONE;
+        return None;
     }
     if bounds::LAST_MINUTE < m {
-        return NO_ZONE;
+        return None;
     }
     if !mark(t, at + written::ZONE_COLON, b':') {
-        return NO_ZONE;
+        return None;
     }
-    let n = wide16(h) * bounds::HOUR_MINUTES + wide16(m);
+    let n = u16::from(h) * bounds::HOUR_MINUTES + u16::from(m);
     if bounds::ZERO_OFFSET < n {
-        return NO_ZONE;
+        return None;
     }
     if mark(t, at, b'+') {
-        return bounds::ZERO_OFFSET + n;
+        return Some(bounds::ZERO_OFFSET + n);
     }
     if mark(t, at, b'-') {
-        return bounds::ZERO_OFFSET - n;
+        return Some(bounds::ZERO_OFFSET - n);
     }
-    NO_ZONE
+    None
 }
 
 // The parts after a day that was read.
-fn clocked(t: &[u8], year: u16, month: u8, day: u8) -> Judged
-    ensures { ClockAt t.now year month day result }
+fn clocked(t: &[u8], date: Day) -> Option<Judged>
+    ensures { ClockAt t.now date.year date.month date.day result }
 {
-    let hour = two(t, written::HOUR);
-    let minute = two(t, written::MINUTE);
-    let second = two(t, written::SECOND);
+    let hour = two(t, written::HOUR)?;
+    let minute = two(t, written::MINUTE)?;
+    let second = two(t, written::SECOND)?;
     if bounds::LAST_HOUR < hour {
-        return Judged::Refused;
+        return None;
     }
     if bounds::LAST_MINUTE < minute {
-        return Judged::Refused;
+        return None;
     }
     if bounds::LAST_SECOND < second {
-        return Judged::Refused;
+        return None;
     }
     if !mark(t, written::DATE_END, b'T') {
-        return Judged::Refused;
+        return None;
     }
     if !mark(t, written::FIRST_COLON, b':') {
-        return Judged::Refused;
+        return None;
     }
     if !mark(t, written::SECOND_COLON, b':') {
-        return Judged::Refused;
+        return None;
     }
     let f = fraction(t);
-    let end = f.end;
-    let micros = f.micros;
-    let offset = zone(t, end);
-    if bounds::LAST_OFFSET < offset {
-        return Judged::Refused;
-    }
-    Judged::Moment(Moment {
-        year,
-        month,
-        day,
+    let offset = zone(t, f.end)?;
+    Some(Judged::Moment(Moment {
+        year: date.year,
+        month: date.month,
+        day: date.day,
         hour,
         minute,
         second,
-        micros,
+        micros: f.micros,
         offset,
-    })
+    }))
 }
 
 // 24:00:00 on a day is 00:00:00 on the next; the zone stands at 19.
-fn midnight(t: &[u8], year: u16, month: u8, day: u8) -> Judged
-    requires { Real year month day }
-    ensures { MidnightAt (drop written_fraction t.now) year month day result }
+fn midnight(t: &[u8], date: Day) -> Option<Judged>
+    requires { Real date.year date.month date.day }
+    ensures { MidnightAt (drop written_fraction t.now) date.year date.month date.day result }
 {
-    let offset = zone(t, CLOCK_END);
-    if bounds::LAST_OFFSET < offset {
-        return Judged::Refused;
-    }
-    let Judged::Day(year, month, day) = next_day(year, month, day) else {
-        return Judged::Refused;
-    };
-    Judged::Moment(Moment {
-        year,
-        month,
-        day,
+    let offset = zone(t, CLOCK_END)?;
+    let next = next_day(date)?;
+    Some(Judged::Moment(Moment {
+        year: next.year,
+        month: next.month,
+        day: next.day,
         hour: 0,
         minute: 0,
         second: 0,
         micros: 0,
         offset,
-    })
+    }))
 }
 
 // The moment that a text is.
-pub fn moment(t: &[u8]) -> Judged
+pub fn moment(t: &[u8]) -> Option<Judged>
     ensures { FormedAny dtm t.now result }
 {
-    let Judged::Day(year, month, day) = day_at(t) else {
-        return Judged::Refused;
-    };
+    let date = day_at(t)?;
     if begins(t, written::DATE_END, b"T24:00:00") {
-        return midnight(t, year, month, day);
+        return midnight(t, date);
     }
-    clocked(t, year, month, day)
+    clocked(t, date)
 }

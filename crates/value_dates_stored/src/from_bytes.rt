@@ -30,6 +30,7 @@ pub fn is_day(b: &[u8]) -> bool
     is_real(get16(b, 0), byte(b, packed::MONTH), byte(b, packed::DAY))
 }
 
+// Kept: a test after another, flat, so that each answer of the proof is one line (docs/PROVING.md).
 pub fn is_moment(b: &[u8]) -> bool
     ensures { result ≡ is_moment b.now }
 {

@@ -6,23 +6,18 @@ ghost use Rattle.value.specs.mirror.Runs.{is_own, Roomy, CharsPut};
 ghost use Rattle.value.specs.Value.{bytes};
 ghost use Rattle.value.specs.mirror.Puts.{text_size, Counts, TextPut};
 
+use text::run::run_end;
 use text_bytes::number::{copy, put16};
 use text_characters::piece::next_char;
 use value::packed::MOST_BYTES;
 use value_shared::place::{has_room, place};
 
 // Where the next entity begins, or the end.
-fn run_end(t: &[u8], at: usize) -> usize
+#[tactic(auto, unfolding(value::specs::mirror::Runs::is_own))]
+fn own_end(t: &[u8], at: usize) -> usize
     ensures { result ≡ at + span is_own (drop at t.now) }
 {
-    let mut i = at;
-    while i < t.len() {
-        if t[i] == b'&' {
-            return i;
-        }
-        i += 1;
-    }
-    i
+    run_end(t, at, |b| b != b'&')
 }
 
 // The characters that t spells, from a place of the buffer on. Most texts have no entity and are one copy.
@@ -30,14 +25,14 @@ pub(crate) fn put_chars(t: &[u8], out: &mut [u8], at: usize)
     requires { Roomy t.now out.old at }
     ensures { CharsPut t.now out.old at out.new }
 {
-    let mut i = run_end(t, 0);
+    let mut i = own_end(t, 0);
     let mut j = at + i;
     copy(t, 0, i, out, at);
     while i < t.len() {
         let c = next_char(t, i);
         let code = c.code;
         let from = i + c.len;
-        let end = run_end(t, from);
+        let end = own_end(t, from);
         place(out, j, code as u8);
         copy(t, from, end, out, j + 1);
         j += 1 + (end - from);

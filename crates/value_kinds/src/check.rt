@@ -35,17 +35,17 @@ const DATE: u8 = table::DATE as u8;
 const DTM: u8 = table::DTM as u8;
 
 // A code that is its own text.
-fn coded(good: bool, n: usize) -> Judged
+fn coded(good: bool, n: usize) -> Option<Judged>
     ensures { result ≡ coded_of good n }
 {
     if good {
-        return Judged::Text(n);
+        return Some(Judged::Text(n));
     }
-    Judged::Refused
+    None
 }
 
 // A raw text, as a value of the kind with this number, but for ENUM, whose words its list knows; k is TXTk's.
-pub fn check(kind: u8, k: usize, t: &[u8]) -> Judged
+pub fn check(kind: u8, k: usize, t: &[u8]) -> Option<Judged>
     ensures { Checked kind k t.now result }
 {
     match kind {
@@ -58,6 +58,6 @@ pub fn check(kind: u8, k: usize, t: &[u8]) -> Judged
         AMT => amount(trimmed(t)),
         DATE => day(trimmed(t)),
         DTM => moment(trimmed(t)),
-        _ => Judged::Refused,
+        _ => None,
     }
 }

@@ -14,13 +14,15 @@ use value_numbers::to_bytes::{write_natural, write_truth};
 pub fn size(kind: u8, k: usize, t: &[u8]) -> usize
     ensures { Sized kind k t.now result }
 {
-    match check(kind, k, t) {
-        Judged::Refused => 0,
+    let Some(judged) = check(kind, k, t) else {
+        return 0;
+    };
+    match judged {
         Judged::Text(n) => text_size(n),
         Judged::Truth(_) => 1,
         Judged::Natural(_) => NUMBER_SIZE,
         Judged::Amount(_, _) => AMOUNT_SIZE,
-        Judged::Day(_, _, _) => DATE_SIZE,
+        Judged::Day(_) => DATE_SIZE,
         Judged::Moment(_) => MOMENT_SIZE,
     }
 }
@@ -30,13 +32,15 @@ pub fn size(kind: u8, k: usize, t: &[u8]) -> usize
 pub fn write(kind: u8, k: usize, t: &[u8], ccy: &[u8], out: &mut [u8], at: usize) -> usize
     ensures { Written kind k ccy.now t.now out.old at result out.new }
 {
-    match check(kind, k, t) {
-        Judged::Refused => 0,
+    let Some(judged) = check(kind, k, t) else {
+        return 0;
+    };
+    match judged {
         Judged::Text(n) => write_text(t, n, out, at),
         Judged::Truth(yes) => write_truth(out, at, yes),
         Judged::Natural(n) => write_natural(out, at, n),
         Judged::Amount(coefficient, scale) => write_amount(ccy, out, at, coefficient, scale),
-        Judged::Day(year, month, day) => write_day(out, at, year, month, day),
+        Judged::Day(day) => write_day(out, at, day.year, day.month, day.day),
         Judged::Moment(moment) => write_moment(out, at, moment),
     }
 }

@@ -1,12 +1,13 @@
 // A value of any kind, by the number of its kind in a table.
 
-ghost use Rattle.std.specs.Prelude.{◌≡◌, ◌≤◌, ◌+◌, length, drop};
-ghost use Rattle.value.specs.mirror.Ends.{Spans, value_end};
+ghost use Rattle.std.specs.Prelude.{◌≡◌, ◌≤◌, ◌+◌, if◌then◌else◌, Some, None, Bool, List, ℕ, take, drop};
+ghost use Rattle.text.specs.Numbers.{number};
+ghost use Rattle.value.specs.mirror.Ends.{width, begins, value_end};
 ghost use Rattle.value.specs.given.Stands.{EndsBy};
-ghost use Rattle.list.specs.tables.Columns.{REF, TXT, IBAN, CCY, ENUM, BOOL, NUM, AMT, DATE, DTM};
-ghost use Rattle.value.specs.Places.{longest_text};
+ghost use Rattle.value_kinds_stored.specs.Ended.{ended};
 
 use list::table::{AMT, BOOL, CCY, DATE, DTM, ENUM, IBAN, NUM, REF, TXT};
+use text::part::rest;
 use text_bytes::number::get16;
 use value::packed::{AMOUNT_SIZE, DATE_SIZE, MOMENT_SIZE, NUMBER_SIZE};
 use value_amounts::from_bytes::is_amount;
@@ -16,191 +17,60 @@ use value_dates_stored::from_bytes::{is_day, is_moment};
 use value_numbers::from_bytes::{is_natural, is_place, is_truth};
 use value_texts_stored::from_bytes::{is_reference, is_writing};
 
-fn wide(x: u16) -> usize
-    ensures { (result ≡ x) × (result ≤ longest_text) }
+// The bytes of a text's length, and of a word's place and a truth.
+const LENGTH_SIZE: usize = 2;
+
+const BYTE_SIZE: usize = 1;
+
+// The place after n bytes that stand at a place, where they are there and what follows the first `head` of them passes the test.
+fn end_of<F: FnOnce(&[u8]) -> bool>(
+    s: &[u8],
+    at: usize,
+    head: usize,
+    n: usize,
+    is_value: F,
+) -> Option<usize>
+    requires callable { F.IsAlwaysCallable is_value }
+    requires order { head ≤ n }
+    ensures { (p : List ℕ → Bool) → ((b : _) (r : Bool) → F.post is_value b r → r ≡ p b.now) → result ≡ ended head n p s.now at }
 {
-    x as usize
+    let value = rest(s, at).get(head..n)?;
+    is_value(value).then_some(at + n)
 }
 
-// How many bytes a text has with its length, which stands at a place; where that is cut off, so is the text.
-fn span(s: &[u8], at: usize) -> usize
-    requires { at ≤ length s.now }
-    ensures { Spans (drop at s.now) result }
+// The same of a text, whose first bytes say its length; where they are cut off, so is the text.
+fn text_end<F: FnOnce(&[u8]) -> bool>(s: &[u8], at: usize, is_text: F) -> Option<usize>
+    requires { F.IsAlwaysCallable is_text }
+    ensures { (p : List ℕ → Bool) → ((b : _) (r : Bool) → F.post is_text b r → r ≡ p b.now) → result ≡ ended 2 (2 + number (take 2 (drop at s.now))) p s.now at }
 {
-    if s.len() - at < 2 {
-        return 2;
-    }
-    2 + wide(get16(s, at))
+    let n = LENGTH_SIZE + usize::from(get16(s, at));
+    end_of(s, at, LENGTH_SIZE, n, is_text)
 }
 
-// The place after the value that begins at a place, 0 where none does: a function for each kind, which knows its width.
-fn reference_end(s: &[u8], at: usize) -> usize
-    requires { at ≤ length s.now }
-    ensures { result ≡ value_end REF 0 0 s.now at }
+// The place after the value of a kind that stands at a place; k is that of TXTk, words the number of an ENUM's words.
+fn found_end(kind: usize, k: usize, words: usize, s: &[u8], at: usize) -> Option<usize>
+    ensures { result ≡ (if begins kind k words (drop at s.now) then Some (at + width kind (drop at s.now)) else None) }
 {
-    let n = span(s, at);
-    if s.len() - at < n {
-        return 0;
+    match kind {
+        REF => text_end(s, at, is_reference),
+        TXT => text_end(s, at, |b| is_writing(b, k)),
+        IBAN => text_end(s, at, is_iban),
+        CCY => text_end(s, at, is_ccy),
+        ENUM => end_of(s, at, 0, BYTE_SIZE, |b| is_place(b, words)),
+        BOOL => end_of(s, at, 0, BYTE_SIZE, is_truth),
+        NUM => end_of(s, at, 0, NUMBER_SIZE, is_natural),
+        AMT => end_of(s, at, 0, AMOUNT_SIZE, is_amount),
+        DATE => end_of(s, at, 0, DATE_SIZE, is_day),
+        DTM => end_of(s, at, 0, MOMENT_SIZE, is_moment),
+        _ => None,
     }
-    let from = at + 2;
-    let end = at + n;
-    if is_reference(&s[from..end]) {
-        return end;
-    }
-    0
 }
 
-fn writing_end(s: &[u8], at: usize, k: usize) -> usize
-    requires { at ≤ length s.now }
-    ensures { result ≡ value_end TXT k 0 s.now at }
-{
-    let n = span(s, at);
-    if s.len() - at < n {
-        return 0;
-    }
-    let from = at + 2;
-    let end = at + n;
-    if is_writing(&s[from..end], k) {
-        return end;
-    }
-    0
-}
-
-fn account_end(s: &[u8], at: usize) -> usize
-    requires { at ≤ length s.now }
-    ensures { result ≡ value_end IBAN 0 0 s.now at }
-{
-    let n = span(s, at);
-    if s.len() - at < n {
-        return 0;
-    }
-    let from = at + 2;
-    let end = at + n;
-    if is_iban(&s[from..end]) {
-        return end;
-    }
-    0
-}
-
-fn currency_end(s: &[u8], at: usize) -> usize
-    requires { at ≤ length s.now }
-    ensures { result ≡ value_end CCY 0 0 s.now at }
-{
-    let n = span(s, at);
-    if s.len() - at < n {
-        return 0;
-    }
-    let from = at + 2;
-    let end = at + n;
-    if is_ccy(&s[from..end]) {
-        return end;
-    }
-    0
-}
-
-fn place_end(s: &[u8], at: usize, words: usize) -> usize
-    requires { at ≤ length s.now }
-    ensures { result ≡ value_end ENUM 0 words s.now at }
-{
-    if s.len() - at < 1 {
-        return 0;
-    }
-    let end = at + 1;
-    if is_place(&s[at..end], words) {
-        return end;
-    }
-    0
-}
-
-fn truth_end(s: &[u8], at: usize) -> usize
-    requires { at ≤ length s.now }
-    ensures { result ≡ value_end BOOL 0 0 s.now at }
-{
-    if s.len() - at < 1 {
-        return 0;
-    }
-    let end = at + 1;
-    if is_truth(&s[at..end]) {
-        return end;
-    }
-    0
-}
-
-fn natural_end(s: &[u8], at: usize) -> usize
-    requires { at ≤ length s.now }
-    ensures { result ≡ value_end NUM 0 0 s.now at }
-{
-    if s.len() - at < NUMBER_SIZE {
-        return 0;
-    }
-    let end = at + NUMBER_SIZE;
-    if is_natural(&s[at..end]) {
-        return end;
-    }
-    0
-}
-
-fn amount_end(s: &[u8], at: usize) -> usize
-    requires { at ≤ length s.now }
-    ensures { result ≡ value_end AMT 0 0 s.now at }
-{
-    if s.len() - at < AMOUNT_SIZE {
-        return 0;
-    }
-    let end = at + AMOUNT_SIZE;
-    if is_amount(&s[at..end]) {
-        return end;
-    }
-    0
-}
-
-fn day_end(s: &[u8], at: usize) -> usize
-    requires { at ≤ length s.now }
-    ensures { result ≡ value_end DATE 0 0 s.now at }
-{
-    if s.len() - at < DATE_SIZE {
-        return 0;
-    }
-    let end = at + DATE_SIZE;
-    if is_day(&s[at..end]) {
-        return end;
-    }
-    0
-}
-
-fn moment_end(s: &[u8], at: usize) -> usize
-    requires { at ≤ length s.now }
-    ensures { result ≡ value_end DTM 0 0 s.now at }
-{
-    if s.len() - at < MOMENT_SIZE {
-        return 0;
-    }
-    let end = at + MOMENT_SIZE;
-    if is_moment(&s[at..end]) {
-        return end;
-    }
-    0
-}
-
-// The same by the kind's number; k is that of TXTk, words the number of an ENUM's words.
+// The same, 0 where no value does.
+// Kept: no value ends at 0, and `item_end` of image_reader, whose mirror and theorems answer so, hands it on.
 pub fn value_end(kind: usize, k: usize, words: usize, s: &[u8], at: usize) -> usize
     ensures is { result ≡ value_end kind k words s.now at }
     ensures means { EndsBy kind k words s.now at result }
 {
-    if s.len() < at {
-        return 0;
-    }
-    match kind {
-        REF => reference_end(s, at),
-        TXT => writing_end(s, at, k),
-        IBAN => account_end(s, at),
-        CCY => currency_end(s, at),
-        ENUM => place_end(s, at, words),
-        BOOL => truth_end(s, at),
-        NUM => natural_end(s, at),
-        AMT => amount_end(s, at),
-        DATE => day_end(s, at),
-        DTM => moment_end(s, at),
-        _ => 0,
-    }
+    found_end(kind, k, words, s, at).unwrap_or(0)
 }

@@ -18,6 +18,7 @@ use value_texts_put::to_text::write_text;
 
 // Writes the text of the value of a leaf of `row` that stands at a place of the run, and answers how many bytes it has. An amount's
 // currency is no part of it.
+// Kept: where nothing is written, 0 is the number of bytes, and no sign that there is none.
 pub fn put(
     rows: &[u16],
     pool: &[u8],

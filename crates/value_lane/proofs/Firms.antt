@@ -20,7 +20,9 @@ use Rattle.value.specs.parts.Numeral.{decimal, unsigned, Places, no_point, point
 use Rattle.value.specs.Value.{Value, text, amount, day, bytes}
 use Rattle.value.specs.parts.Form.{Form, Left}
 use Rattle.value.specs.given.Giving.{Counted}
+use Rattle.std.specs.Prelude.{Option, Some, None}
 use Rattle.value.specs.declared.judged.Judged.{Judged}
+use Rattle.value.specs.declared.judged.Day as D
 use Rattle.value.specs.declared.judged.Judged.TheVariants as J
 use Rattle.value.proofs.classes.Classes.{Solid, each_map}
 use Rattle.value.proofs.numbers.Decimals.{least, is_minus, decimal_below}
@@ -184,21 +186,21 @@ module _ (k : ℕ) (s : List ℕ) (at d n : ℕ) (r : Found) (q : Ran 4 s at d) 
 
 -- ---- DATE
 
-not_refused : (y m d : ℕ) → J.Day y m d ≡ J.Refused → ⊥
-not_refused y m d e = let z : ◌≡◌ {A = ℕ} 0 1 = cc in omega arith
+not_refused : (d : D.Day) → Some (J.Day d) ≡ None → ⊥
+not_refused d e = let z : ◌≡◌ {A = ℕ} 0 1 = cc in omega arith
 
-day_formal : (w raw : List ℕ) (j : Judged) (y m d : ℕ) → j ≡ J.Day y m d → Formed date w raw j → Formal date w raw 4
-day_formal w raw j y m d e (formless f n) = absurd (not_refused y m d (sym e ∙ f))
-day_formal w raw j y m d e (formed v g x) =
-    let i : v ≡ day y m d = subst (λ (z : Judged). Rattle.value.specs.Judged.Means w raw z v) e x in
-    record { value = v; form = g; counted = subst Counted (sym i) tt; long = sym (ap (λ (z : Value). length (bytes z)) i ∙ day_bytes y m d) }
+day_formal : (w raw : List ℕ) (j : Option Judged) (d : D.Day) → j ≡ Some (J.Day d) → Formed date w raw j → Formal date w raw 4
+day_formal w raw j d e (formless f n) = absurd (not_refused d (sym e ∙ f))
+day_formal w raw j d e (formed v g x) =
+    let i : v ≡ day d.year d.month d.day = subst (λ (z : Option Judged). Rattle.value.specs.Judged.Means w raw z v) e x in
+    record { value = v; form = g; counted = subst Counted (sym i) tt; long = sym (ap (λ (z : Value). length (bytes z)) i ∙ day_bytes d.year d.month d.day) }
 
-pub date_ends : (k : ℕ) (s : List ℕ) (at e : ℕ) (raw : List ℕ) (j : Judged) (y m d : ℕ) (r : Found) → FormedAny date raw j → j ≡ J.Day y m d → r ≡ found_of e 4 → get_or s e 0 ≡ 60
+pub date_ends : (k : ℕ) (s : List ℕ) (at e : ℕ) (raw : List ℕ) (j : Option Judged) (d : D.Day) (r : Found) → FormedAny date raw j → j ≡ Some (J.Day d) → r ≡ found_of e 4 → get_or s e 0 ≡ 60
     → raw ≡ take (e - at) (drop at s) → at ≤ e → e < length s → Leafed 10 k s at r
-date_ends k s at e raw j y m d r f q o z i a h =
+date_ends k s at e raw j d r f q o z i a h =
     let n = e - at in
     let l : length raw ≡ n = ap length i ∙ length-take-le n (drop at s) (omega (arith, length-drop at s)) in
     let to : at + n ≡ e = omega arith in
     let is : drop at s ≡ raw ++ drop e s =
     sym (take-append-drop n (drop at s)) ∙ ap (λ (x : List ℕ). x ++ drop n (drop at s)) (sym i) ∙ ap (λ (x : List ℕ). raw ++ x) (drop-drop n at s ∙ ap (λ (x : ℕ). drop x s) to) in
-    firm_ends date 10 k s at e raw 4 r refl (λ x. omega arith) tt tt (untrimmed raw) (λ w cw. day_formal w raw j y m d q (f w cw)) is (omega (arith, l, to)) h z o
+    firm_ends date 10 k s at e raw 4 r refl (λ x. omega arith) tt tt (untrimmed raw) (λ w cw. day_formal w raw j d q (f w cw)) is (omega (arith, l, to)) h z o

@@ -77,7 +77,7 @@ pub(crate) fn dated(k: usize, s: &[u8], at: usize) -> Found
         return plain(DATE, k, s, at);
     }
     match day(&s[at..end]) {
-        Judged::Day(_, _, _) => tell(end, DATE_SIZE),
+        Some(Judged::Day(_)) => tell(end, DATE_SIZE),
         _ => plain(DATE, k, s, at),
     }
 }

@@ -3,14 +3,13 @@ use mathlib.Core.Path.{◌≡◌, refl, sym, ◌∙◌, ap, subst}
 use mathlib.Core.Bool.{Bool, true, false, true≢false, false≢true, not}
 use mathlib.Core.Logic.{◌≢◌}
 use mathlib.Core.List.{List, [], ◌∷◌, ◌++◌}
-use Prim.Native.Nat.{ℕ, ◌+◌, ◌≤◌, ◌<◌}
+use Prim.Native.Nat.{ℕ, ◌+◌, ◌≤◌}
 use native.Mathlib.Omega.{arith}
-use lib.ListN.{length, get_or, take, drop, length-append, take-append-drop}
+use lib.ListN.{length, take, drop, length-append, take-append-drop}
 use lib.Seq.{slice, drop_at}
 use borrow.Author.Tests.{eq-eqb, ne_eqb}
 use Rattle.text.specs.Lists.{span}
 use Rattle.text.specs.Words.{starts}
-use Rattle.text.proofs.Spans.{span_stop, span_go}
 use Rattle.text.proofs.Parts.{starts_is, starts_not}
 use Rattle.text_characters.specs.Pieces.{less, bracket, greater}
 use Rattle.value.specs.given.Giving.{Sized}
@@ -27,14 +26,6 @@ inside_no x e = ap not (eq-eqb x less e)
 pub inside_yes : (x : ℕ) → x ≢ less → is_inside x ≡ true
 unfolding is_inside
 inside_yes x e = ap not (ne_eqb x less e)
-
--- a loop that has come to i: what is still to come makes up the answer n
-module _ (s : List ℕ) (i n : ℕ) (w : i + span is_inside (drop i s) ≡ n) (h : i < length s) where
-  pub end_found : get_or s i 0 ≡ less → i ≡ n
-  end_found e = omega (arith, w, span_stop is_inside s i h (inside_no (get_or s i 0) e))
-
-  pub end_again : get_or s i 0 ≢ less → i + 1 + span is_inside (drop (i + 1) s) ≡ n
-  end_again e = omega (arith, w, span_go is_inside s i h (inside_yes (get_or s i 0) e))
 
 -- ---- `]]>`
 
@@ -77,10 +68,10 @@ pub told : (kind k : ℕ) (s t : List ℕ) (at e n : ℕ) (b : Bool) (r : Found)
     → Sized kind k t n → r ≡ found_of e n → Leafed kind k s at r
 told kind k s t at e n b r d q c f z i =
     subst (Leafed kind k s at) (sym i)
-    (record { ends = d; weighs = record { whole = λ u. subst (λ (w : List ℕ). Sized kind k w n) q z; cut = λ u. absurd (u (subst Uncut q (c.no f))) } })
+    (record { ends = d; bytes = n; size = refl; weighs = record { whole = λ u. subst (λ (w : List ℕ). Sized kind k w n) q z; cut = λ u. absurd (u (subst Uncut q (c.no f))) } })
 
 pub told_cut : (kind k : ℕ) (s t : List ℕ) (at e : ℕ) (b : Bool) (r : Found) → e ≡ at + span is_inside (drop at s) → t ≡ slice at e s → CutTold t b → b ≡ true
     → r ≡ found_of e 0 → Leafed kind k s at r
 told_cut kind k s t at e b r d q c f i =
     subst (Leafed kind k s at) (sym i)
-    (record { ends = d; weighs = record { whole = λ u. absurd (c.yes f (subst Uncut (sym q) u)); cut = λ u. refl } })
+    (record { ends = d; bytes = 0; size = refl; weighs = record { whole = λ u. absurd (c.yes f (subst Uncut (sym q) u)); cut = λ u. refl } })

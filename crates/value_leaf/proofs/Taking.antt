@@ -1,11 +1,13 @@
 -- A leaf whose text was weighed is taken, and no second answer fits the promise. Assumes nothing.
-use mathlib.Core.Path.{◌≡◌, sym, ◌∙◌, ap, subst}
+use Rattle.std.specs.Prelude.{Bool, true, false, cond, Some, None, eqb}
+use mathlib.Core.Path.{◌≡◌, refl, sym, ◌∙◌, ap, subst}
 use mathlib.Core.Logic.{◌≢◌}
 use mathlib.Core.List.{List}
 use Prim.Native.Nat.{ℕ, ◌<◌}
 use native.Mathlib.Omega.{arith}
 use native.Mathlib.Decide.{ℕ_discrete}
 use lib.ListN.{length}
+use borrow.Author.Tests.{eqb-false}
 use lib.Seq.{slice}
 use Rattle.list.specs.Listing.{Leaf}
 use Rattle.value.specs.types.Code.{Ccy}
@@ -14,7 +16,7 @@ use Rattle.value.specs.Value.{Spelt}
 use Rattle.value.specs.given.Giving.{Gives, some, none, Long}
 use Rattle.value.proofs.given.Unique.{leaf_one, spelt_any, euro, euro_is, size_one}
 use Rattle.value_leaf.specs.Took.{Uncut, Took}
-use Rattle.value_leaf.specs.Leafed.{Weighs, Leafed}
+use Rattle.value_leaf.specs.Leafed.{some_size, Weighs, Leafed}
 use Rattle.value_leaf.specs.declared.found.Found.{Found}
 
 -- a text is taken, n is how many bytes its value has
@@ -52,6 +54,14 @@ module _ (f : Leaf) (kind k : ℕ) (raw : List ℕ) (n : ℕ) (e : code f ≡ ki
         long = x.long;
       }
 
+-- a size that is told is that of a value
+size_some : (n m : ℕ) → (b : Bool) → eqb n 0 ≡ b → Some m ≡ cond b None (Some n) → (n ≡ m) × (0 < n)
+size_some n m true q e = absurd (cc)
+size_some n m false q e = let d : n ≢ 0 = eqb-false n 0 q in (cc, omega arith)
+
+pub told_size : (kind k : ℕ) (s : List ℕ) (at m : ℕ) (r : Found) (w : Leafed kind k s at r) → r.size ≡ Some m → (w.bytes ≡ m) × (0 < w.bytes)
+told_size kind k s at m r w e = size_some w.bytes m (eqb w.bytes 0) refl (sym e ∙ w.size)
+
 -- ---- no second answer
 
 weighs_one : (kind k : ℕ) (raw : List ℕ) (m n : ℕ) → Weighs kind k raw m → Weighs kind k raw n → m ≡ n
@@ -66,4 +76,5 @@ weighs_one kind k raw m n a b = go (ℕ_discrete m n)
 pub leafed_one : (kind k : ℕ) (s : List ℕ) (at : ℕ) (q r : Found) → Leafed kind k s at q → Leafed kind k s at r → (q.end ≡ r.end) × (q.size ≡ r.size)
 leafed_one kind k s at q r a b =
     let e : q.end ≡ r.end = a.ends ∙ sym b.ends in
-    (e, weighs_one kind k (slice at r.end s) q.size r.size (subst (λ (x : ℕ). Weighs kind k (slice at x s) q.size) e a.weighs) b.weighs)
+    let n : a.bytes ≡ b.bytes = weighs_one kind k (slice at r.end s) a.bytes b.bytes (subst (λ (x : ℕ). Weighs kind k (slice at x s) a.bytes) e a.weighs) b.weighs in
+    (e, a.size ∙ ap some_size n ∙ sym b.size)

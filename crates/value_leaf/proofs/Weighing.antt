@@ -81,7 +81,7 @@ module _ (s : List ℕ) (at e : ℕ) (raw : List ℕ) (is : drop at s ≡ raw ++
       let a : span is_inside (drop at s) ≡ length raw + span is_inside (drop e s) = ap (span is_inside) is ∙ span_append is_inside raw (drop e s) (calm_inside raw c) in
       let b : span is_inside (drop e s) ≡ 0 = span_stop is_inside s e h (inside_no (get_or s e 0) q) in
       subst (Leafed kind k s at) (sym i)
-      (record { ends = omega (arith, a, b, long); weighs = subst (λ (l : List ℕ). Weighs kind k l n) (sym part_is) w })
+      (record { ends = omega (arith, a, b, long); bytes = n; size = refl; weighs = subst (λ (l : List ℕ). Weighs kind k l n) (sym part_is) w })
 
 -- ---- kinds whose texts have no `>`
 
@@ -130,7 +130,7 @@ sized_uncut kind k raw n a b z h = let x = z euro euro_is in go x x.gives
 pub plain_told : (kind k : ℕ) (s : List ℕ) (at e n : ℕ) (r : Found) → kind ≢ 2 → kind ≢ 3 → e ≡ at + span is_inside (drop at s) → Sized kind k (slice at e s) n
     → r ≡ found_of e n → Leafed kind k s at r
 plain_told kind k s at e n r a b d z i =
-    subst (Leafed kind k s at) (sym i) (record { ends = d; weighs = record { whole = λ u. z; cut = λ u. go u (dec_lt 0 n) } })
+    subst (Leafed kind k s at) (sym i) (record { ends = d; bytes = n; size = refl; weighs = record { whole = λ u. z; cut = λ u. go u (dec_lt 0 n) } })
   where
     go : (Uncut (slice at e s) → ⊥) → Dec (0 < n) → n ≡ 0
     go u (yes h) = absurd (u (sized_uncut kind k (slice at e s) n a b z h))

@@ -8,32 +8,25 @@ ghost use Rattle.value_leaf.specs.Leafed.{is_inside, Leafed, CutTold};
 
 use crate::found::{Found, tell};
 use text::part::{begins, part_of};
+use text::run::run_end;
 use value_kinds::write::size;
 
 // Where the text that goes on from a place ends: at the next `<`, or with the file.
+#[tactic(auto, unfolding(crate::specs::Leafed::is_inside))]
 pub fn text_end(s: &[u8], at: usize) -> usize
     ensures { result ≡ at + span is_inside (drop at s.now) }
 {
-    let mut i = at;
-    while i < s.len() {
-        if s[i] == b'<' {
-            return i;
-        }
-        i += 1;
-    }
-    i
+    run_end(s, at, |b| b != b'<')
 }
 
 // Whether `]]>` stands in a text.
 fn is_cut(t: &[u8]) -> bool
     ensures { CutTold t.now result }
 {
-    let mut i = 0;
-    while i < t.len() {
+    for i in 0..t.len() {
         if begins(t, i, b"]]>") {
             return true;
         }
-        i += 1;
     }
     false
 }

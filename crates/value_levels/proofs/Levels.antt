@@ -1,5 +1,5 @@
 -- Levels of bytes: each class lies within the one below it; over the bytes of one. Assumes nothing.
-use mathlib.Core.Path.{◌≡◌, refl, sym, ◌∙◌, ap, subst}
+use mathlib.Core.Path.{◌≡◌, refl, sym, ◌∙◌, ap, ap₂, subst}
 use mathlib.Core.Bool.{Bool, true, false, cond, not, ◌&&◌}
 use mathlib.Core.Logic.{◌≢◌}
 use mathlib.Core.List.{List, [], ◌∷◌, ◌++◌}
@@ -15,7 +15,7 @@ use Rattle.text.specs.Lists.{All, span}
 use Rattle.text.specs.Bytes.{is_letter, is_digit}
 use Rattle.text.proofs.Classes.{digit, and_is, every}
 use Rattle.text.proofs.Classes as classes
-use Rattle.text.proofs.Spans.{span_le, span_stop, span_go}
+use Rattle.text.proofs.Spans.{span_le, span_end, span_stop, span_go, span_next}
 use Rattle.text_characters.specs.Pieces.{greater}
 use Rattle.value.specs.types.Code.{is_letter_or_digit}
 use Rattle.value.specs.types.Text.{is_txt, is_ref}
@@ -23,6 +23,8 @@ use Rattle.value.specs.mirror.Texts.{is_ascii_txt, quiet_txt, quiet_ref}
 use Rattle.value.proofs.classes.Computed.{besides, quiet_none, quiet_far}
 use Rattle.value.proofs.classes.Named.{letter_or_digit, reference}
 use Rattle.value_levels.specs.mirror.Levels.{level_of, reaches, Leveled, Ran}
+use Rattle.value_levels.specs.mirror.Runs.{Over}
+use Rattle.value_levels.proofs.Passing.{over_none, over_start, block_of, block_long, over_item, over_block}
 
 -- ---- no byte
 
@@ -104,24 +106,26 @@ all_map p q f (x ∷ l) h = (f x h.0, all_map p q f l h.1)
 
 -- ---- over bytes of a level
 
+pub ran_over : (m : ℕ) (s : List ℕ) (i j : ℕ) → Over (reaches m) s i j → Ran m s i j
+ran_over m s i j a = record { from = a.from; rest = a.rest }
+
 pub ran_none : (m : ℕ) (s : List ℕ) (i : ℕ) → Ran m s i i
-ran_none m s i = record { from = omega arith; rest = refl }
+ran_none m s i = ran_over m s i i (over_none (reaches m) s i)
 
 pub ran_start : (m : ℕ) (s : List ℕ) (at : ℕ) → Ran m s at (at + 0)
-ran_start m s at = let q : at ≡ at + 0 = omega arith in subst (Ran m s at) q (ran_none m s at)
+ran_start m s at = ran_over m s at (at + 0) (over_start (reaches m) s at)
 
 pub ran_then : (m : ℕ) (s : List ℕ) (i j k : ℕ) → Ran m s i j → Ran m s j k → Ran m s i k
 ran_then m s i j k a b = record { from = omega (arith, a.from, b.from); rest = b.rest ∙ a.rest }
 
-pub ran_on : (m : ℕ) (s : List ℕ) (at i : ℕ) → Ran m s at i → i < length s → m ≤ level_of (get_or s i 0) → Ran m s at (i + 1)
-ran_on m s at i a h l =
-    let g = span_go (reaches m) s i h (le-leb m (level_of (get_or s i 0)) l) in
-    record { from = omega (arith, a.from); rest = omega (arith, a.rest, g) }
-
 pub ran_more : (m : ℕ) (s : List ℕ) (at j : ℕ) → Ran m s at (at + j) → at + j < length s → m ≤ level_of (get_or s (at + j) 0) → Ran m s at (at + (j + 1))
 ran_more m s at j a h l =
+    let g = span_go (reaches m) s (at + j) h (le-leb m (level_of (get_or s (at + j) 0)) l) in
     let q : at + j + 1 ≡ at + (j + 1) = omega arith in
-    subst (Ran m s at) q (ran_on m s at (at + j) a h l)
+    subst (Ran m s at) q (record { from = omega arith; rest = omega (arith, a.rest, g) })
+
+pub ran_all : (m : ℕ) (s : List ℕ) (at j n : ℕ) → Ran m s at (at + j) → j ≤ n → n ≤ j → Ran m s at (at + n)
+ran_all m s at j n a h k = let e : j ≡ n = omega arith in subst (λ (x : ℕ). Ran m s at (at + x)) e a
 
 -- a run ends at a byte below its level; all of a run, from any place of it
 pub ran_out : (m : ℕ) (s : List ℕ) (i : ℕ) → i < length s → level_of (get_or s i 0) < m → span (reaches m) (drop i s) ≡ 0
@@ -133,23 +137,51 @@ ran_end m s i j a e = omega (arith, a.rest, e)
 pub ran_whole : (m : ℕ) (s : List ℕ) (i j k : ℕ) → Ran m s i j → k ≡ j + span (reaches m) (drop j s) → k ≡ i + span (reaches m) (drop i s)
 ran_whole m s i j k a e = e ∙ a.rest
 
--- sixteen bytes, compared at once: n of j are of level m, and they are passed where n is j
-pub record Counted (m : ℕ) (s : List ℕ) (at j n : ℕ) : Type 0 where
+-- bytes, compared at once: n of the first j are of the class, and they are passed where n is j
+pub record Counted (p : ℕ → Bool) (s : List ℕ) (at j n : ℕ) : Type 0 where
   pub most : n ≤ j
-  pub ran : n ≡ j → Ran m s at (at + j)
+  pub over : n ≡ j → Over p s at (at + j)
 
-pub counted_start : (m : ℕ) (s : List ℕ) (at : ℕ) → Counted m s at 0 0
-counted_start m s at = record { most = omega arith; ran = λ e. ran_start m s at }
+pub counted_start : (p : ℕ → Bool) (s : List ℕ) (at : ℕ) → Counted p s at 0 0
+counted_start p s at = record { most = omega arith; over = λ e. over_start p s at }
 
-pub counted_more : (m : ℕ) (s : List ℕ) (at j n r : ℕ) → Counted m s at j n → at + j < length s → r ≤ 1 → (r ≢ 0 → m ≤ level_of (get_or s (at + j) 0)) → Counted m s at (j + 1) (n + r)
-counted_more m s at j n r w h o f =
+pub counted_item : (p : ℕ → Bool) (s : List ℕ) (at k j n r : ℕ) → at + k ≤ length s → Counted p s at j n → j < length (block_of at k s) → r ≤ 1
+    → (r ≢ 0 → p (get_or (block_of at k s) j 0) ≡ true) → Counted p s at (j + 1) (n + r)
+counted_item p s at k j n r h w l o f =
     record {
       most = omega (arith, w.most, o);
-      ran = λ e. ran_more m s at j (w.ran (omega (arith, w.most, o, e))) h (f (λ z. omega (arith, w.most, o, e)));
+      over = λ e. over_item p s at k j h (w.over (omega (arith, w.most, o, e))) l (f (λ z. omega (arith, w.most, o, e)));
     }
 
-pub counted_all : (m : ℕ) (s : List ℕ) (at j n k : ℕ) → Counted m s at j n → j ≡ k → n ≡ k → Ran m s at (at + k)
-counted_all m s at j n k w e f = subst (λ (y : ℕ). Ran m s at (at + y)) e (w.ran (f ∙ sym e))
+pub counted_block : (p : ℕ → Bool) (s : List ℕ) (at k j n : ℕ) → at + k ≤ length s → Counted p s at j n → j ≤ length (block_of at k s) → length (block_of at k s) ≤ j → n ≡ k → Over p s at (at + k)
+counted_block p s at k j n h w u l e =
+    over_block p s at k j h (w.over (omega (arith, e, u, l, block_long at k s h))) u l
+
+span_same : (p q : ℕ → Bool) → ((x : ℕ) → p x ≡ q x) → (l : List ℕ) → span p l ≡ span q l
+unfolding span
+span_same p q f [] = refl
+span_same p q f (x ∷ l) = ap₂ (λ (b : Bool) (n : ℕ). cond b (suc n) zero) (f x) (span_same p q f l)
+
+span_done : (p : ℕ → Bool) (l : List ℕ) → span p (drop (span p l) l) ≡ 0
+span_done p l =
+    elim (dec_lt (span p l) (length l)) [ yes h ↦ span_stop p l (span p l) h (span_next p l h) | no h ↦ span_end p l (span p l) (omega arith) ]
+
+-- to the end of a run, as far as the levels in the table reach
+pub ran_ended : (t : List ℕ) (m : ℕ) (s : List ℕ) (at i r : ℕ) → at ≤ i → (Leveled t → Ran m s at i) → r ≡ i + span (λ (x : ℕ). leb m (get_or t x 0)) (drop i s)
+    → (at ≤ r) × (Leveled t → Ran m s at r) × (Leveled t → r ≡ at + span (reaches m) (drop at s))
+ran_ended t m s at i r h a e = (omega arith, λ l. ran_then m s at i r (a l) (on l), λ l. ran_whole m s at i r (a l) (is l))
+  where
+    is : Leveled t → r ≡ i + span (reaches m) (drop i s)
+    is l = e ∙ ap (λ (n : ℕ). i + n) (span_same (λ (x : ℕ). leb m (get_or t x 0)) (reaches m) (λ x. ap (leb m) (l.is x)) (drop i s))
+
+    over : Leveled t → span (reaches m) (drop r s) ≡ 0
+    over l =
+        ap (λ (n : ℕ). span (reaches m) (drop n s)) (is l)
+        ∙ ap (span (reaches m)) (sym (drop-drop (span (reaches m) (drop i s)) i s))
+        ∙ span_done (reaches m) (drop i s)
+
+    on : Leveled t → Ran m s i r
+    on l = record { from = omega (arith, is l); rest = omega (arith, is l, over l) }
 
 pub ran_four : (m : ℕ) (s : List ℕ) (at i n : ℕ) → Ran m s at i → Ran m s i (i + n) → n ≡ 4 → Ran m s at (i + 4)
 ran_four m s at i n a b e = subst (λ (x : ℕ). Ran m s at (i + x)) e (ran_then m s at i (i + n) a b)

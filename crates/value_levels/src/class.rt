@@ -3,8 +3,16 @@
 ghost use Rattle.std.specs.Prelude.{◌≡◌, ◌≢◌, ◌+◌, ◌≤◌, ◌<◌, length, drop};
 ghost use Rattle.text.specs.Lists.{span};
 ghost use Rattle.value_levels.specs.mirror.Levels.{turn, block, level_of, reaches, Leveled, Ran};
+ghost use Rattle.value_levels.specs.mirror.Runs.{Over};
 
+use crate::blocks::{BLOCK, blocks_end};
 use crate::table::Levels;
+use text::run::run_end;
+
+// Kept: levels are numbers and no enum: they are the cells of the table of bytes (table.rt), where 256 names would say no more, and `<` compares them.
+//
+// Kept: `Leveled levels.now →` stands before what is told, and no type says it: `run` and `long_run` (docs/PROMISES.md) tell `at ≤ result` of any
+// table, and such a type would ask more of who calls them.
 
 // The bytes of a text that stand for themselves, but for `>`.
 pub const TEXT: u8 = 1;
@@ -18,23 +26,11 @@ pub const CODE: u8 = 3;
 // Of these digits.
 pub const DIGIT: u8 = 4;
 
-// So many bytes are passed at a turn, and so many of a text at once.
+// So many bytes are passed at a turn.
 const TURN: usize = 4;
-
-pub(crate) const BLOCK: usize = 16;
-
-const ALL: u8 = BLOCK as u8;
 
 // One less.
 const SHORT_TURN: usize = TURN - 1;
-
-pub(crate) const SHORT_BLOCK: usize = BLOCK - 1;
-
-fn wide(x: u8) -> usize
-    ensures { (result ≡ x) × (result < 256) }
-{
-    x as usize
-}
 
 // How many of the four bytes at a place are of a level or above it, one after the other. The compiler makes four tests of the loop.
 fn four(levels: &Levels, s: &[u8], at: usize, least: u8) -> usize
@@ -42,40 +38,21 @@ fn four(levels: &Levels, s: &[u8], at: usize, least: u8) -> usize
     ensures { (result ≤ turn) × (Leveled levels.now → Ran least s.now at (at + result))
         × (Leveled levels.now → result ≢ turn → span (reaches least) (drop (at + result) s.now) ≡ 0) }
 {
-    let mut j: usize = 0;
-    while j < TURN {
-        if levels[wide(s[at + j])] < least {
+    for j in 0..TURN {
+        if levels[usize::from(s[at + j])] < least {
             return j;
         }
-        j += 1;
     }
-    j
+    TURN
 }
 
-// Over bytes of a level or above it, one a turn: near the end of the bytes, where no text of a good file ends.
-fn last_run(levels: &Levels, s: &[u8], at: usize, least: u8) -> usize
-    ensures { (at ≤ result) × (Leveled levels.now → Ran least s.now at result)
-        × (Leveled levels.now → result ≡ at + span (reaches least) (drop at s.now)) }
-{
-    let mut i = at;
-    while i < s.len() {
-        if levels[wide(s[i])] < least {
-            return i;
-        }
-        i += 1;
-    }
-    i
-}
-
-// The same, four a turn where so many are left.
+// Over bytes of a level or above it, four a turn where so many are left.
+// Kept: a loop, and not `run_end` from the start: that takes 3.1 in a hundred more instructions for a good file of 1 MiB, and 2.0 for one of 4 KiB.
 pub fn run(levels: &Levels, s: &[u8], at: usize, least: u8) -> usize
     ensures { (at ≤ result) × (Leveled levels.now → Ran least s.now at result)
         × (Leveled levels.now → result ≡ at + span (reaches least) (drop at s.now)) }
 {
-    if s.len() < TURN {
-        return last_run(levels, s, at, least);
-    }
-    let last = s.len() - SHORT_TURN;
+    let last = s.len().saturating_sub(SHORT_TURN);
     let mut i = at;
     while i < last {
         let n = four(levels, s, i, least);
@@ -84,7 +61,7 @@ pub fn run(levels: &Levels, s: &[u8], at: usize, least: u8) -> usize
         }
         i += TURN;
     }
-    last_run(levels, s, i, least)
+    run_end(s, i, |b| least <= levels[usize::from(b)])
 }
 
 // 1 of a byte of TEXT, else 0. No look-up and nothing to jump by, so that the compiler does sixteen of them at once.
@@ -95,17 +72,15 @@ fn quiet(b: u8) -> u8
 }
 
 // How many of the sixteen bytes at a place are of TEXT.
-fn quiets(s: &[u8], at: usize) -> u8
+fn quiets(s: &[u8], at: usize) -> usize
     requires { at + block ≤ length s.now }
-    ensures { result ≡ block → Ran 1 s.now at (at + block) }
+    ensures { result ≡ block → Over (reaches 1) s.now at (at + block) }
 {
-    let mut j: usize = 0;
     let mut n: u8 = 0;
-    while j < BLOCK {
-        n += quiet(s[at + j]);
-        j += 1;
+    for b in &s[at..at + BLOCK] {
+        n += quiet(*b);
     }
-    n
+    usize::from(n)
 }
 
 // As `run` of TEXT, sixteen bytes a turn.
@@ -113,16 +88,10 @@ pub fn long_run(levels: &Levels, s: &[u8], at: usize) -> usize
     ensures { (at ≤ result) × (Leveled levels.now → Ran 1 s.now at result)
         × (Leveled levels.now → result ≡ at + span (reaches 1) (drop at s.now)) }
 {
-    if s.len() < BLOCK {
-        return run(levels, s, at, TEXT);
-    }
-    let last = s.len() - SHORT_BLOCK;
-    let mut i = at;
-    while i < last {
-        if quiets(s, i) != ALL {
-            return run(levels, s, i, TEXT);
-        }
-        i += BLOCK;
-    }
-    run(levels, s, i, TEXT)
+    run(
+        levels,
+        s,
+        blocks_end(s, at, |i| quiets(s, i) == BLOCK),
+        TEXT,
+    )
 }

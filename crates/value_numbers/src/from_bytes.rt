@@ -7,21 +7,12 @@ use text_bytes::number::get64;
 use value::bounds::NUMBER_LIMIT;
 use value_shared::place::byte;
 
-fn wide(x: u8) -> usize
-    ensures { result ≡ x }
-{
-    x as usize
-}
-
 // Of a list of so many words.
 pub fn is_place(b: &[u8], words: usize) -> bool
     ensures { result ≡ is_place words b.now }
 {
-    let n = wide(byte(b, 0));
-    if n == 0 {
-        return false;
-    }
-    n <= words
+    let n = usize::from(byte(b, 0));
+    1 <= n && n <= words
 }
 
 pub fn is_truth(b: &[u8]) -> bool

@@ -1,6 +1,5 @@
 // The bytes of BOOL and NUM, whole or not at all, and how many there are.
 
-ghost use Rattle.std.specs.Prelude.{◌≡◌, [], ◌∷◌};
 ghost use Rattle.value.specs.Value.{bytes, truth, natural};
 ghost use Rattle.value.specs.given.Wrote.{Wrote};
 
@@ -8,19 +7,10 @@ use text_bytes::number::put64;
 use value::packed::NUMBER_SIZE;
 use value_shared::place::place;
 
-fn truth_byte(yes: bool) -> u8
-    ensures { (result ∷ []) ≡ bytes (truth yes) }
-{
-    if yes {
-        return 1;
-    }
-    0
-}
-
 pub fn write_truth(out: &mut [u8], at: usize, yes: bool) -> usize
     ensures { Wrote out.old at (bytes (truth yes)) result out.new }
 {
-    place(out, at, truth_byte(yes));
+    place(out, at, u8::from(yes));
     1
 }
 

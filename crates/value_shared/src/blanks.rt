@@ -1,32 +1,25 @@
 // What is left of a text that loses its blanks.
 
-ghost use Rattle.std.specs.Prelude.{◌-◌, ◌<◌, ◌≤◌, length};
-ghost use Rattle.value.specs.decided.Trim.{InkEnd, Trim};
+ghost use Rattle.value.specs.decided.Trim.{LastInk, Trim};
 
 use text::class::is_blank;
+use text::part::rest;
 use text::span::blanks_end;
 
-// Where the last character from `lo` on stands that is no blank: the place after it, `lo` where there is none.
-fn ink_end(s: &[u8], lo: usize) -> usize
-    requires { lo ≤ length s.now }
-    ensures { InkEnd s.now lo result }
+// Where the last character stands that is no blank.
+fn last_ink(s: &[u8]) -> Option<usize>
+    ensures { LastInk s.now result }
 {
-    let mut hi = s.len();
-    while lo < hi {
-        let last = hi - 1;
-        if !is_blank(s[last]) {
-            return hi;
-        }
-        hi = last;
-    }
-    hi
+    s.iter().rposition(|b| !is_blank(*b))
 }
 
 // s without the blanks at both ends.
 pub fn trimmed(s: &[u8]) -> &[u8]
     ensures { Trim s.now result.now }
 {
-    let lo = blanks_end(s, 0);
-    let hi = ink_end(s, lo);
-    &s[lo..hi]
+    let inked = rest(s, blanks_end(s, 0));
+    match last_ink(inked) {
+        Some(last) => &inked[..last + 1],
+        None => &inked[..0],
+    }
 }

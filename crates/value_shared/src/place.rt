@@ -8,10 +8,7 @@ ghost use Rattle.value.specs.Judged.{Exactly};
 pub fn byte(b: &[u8], i: usize) -> u8
     ensures { result ≡ get_or b.now i 0 }
 {
-    if i < b.len() {
-        return b[i];
-    }
-    0
+    b.get(i).copied().unwrap_or(0)
 }
 
 // The byte n at a place of the buffer.
@@ -27,8 +24,5 @@ pub fn place(out: &mut [u8], at: usize, n: u8)
 pub fn has_room(len: usize, at: usize, n: usize) -> bool
     ensures { Exactly result (at + n ≤ len) }
 {
-    if len < at {
-        return false;
-    }
-    n <= len - at
+    at <= len && n <= len - at
 }

@@ -9,6 +9,7 @@ ghost use Rattle.value.specs.mirror.Texts.{class_of, width_of, quiet_txt, quiet_
 ghost use Rattle.text.specs.Lists.{span};
 ghost use Rattle.text.specs.Bytes.{code};
 
+use text::run::run_end;
 use text_characters::piece::next_char;
 use value::judged::Judged;
 
@@ -112,13 +113,7 @@ pub fn is_quiet_ref(b: u8) -> bool
 fn is_ref(c: u32) -> bool
     ensures { result ≡ is_ref c }
 {
-    if c == SLASH {
-        return true;
-    }
-    if LAST_ASCII < c {
-        return false;
-    }
-    is_quiet_ref(c as u8)
+    c == SLASH || (c <= LAST_ASCII && is_quiet_ref(c as u8))
 }
 
 // Whether a character may stand in a reference (strict) or in a text.
@@ -134,19 +129,13 @@ fn fits(strict: bool, c: u32) -> bool
 fn inked(ink: bool, c: u32) -> bool
     ensures { result ≡ (ink || not_space c) }
 {
-    if ink {
-        return true;
-    }
-    c != SPACE
+    ink || c != SPACE
 }
 
 fn slash_and(flag: bool, c: u32) -> bool
     ensures { result ≡ (flag && eqb c (code "/")) }
 {
-    if flag {
-        return c == SLASH;
-    }
-    false
+    flag && c == SLASH
 }
 
 fn width(len: usize, code: u32) -> usize
@@ -162,10 +151,7 @@ fn width(len: usize, code: u32) -> usize
 fn slash_behind(strict: bool, c: u32, run: usize) -> bool
     ensures { result ≡ (eqb run 0 && (strict && eqb c (code "/"))) }
 {
-    if run == 0 {
-        return slash_and(strict, c);
-    }
-    false
+    run == 0 && slash_and(strict, c)
 }
 
 // The words of the bytes that a text may have and that stand for themselves; those of a byte's last two pages are here to make it a table.
@@ -200,14 +186,7 @@ fn is_quiet(strict: bool, b: u8) -> bool
 fn quiet_end(s: &[u8], at: usize, strict: bool) -> usize
     ensures { result ≡ at + span (quiet_of strict) (drop at s.now) }
 {
-    let mut i = at;
-    while i < s.len() {
-        if !is_quiet(strict, s[i]) {
-            return i;
-        }
-        i += 1;
-    }
-    i
+    run_end(s, at, |b| is_quiet(strict, b))
 }
 
 // How many quiet bytes follow. While only spaces were read, none is passed over: one that is no space is looked for.
@@ -221,7 +200,7 @@ fn run_of(s: &[u8], at: usize, strict: bool, ink: bool) -> usize
 }
 
 // The raw text of a reference (strict, k is 35) or of TXTk: how many bytes its characters have.
-pub fn spelled(s: &[u8], strict: bool, k: usize) -> Judged
+pub fn spelled(s: &[u8], strict: bool, k: usize) -> Option<Judged>
     ensures { Spelled (text_of strict k) s.now result }
 {
     let mut i = 0;
@@ -231,22 +210,22 @@ pub fn spelled(s: &[u8], strict: bool, k: usize) -> Judged
     let mut slash = strict;
     while i < s.len() {
         if k <= n {
-            return Judged::Refused;
+            return None;
         }
         let c = next_char(s, i);
         let len = c.len;
         let code = c.code;
         if !fits(strict, code) {
-            return Judged::Refused;
+            return None;
         }
         if slash_and(slash, code) {
-            return Judged::Refused;
+            return None;
         }
         n += 1;
         ink = inked(ink, code);
         let run = run_of(s, i + len, strict, ink);
         if k - n < run {
-            return Judged::Refused;
+            return None;
         }
         i += len + run;
         n += run;
@@ -254,10 +233,10 @@ pub fn spelled(s: &[u8], strict: bool, k: usize) -> Judged
         slash = slash_behind(strict, code, run);
     }
     if slash {
-        return Judged::Refused;
+        return None;
     }
     if ink {
-        return Judged::Text(size);
+        return Some(Judged::Text(size));
     }
-    Judged::Refused
+    None
 }

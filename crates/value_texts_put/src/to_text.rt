@@ -1,6 +1,6 @@
 // The bytes of a text, `&`, `<` and `>` by entities: what stands between two of them is copied as it stands.
 
-ghost use Rattle.std.specs.Prelude.{◌≡◌, true, ◌+◌, ◌≤◌, drop, length, take, leb};
+ghost use Rattle.std.specs.Prelude.{◌≡◌, true, ◌+◌, ◌-◌, ◌≤◌, drop, length, take, leb};
 ghost use Rattle.value.specs.script.Raw.{is_plain, escape, escaped, is_marked};
 ghost use Rattle.std.proofs.Math.Seq.{slice};
 ghost use Rattle.text.specs.Lists.{span};
@@ -10,6 +10,7 @@ ghost use Rattle.value.specs.mirror.Stored.{text_raw};
 ghost use Rattle.value.specs.Places.{most_more, longest_text, longest_raw};
 
 use text::part::part_of;
+use text::run::run_end;
 use text::span::{TURN, TURN_REST};
 use text_bytes::number::{copy, get16};
 
@@ -42,6 +43,7 @@ fn is_plain(x: u8) -> bool
 
 // As far as four bytes that are none of them follow, and four more; where one stops the run, up to it. It may stop early near the end of the
 // text: what is left of the run is the same.
+// Kept: by run_end alone a text of 400 bytes takes 296 ns and not 248, and two instructions a byte more (6.5, 4.3).
 fn plain_fours(t: &[u8], at: usize) -> usize
     ensures { result + span is_plain (drop result t.now) ≡ at + span is_plain (drop at t.now) }
 {
@@ -75,19 +77,14 @@ fn plain_fours(t: &[u8], at: usize) -> usize
 fn plain_end(t: &[u8], at: usize) -> usize
     ensures { result ≡ at + span is_plain (drop at t.now) }
 {
-    let mut i = plain_fours(t, at);
-    while i < t.len() {
-        if !is_plain(t[i]) {
-            return i;
-        }
-        i += 1;
-    }
-    i
+    run_end(t, plain_fours(t, at), is_plain)
 }
 
 // How many bytes more than one are written for a byte: tests that only choose a number, so that several bytes are counted at a time.
+// Kept: by the length of the entity's word the count goes byte by byte (docs/PROVING.md, a sum over bytes).
 fn extra(x: u8) -> u32
-    ensures { (1 + result ≡ length (escape x)) × (result ≤ most_more) }
+    ensures is { result ≡ length (escape x) - 1 }
+    ensures most { result ≤ most_more }
 {
     if x == b'&' {
         return AMP_EXTRA;
@@ -106,30 +103,19 @@ fn raw_len(t: &[u8]) -> usize
     requires { length t.now ≤ longest_text }
     ensures { (result ≡ length (escaped t.now)) × (result ≤ longest_raw) }
 {
-    let mut n: u32 = 0;
-    let mut i = 0;
-    while i < t.len() {
-        n += extra(t[i]);
-        i += 1;
-    }
-    t.len() + (n as usize)
+    let more: u32 = t.iter().map(|x| extra(*x)).sum();
+    t.len() + (more as usize)
 }
 
-// The entity of one of the three; the place after it.
-fn put_mark(x: u8, out: &mut [u8], at: usize) -> usize
-    requires { (is_marked x ≡ true) × (at + length (escape x) ≤ length out.old) }
-    ensures { (result ≡ at + length (escape x)) × (out.new ≡ pasted out.old at (escape x)) }
+// What is written for one of the three.
+fn entity(x: u8) -> &'static [u8]
+    ensures { is_marked x ≡ true → result.now ≡ escape x }
 {
-    if x == b'&' {
-        copy(&AMP, 0, AMP.len(), out, at);
-        return at + AMP.len();
+    match x {
+        b'&' => &AMP,
+        b'<' => &LT,
+        _ => &GT,
     }
-    if x == b'<' {
-        copy(&LT, 0, LT.len(), out, at);
-        return at + LT.len();
-    }
-    copy(&GT, 0, GT.len(), out, at);
-    at + GT.len()
 }
 
 // All of t, run by run; the place after it.
@@ -146,7 +132,9 @@ fn spread(t: &[u8], out: &mut [u8], at: usize) -> usize
         if t.len() <= end {
             return mark;
         }
-        to = put_mark(t[end], out, mark);
+        let word = entity(t[end]);
+        copy(word, 0, word.len(), out, mark);
+        to = mark + word.len();
         i = end + 1;
     }
 }
@@ -156,10 +144,7 @@ fn has_room(t: &[u8], room: usize) -> bool
     requires { length t.now ≤ longest_text }
     ensures { result ≡ leb (length (escaped t.now)) room }
 {
-    if LONGEST * t.len() <= room {
-        return true;
-    }
-    raw_len(t) <= room
+    LONGEST * t.len() <= room || raw_len(t) <= room
 }
 
 // Writes t at a place of the buffer, and answers how many bytes that is. Where there is no room for it, it is counted and not written.
@@ -182,7 +167,7 @@ fn text_of(b: &[u8]) -> &[u8]
     ensures is { result.now ≡ slice 2 (2 + number (take 2 b.now)) b.now }
     ensures most { length result.now ≤ longest_text }
 {
-    let end = 2 + (get16(b, 0) as usize);
+    let end = 2 + usize::from(get16(b, 0));
     if b.len() < end {
         return part_of(b, 2, b.len());
     }

@@ -10,6 +10,7 @@ ghost use Rattle.text.specs.Lists.{span};
 ghost use Rattle.text.specs.Bytes.{code};
 
 use text::class::{is_digit, is_letter};
+use text::run::run_end;
 use text_characters::utf8::decode;
 use value::bounds::MOST_REF;
 use value_texts::from_text::{is_quiet_ref, is_txt};
@@ -18,45 +19,26 @@ use value_texts::from_text::{is_quiet_ref, is_txt};
 fn is_word(x: u8) -> bool
     ensures { result ≡ (is_ref x && not (eqb x (code "/"))) }
 {
-    if is_digit(x) {
-        return true;
-    }
-    if is_letter(x) {
-        return true;
-    }
-    is_quiet_ref(x)
+    is_digit(x) || is_letter(x) || is_quiet_ref(x)
 }
 
 // Whether one is no space; it mostly is the first.
-fn inked(b: &[u8]) -> bool
+fn is_inked(b: &[u8]) -> bool
     ensures { result ≡ some not_space b.now }
 {
-    let mut i = 0;
-    while i < b.len() {
-        if b[i] != b' ' {
-            return true;
-        }
-        i += 1;
-    }
-    false
+    b.iter().any(|x| *x != b' ')
 }
 
 // Characters of a reference, no slash first or last, none beside another: in one pass, and most bytes are no slash.
 fn is_spaced(b: &[u8]) -> bool
     ensures { result ≡ (every is_ref b.now && apart true b.now) }
 {
-    let mut i = 0;
     let mut slash = true;
-    while i < b.len() {
-        let x = b[i];
-        i += 1;
-        if is_word(x) {
+    for x in b {
+        if is_word(*x) {
             slash = false;
         } else {
-            if x != b'/' {
-                return false;
-            }
-            if slash {
+            if *x != b'/' || slash {
                 return false;
             }
             slash = true;
@@ -68,13 +50,7 @@ fn is_spaced(b: &[u8]) -> bool
 pub fn is_reference(b: &[u8]) -> bool
     ensures { result ≡ is_reference b.now }
 {
-    if MOST_REF < b.len() {
-        return false;
-    }
-    if !inked(b) {
-        return false;
-    }
-    is_spaced(b)
+    b.len() <= MOST_REF && is_inked(b) && is_spaced(b)
 }
 
 fn is_ascii_txt(x: u8) -> bool
@@ -87,47 +63,29 @@ fn is_ascii_txt(x: u8) -> bool
     }
 }
 
-// How far ASCII characters of a text reach from a place.
-fn ascii_end(b: &[u8], at: usize) -> usize
-    ensures { result ≡ at + span is_ascii_txt (drop at b.now) }
-{
-    let mut i = at;
-    while i < b.len() {
-        if !is_ascii_txt(b[i]) {
-            return i;
-        }
-        i += 1;
-    }
-    i
-}
-
-// How many bytes the character of a text has that begins at a place; 0 where none does. `decode` finds the code 0 there, which no text has.
-fn char_len(b: &[u8], at: usize) -> usize
+// How many bytes the character of a text has that begins at a place. `decode` finds the code 0 where none does, which no text has.
+fn char_len(b: &[u8], at: usize) -> Option<usize>
     ensures { result ≡ txt_len (drop at b.now) }
 {
     let c = decode(b, at);
-    if is_txt(c.code) {
-        return c.len;
-    }
-    0
+    is_txt(c.code).then_some(c.len)
 }
 
 // TXTk: runs of ASCII, one byte a character, and the characters between them; `more` counts the bytes after the first of each.
 pub fn is_writing(b: &[u8], k: usize) -> bool
     ensures { result ≡ is_writing k b.now }
 {
-    if !inked(b) {
+    if !is_inked(b) {
         return false;
     }
-    let mut i = ascii_end(b, 0);
+    let mut i = run_end(b, 0, is_ascii_txt);
     let mut more: usize = 0;
     while i < b.len() {
-        let n = char_len(b, i);
-        if n == 0 {
+        let Some(n) = char_len(b, i) else {
             return false;
-        }
-        more = more + (n - 1);
-        i = ascii_end(b, i + n);
+        };
+        more += n - 1;
+        i = run_end(b, i + n, is_ascii_txt);
     }
     b.len() - more <= k
 }

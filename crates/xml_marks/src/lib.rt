@@ -6,6 +6,7 @@ ghost use Rattle.text.specs.Lists.{span};
 ghost use Rattle.xml_tags.specs.Marks.{but, one, head_is};
 ghost use Rattle.xml_tags.specs.mirror.Passing.{no_quote, in_name};
 
+use text::run::run_end;
 use text::span::{TURN, TURN_REST};
 
 // The first byte b from a place on, or the end: four bytes a turn, and the last ones one by one.
@@ -13,8 +14,9 @@ pub fn until(s: &[u8], at: usize, b: u8) -> usize
     ensures { result ≡ at + span (but b) (drop at s.now) }
 {
     if s.len() < TURN {
-        return until_near(s, at, b);
+        return run_end(s, at, |x| x != b);
     }
+    // Kept: four a turn. Up to a byte 20 bytes off it took 13 ns, `run_end` 39 and the library's `memchr` 18.
     let last = s.len() - TURN_REST;
     let mut i = at;
     while i < last {
@@ -35,35 +37,14 @@ pub fn until(s: &[u8], at: usize, b: u8) -> usize
         }
         i = l + 1;
     }
-    until_near(s, i, b)
-}
-
-// The same, byte by byte.
-fn until_near(s: &[u8], at: usize, b: u8) -> usize
-    ensures { result ≡ at + span (but b) (drop at s.now) }
-{
-    let mut i = at;
-    while i < s.len() {
-        if s[i] == b {
-            return i;
-        }
-        i += 1;
-    }
-    i
+    run_end(s, i, |x| x != b)
 }
 
 // The end of a name that goes on from a place, be it a tag's or an attribute's.
 pub fn name_end(s: &[u8], at: usize) -> usize
     ensures { result ≡ at + span in_name (drop at s.now) }
 {
-    let mut i = at;
-    while i < s.len() {
-        if !in_name(s[i]) {
-            return i;
-        }
-        i += 1;
-    }
-    i
+    run_end(s, at, in_name)
 }
 
 // Whether a name in a tag goes on over this byte. No two neighbours in one row: such rows become one test of a mask.
@@ -81,14 +62,7 @@ fn in_name(b: u8) -> bool
 pub fn until_quote(s: &[u8], at: usize) -> usize
     ensures { result ≡ at + span no_quote (drop at s.now) }
 {
-    let mut i = at;
-    while i < s.len() {
-        if !no_quote(s[i]) {
-            return i;
-        }
-        i += 1;
-    }
-    i
+    run_end(s, at, no_quote)
 }
 
 fn no_quote(b: u8) -> bool

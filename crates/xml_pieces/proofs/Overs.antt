@@ -6,8 +6,9 @@ use native.Mathlib.Nat.{add-zero, le_of_suc-le-suc}
 use native.Mathlib.Omega.{arith}
 use lib.ListN.{length, take}
 use Rattle.xml_pieces.specs.Over.{Ends, Begun, Breaks, Over}
-use Rattle.xml_pieces.specs.declared.Went.{Went}
-use Rattle.xml_pieces.specs.declared.Went.TheVariants.{On, Stopped}
+use Rattle.std.specs.Prelude.{Result, Ok, Err}
+use Rattle.xml_pieces.specs.declared.Stopped.{Stopped}
+use Rattle.xml_pieces.specs.Over.{stop}
 
 module _ (L : List ℕ → Type 0) where
   -- no text begins with two constructs of this kind
@@ -15,19 +16,19 @@ module _ (L : List ℕ → Type 0) where
   Lone = (t : List ℕ) (m n : ℕ) → Ends L t m → Ends L t n → m ≡ n
 
   -- so only one answer fits
-  pub over_one : Lone → (t : List ℕ) (i : ℕ) (a b : Went) → Over L t i a → Over L t i b → a ≡ b
-  over_one lone t i (On a) (On b) p q = ap On (p.1 ∙ ap (λ (n : ℕ). i + n) (lone t p.0 q.0 p.2 q.2) ∙ sym q.1)
-  over_one lone t i (On a) (Stopped b) p q = absurd (q.2.none p.0 p.2)
-  over_one lone t i (Stopped a) (On b) p q = absurd (p.2.none q.0 q.2)
-  over_one lone t i (Stopped a) (Stopped b) p q =
+  pub over_one : Lone → (t : List ℕ) (i : ℕ) (a b : Result ℕ Stopped) → Over L t i a → Over L t i b → a ≡ b
+  over_one lone t i (Ok a) (Ok b) p q = ap Ok (p.1 ∙ ap (λ (n : ℕ). i + n) (lone t p.0 q.0 p.2 q.2) ∙ sym q.1)
+  over_one lone t i (Ok a) (Err b) p q = absurd (q.2.none p.0 p.2)
+  over_one lone t i (Err a) (Ok b) p q = absurd (p.2.none q.0 q.2)
+  over_one lone t i (Err a) (Err b) p q =
       let u = p.2.most q.0 q.2.within q.2.begun in
       let v = q.2.most p.0 p.2.within p.2.begun in
       let e : p.0 ≡ q.0 = omega arith in
-      ap Stopped (p.1 ∙ ap (λ (n : ℕ). i + n) e ∙ sym q.1)
+      ap stop (p.1 ∙ ap (λ (n : ℕ). i + n) e ∙ sym q.1)
 
   module _ (some : Begun L []) (not_None : L [] → ⊥) where
     -- the text ends here
-    pub over_end : (i : ℕ) → Over L [] i (Stopped i)
+    pub over_end : (i : ℕ) → Over L [] i (stop i)
     over_end i = (0, sym (add-zero i), record { none = none; within = zero-le; begun = some; most = λ k h b. h })
       where
         none : (k : ℕ) → Ends L [] k → ⊥
@@ -35,7 +36,7 @@ module _ (L : List ℕ → Type 0) where
         none (suc k) h = omega (arith, h.within)
 
     -- none goes on with this byte
-    pub over_dead : (x : ℕ) (t : List ℕ) (i : ℕ) → ((l : List ℕ) → L (x ∷ l) → ⊥) → Over L (x ∷ t) i (Stopped i)
+    pub over_dead : (x : ℕ) (t : List ℕ) (i : ℕ) → ((l : List ℕ) → L (x ∷ l) → ⊥) → Over L (x ∷ t) i (stop i)
     over_dead x t i no_more = (0, sym (add-zero i), record { none = none; within = zero-le; begun = some; most = most })
       where
         none : (k : ℕ) → Ends L (x ∷ t) k → ⊥
@@ -47,16 +48,16 @@ module _ (L : List ℕ → Type 0) where
         most (suc k) h b = absurd (no_more (take k t ++ b.0) b.1)
 
   -- it is the last byte
-  pub over_last : (x : ℕ) (t : List ℕ) (i : ℕ) → L (x ∷ []) → Over L (x ∷ t) i (On (i + 1))
+  pub over_last : (x : ℕ) (t : List ℕ) (i : ℕ) → L (x ∷ []) → Over L (x ∷ t) i (Ok (i + 1))
   over_last x t i h = (1, refl, record { within = suc-le-suc zero-le; is = h })
 
   -- a byte, after which M says what is still to come
   module _ (M : List ℕ → Type 0) (x : ℕ) (to : (l : List ℕ) → M l → L (x ∷ l)) (from : (l : List ℕ) → L (x ∷ l) → M l) (not_None : L [] → ⊥) where
-    pub over_byte : (t : List ℕ) (i : ℕ) (r : Went) → Over M t (i + 1) r → Over L (x ∷ t) i r
-    over_byte t i (On e) h =
+    pub over_byte : (t : List ℕ) (i : ℕ) (r : Result ℕ Stopped) → Over M t (i + 1) r → Over L (x ∷ t) i r
+    over_byte t i (Ok e) h =
         let f = h.1 in
         (suc h.0, omega arith, record { within = suc-le-suc h.2.within; is = to (take h.0 t) h.2.is })
-    over_byte t i (Stopped e) h =
+    over_byte t i (Err e) h =
         let f = h.1 in
         let b = h.2 in
         (suc h.0, omega arith, record { none = none b; within = suc-le-suc b.within; begun = (b.begun.0, to (take h.0 t ++ b.begun.0) b.begun.1); most = most b })
@@ -70,10 +71,10 @@ module _ (L : List ℕ → Type 0) where
         most b (suc k) w v = suc-le-suc (b.most k (le_of_suc-le-suc w) (v.0, from (take k t ++ v.0) v.1))
 
 -- two ways of saying which bytes are such a construct
-pub over_as : (L M : List ℕ → Type 0) → ((l : List ℕ) → L l → M l) → ((l : List ℕ) → M l → L l) → (t : List ℕ) (i : ℕ) (r : Went)
+pub over_as : (L M : List ℕ → Type 0) → ((l : List ℕ) → L l → M l) → ((l : List ℕ) → M l → L l) → (t : List ℕ) (i : ℕ) (r : Result ℕ Stopped)
     → Over L t i r → Over M t i r
-over_as L M to from t i (On e) h = (h.0, h.1, record { within = h.2.within; is = to (take h.0 t) h.2.is })
-over_as L M to from t i (Stopped e) h =
+over_as L M to from t i (Ok e) h = (h.0, h.1, record { within = h.2.within; is = to (take h.0 t) h.2.is })
+over_as L M to from t i (Err e) h =
     let b = h.2 in (
       h.0,
       h.1,

@@ -18,10 +18,11 @@ use Rattle.xml.specs.mirror.Auto.{Part, one, two, three, e0, ed, ef, f0, f4, amp
 use Rattle.xml_pieces.specs.Over.{Over}
 use Rattle.xml_pieces.specs.Kinds.{IsPiece, IsWord}
 use Rattle.xml_pieces.specs.mirror.Reading.{told, reading, ReadsOne, Ranged, ReadsTwo, ReadsThree, least_behind, greatest_behind}
-use Rattle.xml_pieces.specs.declared.Went.{Went}
-use Rattle.xml_pieces.specs.declared.Went.TheVariants.{On, Stopped}
 use Rattle.xml_pieces.proofs.Words.{over_word, word_is}
 use Rattle.xml_pieces.proofs.Readings.{piece_over}
+use Rattle.std.specs.Prelude.{Result, Ok, Err}
+use Rattle.xml_pieces.specs.declared.Stopped.{Stopped}
+use Rattle.xml_pieces.specs.Over.{stop}
 
 -- ---- the rest of an entity
 
@@ -30,13 +31,13 @@ unfolding reading over_word
 rested q y [] i = refl
 rested [] y (x ∷ t) i = go (eqb x y)
   where
-    go : (b : Bool) → told (cond b all bad) i (λ p. reading (go_on p) t (i + 1)) ≡ cond b (On (i + 1)) (Stopped i)
+    go : (b : Bool) → told (cond b all bad) i (λ p. reading (go_on p) t (i + 1)) ≡ cond b (Ok (i + 1)) (stop i)
     go true = refl
     go false = refl
 rested (z ∷ q) y (x ∷ t) i = go (eqb x y) (rested q z t (i + 1))
   where
     go : (b : Bool) → reading (go_on (rest z q)) t (i + 1) ≡ over_word (z ∷ q) t (i + 1)
-        → told (cond b (more (rest z q)) bad) i (λ p. reading (go_on p) t (i + 1)) ≡ cond b (over_word (z ∷ q) t (i + 1)) (Stopped i)
+        → told (cond b (more (rest z q)) bad) i (λ p. reading (go_on p) t (i + 1)) ≡ cond b (over_word (z ∷ q) t (i + 1)) (stop i)
     go true h = h
     go false h = refl
 
@@ -48,7 +49,7 @@ worded (y ∷ q) t i = rested q y t (i + 1)
 -- ---- the byte at a place
 
 module _ (s : List ℕ) (i : ℕ) (f : ℕ → Read) where
-  pub part_cut : length s ≤ i → Stopped i ≡ reading f (drop i s) i
+  pub part_cut : length s ≤ i → stop i ≡ reading f (drop i s) i
   unfolding reading
   part_cut h = rw (drop_of_length-le s h) refl
 
@@ -62,74 +63,74 @@ module _ (s : List ℕ) (i : ℕ) (f : ℕ → Read) where
     tells : (u : Read) → f (get_or s i 0) ≡ u → told u i (λ p. reading (go_on p) (drop (i + 1) s) (i + 1)) ≡ reading f (drop i s) i
     tells u e = ap (λ (z : Read). told z i (λ p. reading (go_on p) (drop (i + 1) s) (i + 1))) (sym e) ∙ told_is
 
-    pub part_dead : f (get_or s i 0) ≡ bad → Stopped i ≡ reading f (drop i s) i
+    pub part_dead : f (get_or s i 0) ≡ bad → stop i ≡ reading f (drop i s) i
     part_dead e = tells bad e
 
-    pub part_last : f (get_or s i 0) ≡ all → On (i + 1) ≡ reading f (drop i s) i
+    pub part_last : f (get_or s i 0) ≡ all → Ok (i + 1) ≡ reading f (drop i s) i
     part_last e = tells all e
 
-    pub part_then : (p : Part) (r : Went) → f (get_or s i 0) ≡ more p → r ≡ reading (go_on p) (drop (i + 1) s) (i + 1) → r ≡ reading f (drop i s) i
+    pub part_then : (p : Part) (r : Result ℕ Stopped) → f (get_or s i 0) ≡ more p → r ≡ reading (go_on p) (drop (i + 1) s) (i + 1) → r ≡ reading f (drop i s) i
     part_then p r e g = g ∙ tells (more p) e
 
-    pub part_word : (w : List ℕ) (r : Went) → f (get_or s i 0) ≡ to_word w → Over (IsWord w) (drop (i + 1) s) (i + 1) r → r ≡ reading f (drop i s) i
+    pub part_word : (w : List ℕ) (r : Result ℕ Stopped) → f (get_or s i 0) ≡ to_word w → Over (IsWord w) (drop (i + 1) s) (i + 1) r → r ≡ reading f (drop i s) i
     part_word w r e g = word_is w (drop (i + 1) s) (i + 1) r g ∙ sym (worded w (drop (i + 1) s) i) ∙ tells (to_word w) e
 
 -- ---- one, two, three bytes
 
 module _ (s : List ℕ) (i low high : ℕ) where
-  pub one_cut : length s ≤ i → ReadsOne s i low high (Stopped i)
+  pub one_cut : length s ≤ i → ReadsOne s i low high (stop i)
   one_cut h = (refl, λ k. absurd (omega arith))
 
-  pub one_low : get_or s i 0 < low → ReadsOne s i low high (Stopped i)
+  pub one_low : get_or s i 0 < low → ReadsOne s i low high (stop i)
   one_low e = (refl, λ k. rw (lt-leb low (get_or s i 0) e) refl)
 
-  pub one_high : low ≤ get_or s i 0 → high < get_or s i 0 → ReadsOne s i low high (Stopped i)
+  pub one_high : low ≤ get_or s i 0 → high < get_or s i 0 → ReadsOne s i low high (stop i)
   one_high d e = (refl, λ k. rw (le-leb low (get_or s i 0) d, lt-leb (get_or s i 0) high e) refl)
 
-  pub one_on : i < length s → low ≤ get_or s i 0 → get_or s i 0 ≤ high → ReadsOne s i low high (On (i + 1))
+  pub one_on : i < length s → low ≤ get_or s i 0 → get_or s i 0 ≤ high → ReadsOne s i low high (Ok (i + 1))
   one_on h d e = (refl, h, rw (le-leb low (get_or s i 0) d, le-leb (get_or s i 0) high e) refl)
 
   module _ (f : ℕ → Read) (u : Read) (k : Ranged s i low high f u) where
-    stops : (n : ℕ) → ReadsOne s i low high (Stopped n) → Stopped n ≡ reading f (drop i s) i
-    stops n g = ap Stopped g.0 ∙ go (dec_lt i (length s))
+    stops : (n : ℕ) → ReadsOne s i low high (stop n) → stop n ≡ reading f (drop i s) i
+    stops n g = ap stop g.0 ∙ go (dec_lt i (length s))
       where
-        go : Dec (i < length s) → Stopped i ≡ reading f (drop i s) i
+        go : Dec (i < length s) → stop i ≡ reading f (drop i s) i
         go (yes h) = part_dead s i f h (k h ∙ (rw (g.1 h) refl))
         go (no h) = part_cut s i f (omega arith)
 
-    goes : (e : ℕ) → ReadsOne s i low high (On e) → f (get_or s i 0) ≡ u
+    goes : (e : ℕ) → ReadsOne s i low high (Ok e) → f (get_or s i 0) ≡ u
     goes e g = k g.1 ∙ (rw g.2 refl)
 
-  pub as_one : (f : ℕ → Read) (r : Went) → Ranged s i low high f all → ReadsOne s i low high r → r ≡ reading f (drop i s) i
-  as_one f (On e) k g = ap On g.0 ∙ part_last s i f g.1 (goes f all k e g)
-  as_one f (Stopped n) k g = stops f all k n g
+  pub as_one : (f : ℕ → Read) (r : Result ℕ Stopped) → Ranged s i low high f all → ReadsOne s i low high r → r ≡ reading f (drop i s) i
+  as_one f (Ok e) k g = ap Ok g.0 ∙ part_last s i f g.1 (goes f all k e g)
+  as_one f (Err n) k g = stops f all k n.at g
 
-  module _ (q : Went) (g : ReadsOne s i low high q) where
-    pub two_stop : (n : ℕ) → q ≡ Stopped n → ReadsTwo s i low high (Stopped n)
+  module _ (q : Result ℕ Stopped) (g : ReadsOne s i low high q) where
+    pub two_stop : (n : ℕ) → q ≡ stop n → ReadsTwo s i low high (stop n)
     two_stop n e = λ f k. stops f (more one) k n (subst (ReadsOne s i low high) e g)
 
-    pub three_stop : (n : ℕ) → q ≡ Stopped n → ReadsThree s i low high (Stopped n)
+    pub three_stop : (n : ℕ) → q ≡ stop n → ReadsThree s i low high (stop n)
     three_stop n e = λ f k. stops f (more two) k n (subst (ReadsOne s i low high) e g)
 
-    module _ (j : ℕ) (e : q ≡ On j) (r : Went) where
-      over : ReadsOne s i low high (On j)
+    module _ (j : ℕ) (e : q ≡ Ok j) (r : Result ℕ Stopped) where
+      over : ReadsOne s i low high (Ok j)
       over = subst (ReadsOne s i low high) e g
 
       then : (f : ℕ → Read) (p : Part) → Ranged s i low high f (more p) → r ≡ reading (go_on p) (drop j s) j → r ≡ reading f (drop i s) i
       then f p k h =
           part_then s i f over.1 p r (goes f (more p) k j over) (h ∙ ap (λ (n : ℕ). reading (go_on p) (drop n s) n) over.0)
 
-    pub three_on : (j : ℕ) → q ≡ On j → (r : Went) → ReadsTwo s j 128 191 r → ReadsThree s i low high r
+    pub three_on : (j : ℕ) → q ≡ Ok j → (r : Result ℕ Stopped) → ReadsTwo s j 128 191 r → ReadsThree s i low high r
     three_on j e r h = λ f k. then j e r f two k (h (go_on two) (λ l. refl))
 
-pub two_on : (s : List ℕ) (i low high : ℕ) (q : Went) → ReadsOne s i low high q → (j : ℕ) → q ≡ On j → (r : Went) → ReadsOne s j 128 191 r → ReadsTwo s i low high r
+pub two_on : (s : List ℕ) (i low high : ℕ) (q : Result ℕ Stopped) → ReadsOne s i low high q → (j : ℕ) → q ≡ Ok j → (r : Result ℕ Stopped) → ReadsOne s j 128 191 r → ReadsTwo s i low high r
 two_on s i low high q g j e r h = λ f k. then s i low high q g j e r f one k (as_one s j 128 191 (go_on one) r (λ l. refl) h)
 
 -- ---- a piece by its first byte
 
 -- the promise, from what was read
-pub is_piece : (s : List ℕ) (i : ℕ) (r : Went) → r ≡ reading lead (drop i s) i → Over IsPiece (drop i s) i r
-is_piece s i r e = subst (λ (z : Went). Over IsPiece (drop i s) i z) (sym e) (piece_over (drop i s) i)
+pub is_piece : (s : List ℕ) (i : ℕ) (r : Result ℕ Stopped) → r ≡ reading lead (drop i s) i → Over IsPiece (drop i s) i r
+is_piece s i r e = subst (λ (z : Result ℕ Stopped). Over IsPiece (drop i s) i z) (sym e) (piece_over (drop i s) i)
 
 module _ (x : ℕ) where
   pub lead_low : 128 ≤ x → x < 194 → lead x ≡ bad
@@ -234,7 +235,7 @@ of_four x h k = go (dec_lt x 241) (dec_lt x 244)
     go (no a) (yes b) = usual x three (more two) (omega arith) (omega arith) (omega arith) (omega arith) (lead_three x (omega arith) b) (λ y. refl)
     go (no a) (no b) = here x 244 (more two) (omega arith) (record { part = f4; leads = lead_f4 244 (omega arith) (omega arith); goes = λ y. refl })
 
-module _ (s : List ℕ) (i : ℕ) (h : i < length s) (low high : ℕ) (a : low ≡ least_behind (get_or s i 0)) (b : high ≡ greatest_behind (get_or s i 0)) (r : Went) where
+module _ (s : List ℕ) (i : ℕ) (h : i < length s) (low high : ℕ) (a : low ≡ least_behind (get_or s i 0)) (b : high ≡ greatest_behind (get_or s i 0)) (r : Result ℕ Stopped) where
   pub piece_two : Follows (get_or s i 0) (more one) → ReadsTwo s (i + 1) low high r → r ≡ reading lead (drop i s) i
   piece_two w g = part_then s i lead h w.part r w.leads (g (go_on w.part) (λ l. rw (a, b) (w.goes (get_or s (i + 1) 0))))
 

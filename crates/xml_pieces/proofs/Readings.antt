@@ -14,8 +14,9 @@ use Rattle.xml.proofs.Lang.{live}
 use Rattle.xml_pieces.specs.Over.{Ends, Begun, Over}
 use Rattle.xml_pieces.specs.Kinds.{IsPiece}
 use Rattle.xml_pieces.specs.mirror.Reading.{told, reading}
-use Rattle.xml_pieces.specs.declared.Went.{Went}
 use Rattle.xml_pieces.proofs.Overs.{Lone, over_one, over_end, over_dead, over_last, over_byte, over_as}
+use Rattle.std.specs.Prelude.{Result}
+use Rattle.xml_pieces.specs.declared.Stopped.{Stopped}
 
 -- the bytes are just a construct, where f says what its first byte does
 abbrev takes_by : (ℕ → Read) → List ℕ → Bool
@@ -112,7 +113,7 @@ pub piece_over : (t : List ℕ) (i : ℕ) → Over IsPiece t i (reading lead t i
 piece_over t i = over_as (Taken lead) IsPiece to_piece from_piece t i (reading lead t i) (reading_over t lead i a_piece)
 
 -- only one answer fits
-pub piece_one : (t : List ℕ) (i : ℕ) (a b : Went) → Over IsPiece t i a → Over IsPiece t i b → a ≡ b
+pub piece_one : (t : List ℕ) (i : ℕ) (a b : Result ℕ Stopped) → Over IsPiece t i a → Over IsPiece t i b → a ≡ b
 piece_one t i a b p q = over_one IsPiece lone t i a b p q
   where
     lone : Lone IsPiece
@@ -121,5 +122,5 @@ piece_one t i a b p q = over_one IsPiece lone t i a b p q
         (record { within = q.within; is = from_piece (take n t) q.is })
 
 -- and it is this
-pub piece_is : (t : List ℕ) (i : ℕ) (r : Went) → Over IsPiece t i r → r ≡ reading lead t i
+pub piece_is : (t : List ℕ) (i : ℕ) (r : Result ℕ Stopped) → Over IsPiece t i r → r ≡ reading lead t i
 piece_is t i r h = piece_one t i r (reading lead t i) h (piece_over t i)

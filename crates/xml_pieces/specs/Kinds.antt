@@ -1,9 +1,9 @@
 -- What is gone over: pieces, given bytes, rows of `]`, runs by a table. Assumes nothing.
-use Rattle.std.specs.Prelude.{◌≡◌, Bool, false, cond, not, ◌&&◌, List, [], ◌∷◌, ℕ, ◌+◌, leb, ltb, eqb, get_or, drop}
+use Rattle.std.specs.Prelude.{Result, Ok, ◌≡◌, Bool, false, cond, not, ◌&&◌, List, [], ◌∷◌, ℕ, ◌+◌, leb, ltb, eqb, get_or, drop}
 use Rattle.text.specs.Lists.{span}
 use Rattle.text_characters.specs.Pieces.{bracket, greater, Piece, spell, GoodPiece}
-use Rattle.xml_pieces.specs.declared.Went.{Went}
-use Rattle.xml_pieces.specs.declared.Went.TheVariants.{On, Stopped}
+use Rattle.xml_pieces.specs.declared.Stopped.{Stopped}
+use Rattle.xml_pieces.specs.Over.{stop}
 
 -- the bytes of a piece of text or of a value: an XML 1.0 character but `<` and `&`, or "`&` only as `&amp; &lt; &gt; &quot; &apos;`"
 pub record IsPiece (l : List ℕ) : Type 0 where
@@ -24,8 +24,8 @@ goes_on n [] = false
 goes_on n (x ∷ t) = not (eqb x greater && leb 2 n)
 
 -- over the row of `]` that the bytes t begin with, which stand at place i; a row may have none
-unfoldable pub over_row : List ℕ → ℕ → Went
-over_row t i = cond (goes_on (span is_bracket t) (drop (span is_bracket t) t)) (On (i + span is_bracket t)) (Stopped (i + span is_bracket t))
+unfoldable pub over_row : List ℕ → ℕ → Result ℕ Stopped
+over_row t i = cond (goes_on (span is_bracket t) (drop (span is_bracket t) t)) (Ok (i + span is_bracket t)) (stop (i + span is_bracket t))
 
 -- a byte whose class in a table is above a level; beyond the table's end it is 0
 abbrev pub above : List ℕ → ℕ → ℕ → Bool

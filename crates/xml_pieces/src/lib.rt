@@ -7,11 +7,8 @@ pub mod piece; // piece.rt: a character or an entity
 pub mod run; // run.rt: runs of bytes of one class
 pub mod word; // word.rt: given bytes
 
-// What a function that goes over a construct answers.
+// The place at which no such construct goes on.
 #[derive(Clone, Copy)]
-pub enum Went {
-    // The construct ends before this place.
-    On(usize),
-    // No such construct goes on at this place.
-    Stopped(usize),
+pub struct Stopped {
+    pub at: usize,
 }

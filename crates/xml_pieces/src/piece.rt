@@ -5,7 +5,7 @@ ghost use Rattle.xml_pieces.specs.Over.{Over};
 ghost use Rattle.xml_pieces.specs.Kinds.{IsPiece};
 ghost use Rattle.xml_pieces.specs.mirror.Reading.{least_behind, greatest_behind, reading, ReadsOne, ReadsTwo, ReadsThree};
 
-use crate::Went;
+use crate::Stopped;
 use crate::word::word;
 use text::class::is_blank;
 
@@ -19,48 +19,42 @@ const LAST_ASCII: u8 = TAIL - 1;
 const LAST_CONTROL: u8 = b' ' - 1;
 
 // Over one byte from low to high.
-fn one(s: &[u8], at: usize, low: u8, high: u8) -> Went
+fn one(s: &[u8], at: usize, low: u8, high: u8) -> Result<usize, Stopped>
     ensures { ReadsOne s.now at low high result }
 {
     if s.len() <= at {
-        return Went::Stopped(at);
+        return Err(Stopped { at });
     }
     let x = s[at];
     if x < low {
-        return Went::Stopped(at);
+        return Err(Stopped { at });
     }
     if high < x {
-        return Went::Stopped(at);
+        return Err(Stopped { at });
     }
-    Went::On(at + 1)
+    Ok(at + 1)
 }
 
 // Over one byte from low to high, and a continuation byte.
-fn two(s: &[u8], at: usize, low: u8, high: u8) -> Went
+fn two(s: &[u8], at: usize, low: u8, high: u8) -> Result<usize, Stopped>
     ensures { ReadsTwo s.now at low high result }
 {
-    match one(s, at, low, high) {
-        Went::Stopped(n) => Went::Stopped(n),
-        Went::On(i) => one(s, i, TAIL, LAST_TAIL),
-    }
+    one(s, one(s, at, low, high)?, TAIL, LAST_TAIL)
 }
 
 // Over one byte from low to high, and two continuation bytes.
-fn three(s: &[u8], at: usize, low: u8, high: u8) -> Went
+fn three(s: &[u8], at: usize, low: u8, high: u8) -> Result<usize, Stopped>
     ensures { ReadsThree s.now at low high result }
 {
-    match one(s, at, low, high) {
-        Went::Stopped(n) => Went::Stopped(n),
-        Went::On(i) => two(s, i, TAIL, LAST_TAIL),
-    }
+    two(s, one(s, at, low, high)?, TAIL, LAST_TAIL)
 }
 
 // After EF: EF BF may be followed by BD at most, since U+FFFE and U+FFFF are no XML 1.0 characters.
-fn behind_ef(s: &[u8], at: usize) -> Went
+fn behind_ef(s: &[u8], at: usize) -> Result<usize, Stopped>
     ensures { result ≡ reading (go_on ef) (drop at s.now) at }
 {
     if s.len() <= at {
-        return Went::Stopped(at);
+        return Err(Stopped { at });
     }
     if s[at] == LAST_TAIL {
         return one(s, at + 1, TAIL, 0xBD);
@@ -91,14 +85,14 @@ fn greatest(x: u8) -> u8
 }
 
 // A character that begins with a byte x that is no ASCII.
-fn long(s: &[u8], at: usize) -> Went
+fn long(s: &[u8], at: usize) -> Result<usize, Stopped>
     requires { (at < length s.now) × (0x7F < get_or s.now at 0) }
     ensures { result ≡ reading lead (drop at s.now) at }
 {
     let x = s[at];
     let i = at + 1;
     if x < 0xC2 {
-        return Went::Stopped(at);
+        return Err(Stopped { at });
     }
     if x < 0xE0 {
         return one(s, i, TAIL, LAST_TAIL);
@@ -114,44 +108,44 @@ fn long(s: &[u8], at: usize) -> Went
     if x < 0xF5 {
         return three(s, i, low, high);
     }
-    Went::Stopped(at)
+    Err(Stopped { at })
 }
 
 // After `&a`: `mp;` or `pos;`.
-fn behind_a(s: &[u8], at: usize) -> Went
+fn behind_a(s: &[u8], at: usize) -> Result<usize, Stopped>
     ensures { result ≡ reading (go_on ampersand_a) (drop at s.now) at }
 {
     if s.len() <= at {
-        return Went::Stopped(at);
+        return Err(Stopped { at });
     }
     match s[at] {
         b'm' => word(s, at + 1, b"p;"),
         b'p' => word(s, at + 1, b"os;"),
-        _ => Went::Stopped(at),
+        _ => Err(Stopped { at }),
     }
 }
 
 // After `&`: the rest of one of the five entities.
-fn entity(s: &[u8], at: usize) -> Went
+fn entity(s: &[u8], at: usize) -> Result<usize, Stopped>
     ensures { result ≡ reading (go_on ampersand) (drop at s.now) at }
 {
     if s.len() <= at {
-        return Went::Stopped(at);
+        return Err(Stopped { at });
     }
     match s[at] {
         b'a' => behind_a(s, at + 1),
         b'g' | b'l' => word(s, at + 1, b"t;"),
         b'q' => word(s, at + 1, b"uot;"),
-        _ => Went::Stopped(at),
+        _ => Err(Stopped { at }),
     }
 }
 
 // Over the piece at the place.
-pub fn piece(s: &[u8], at: usize) -> Went
+pub fn piece(s: &[u8], at: usize) -> Result<usize, Stopped>
     ensures { Over IsPiece (drop at s.now) at result }
 {
     if s.len() <= at {
-        return Went::Stopped(at);
+        return Err(Stopped { at });
     }
     let x = s[at];
     if LAST_ASCII < x {
@@ -161,13 +155,13 @@ pub fn piece(s: &[u8], at: usize) -> Went
         return entity(s, at + 1);
     }
     if x == b'<' {
-        return Went::Stopped(at);
+        return Err(Stopped { at });
     }
     if LAST_CONTROL < x {
-        return Went::On(at + 1);
+        return Ok(at + 1);
     }
     if is_blank(x) {
-        return Went::On(at + 1);
+        return Ok(at + 1);
     }
-    Went::Stopped(at)
+    Err(Stopped { at })
 }

@@ -16,11 +16,12 @@ use Rattle.xml.specs.mirror.Auto.{start, first, before, root, dead, at, declare_
 use Rattle.xml_scan.specs.mirror.Goes.{fate, Goes}
 use Rattle.xml_pieces.specs.Over.{Over}
 use Rattle.xml_pieces.specs.Kinds.{IsWord}
-use Rattle.xml_pieces.specs.declared.Went.{Went}
-use Rattle.xml_pieces.specs.declared.Went.TheVariants.{On, Stopped}
 use Rattle.xml_scan.proofs.Fate.{fate_end, fate_dead, fate_byte, fate_alike, run_behind, run_over}
 use Rattle.xml_scan.proofs.Passed.{Literal, Spelled, word_spelled}
 use Rattle.xml_scan.proofs.Goes.{goes_after}
+use Rattle.std.specs.Prelude.{Result, Ok}
+use Rattle.xml_pieces.specs.declared.Stopped.{Stopped}
+use Rattle.xml_pieces.specs.Over.{stop}
 
 -- ---- the automaton at a byte before the first element
 
@@ -62,14 +63,14 @@ module _ (s : List ℕ) (i b : ℕ) (is : b ≡ i + span is_blank (drop i s)) (h
   blanks : fate s i before ≡ fate s b before
   blanks = run_over is_blank s i b is before before_blank
 
-  pub root_cut : length s ≤ b → Goes s i before root (Stopped b)
+  pub root_cut : length s ≤ b → Goes s i before root (stop b)
   root_cut e = blanks ∙ fate_end s b before e refl
 
   module _ (l : b < length s) where
-    pub root_other : get_or s b 0 ≢ 60 → Goes s i before root (Stopped b)
+    pub root_other : get_or s b 0 ≢ 60 → Goes s i before root (stop b)
     root_other e = blanks ∙ fate_dead s b before l (before_dead (get_or s b 0) (run_behind is_blank s i b is h l) e)
 
-    pub root_less : get_or s b 0 ≡ 60 → Goes s i before root (On (b + 1))
+    pub root_less : get_or s b 0 ≡ 60 → Goes s i before root (Ok (b + 1))
     root_less e = (omega arith, omega arith, blanks ∙ fate_byte s b before root l (before_less (get_or s b 0) e))
 
 -- ---- no declaration
@@ -92,7 +93,7 @@ undeclared s n = go (dec_lt 0 (length s)) (ℕ_discrete (get_or s 0 0) 60)
         fate_byte s 0 start first h (start_less (get_or s 0 0) d) ∙ fate_alike s (0 + 1) first root refl (λ l. behind h d l)
         ∙ sym (fate_byte s 0 before root h (before_less (get_or s 0 0) d))
 
-pub prolog_plain : (s : List ℕ) (r : Went) → starts (60 ∷ 63 ∷ []) s ≡ false → Goes s 0 before root r → Goes s 0 start root r
+pub prolog_plain : (s : List ℕ) (r : Result ℕ Stopped) → starts (60 ∷ 63 ∷ []) s ≡ false → Goes s 0 before root r → Goes s 0 start root r
 prolog_plain s r e g = goes_after s 0 start 0 before root r (omega arith) (undeclared s e) g
 
 -- ---- a declaration
@@ -110,16 +111,16 @@ module _ (s : List ℕ) (e : starts (60 ∷ 63 ∷ []) s ≡ true) where
       fate_byte s 0 start first (omega arith) (start_less (get_or s 0 0) (ap (λ (l : List ℕ). get_or l 0 0) is))
       ∙ fate_byte s 1 first (declare_next (ascii "xml version=\"1.0\" encoding=\"UTF-8\"?>")) (omega arith) (first_question (get_or s 1 0) (ap (λ (l : List ℕ). get_or l 1 0) is))
 
-  module _ (q : Went) (g : Over (IsWord (ascii "xml version=\"1.0\" encoding=\"UTF-8\"?>")) (drop 2 s) 2 q) where
-    spelled : (r : Went) → q ≡ r → Spelled s 2 (ascii "xml version=\"1.0\" encoding=\"UTF-8\"?>") r
+  module _ (q : Result ℕ Stopped) (g : Over (IsWord (ascii "xml version=\"1.0\" encoding=\"UTF-8\"?>")) (drop 2 s) 2 q) where
+    spelled : (r : Result ℕ Stopped) → q ≡ r → Spelled s 2 (ascii "xml version=\"1.0\" encoding=\"UTF-8\"?>") r
     spelled r w = subst (Spelled s 2 (ascii "xml version=\"1.0\" encoding=\"UTF-8\"?>")) w (word_spelled s 2 (ascii "xml version=\"1.0\" encoding=\"UTF-8\"?>") q opener_within g)
 
-    pub declared_stop : (p : ℕ) → q ≡ Stopped p → Goes s 0 start root (Stopped p)
-    declared_stop p w = opened ∙ spelled (Stopped p) w declare_next declare_literal
+    pub declared_stop : (p : ℕ) → q ≡ stop p → Goes s 0 start root (stop p)
+    declared_stop p w = opened ∙ spelled (stop p) w declare_next declare_literal
 
-    module _ (j : ℕ) (w : q ≡ On j) where
+    module _ (j : ℕ) (w : q ≡ Ok j) where
       pub declared_within : j ≤ length s
-      declared_within = (spelled (On j) w).1
+      declared_within = (spelled (Ok j) w).1
 
-      pub declared_on : (r : Went) → Goes s j before root r → Goes s 0 start root r
-      declared_on r k = goes_after s 0 start j before root r (omega arith) (opened ∙ (spelled (On j) w).2 declare_next declare_literal) k
+      pub declared_on : (r : Result ℕ Stopped) → Goes s j before root r → Goes s 0 start root r
+      declared_on r k = goes_after s 0 start j before root r (omega arith) (opened ∙ (spelled (Ok j) w).2 declare_next declare_literal) k

@@ -2,32 +2,18 @@
 use mathlib.Core.Path.{◌≡◌, refl, sym, ◌∙◌, ap}
 use mathlib.Core.Bool.{Bool, true, false, cond, not, ◌&&◌, ◌||◌, true≢false}
 use mathlib.Core.Logic.{inl, inr}
-use mathlib.Core.List.{List, [], ◌∷◌}
-use Prim.Native.Nat.{ℕ, ◌+◌, ◌≤◌, ◌<◌}
+use mathlib.Core.List.{List}
+use Prim.Native.Nat.{ℕ, ◌≤◌, ◌<◌}
 use native.Mathlib.Omega.{arith}
 use lib.Dec.{ltb, eqb}
 use native.Mathlib.Decide.{dec_lt}
-use lib.ListN.{length, get_or, drop, get_or-eq_default}
+use lib.ListN.{length, get_or, get_or-eq_default}
 use borrow.Author.Tests.{ltb-true, eqb-true}
 use Rattle.text.specs.Bytes.{is_blank, is_name_part}
 use Rattle.xml.specs.mirror.Auto.{Read, bad, all, more, lead}
 use Rattle.xml.proofs.Jump.{Easy}
 use Rattle.text.proofs.Classes.{Class, only, from, ◌or◌, Within, Named, is_in, and_is, not_so, every, passes, blank, name_part}
-use Rattle.text.specs.Lists.{span}
-use Rattle.xml_pieces.specs.Kinds as looked
 use Rattle.xml_scan.specs.mirror.Classes.{is_plain, class_of, above, Classed}
-
--- ---- runs that were looked up
-
-span_as : (p q : ℕ → Bool) → ((x : ℕ) → p x ≡ q x) → (t : List ℕ) → span p t ≡ span q t
-unfolding span
-span_as p q f [] = refl
-span_as p q f (x ∷ t) = rw (f x, span_as p q f t) refl
-
-pub run_is : (table : List ℕ) → Classed table → (level : ℕ) (s : List ℕ) (i r : ℕ)
-    → r ≡ i + span (looked.above table level) (drop i s) → r ≡ i + span (above level) (drop i s)
-run_is table c level s i r e =
-    e ∙ ap (λ (n : ℕ). i + n) (span_as (looked.above table level) (above level) (λ x. ap (ltb level) (c.is x)) (drop i s))
 
 -- ---- names
 

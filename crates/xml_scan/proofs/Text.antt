@@ -19,13 +19,14 @@ use Rattle.xml_scan.specs.mirror.Classes.{above}
 use Rattle.xml_scan.specs.mirror.Goes.{fate, GoesOther, GoesText}
 use Rattle.xml_pieces.specs.Over.{Over}
 use Rattle.xml_pieces.specs.Kinds.{IsPiece, is_bracket, goes_on, over_row}
-use Rattle.xml_pieces.specs.declared.Went.{Went}
-use Rattle.xml_pieces.specs.declared.Went.TheVariants.{On, Stopped}
 use Rattle.xml_scan.proofs.Classes.{above_easy}
 use Rattle.xml_scan.proofs.Fate.{fate_end, fate_dead, fate_byte, fate_alike, fate_grow, run_within, run_behind, run_over}
 use Rattle.xml_pieces.proofs.Rows.{row_is, row_next, row_end}
 use Rattle.xml_scan.proofs.Passed.{hosted, Hosts, piece_goes}
 use Rattle.xml_scan.proofs.Goes.{goes_stop}
+use Rattle.std.specs.Prelude.{Result, Ok}
+use Rattle.xml_pieces.specs.declared.Stopped.{Stopped}
+use Rattle.xml_pieces.specs.Over.{stop}
 
 and_no : (u : Bool) → (u && false) ≡ false
 and_no true = refl
@@ -86,15 +87,15 @@ module _ (s : List ℕ) (i e : ℕ) (is : e ≡ i + span is_bracket (drop i s)) 
           let l : suc (length m) ≡ length (m ++ (x ∷ [])) = omega (arith, length-append m (x ∷ [])) in
           content_bracket d n ns (length m) x t ∙ ap (λ (k : ℕ). at (content k d n ns)) l
 
-  row_cut : length s ≤ e → GoesOther s i (Stopped e)
+  row_cut : length s ≤ e → GoesOther s i (stop e)
   row_cut k = λ d n ns. row d n ns ∙ fate_end s e (content (e - i) d n ns) k refl
 
-  row_greater : e < length s → (eqb (get_or s e 0) 62 && leb 2 (e - i)) ≡ true → GoesOther s i (Stopped e)
+  row_greater : e < length s → (eqb (get_or s e 0) 62 && leb 2 (e - i)) ≡ true → GoesOther s i (stop e)
   row_greater k l =
       let w = and_is (eqb (get_or s e 0) 62) (leb 2 (e - i)) l in
       λ d n ns. row d n ns ∙ fate_dead s e (content (e - i) d n ns) k (content_cut d n ns (e - i) (get_or s e 0) (leb-true 2 (e - i) w.1) (eqb-true (get_or s e 0) 62 w.0))
 
-  row_on : i < e → e < length s → (eqb (get_or s e 0) 62 && leb 2 (e - i)) ≡ false → GoesOther s i (On e)
+  row_on : i < e → e < length s → (eqb (get_or s e 0) 62 && leb 2 (e - i)) ≡ false → GoesOther s i (Ok e)
   row_on j k l =
       λ d n ns. (
         j,
@@ -106,23 +107,23 @@ module _ (s : List ℕ) (i e : ℕ) (is : e ≡ i + span is_bracket (drop i s)) 
   row_over : i < e → GoesOther s i (over_row (drop i s) i)
   row_over j = subst (GoesOther s i) (sym (row_is s i e is)) (go (dec_lt e (length s)))
     where
-      by : (k : e < length s) (b : Bool) → (eqb (get_or s e 0) 62 && leb 2 (e - i)) ≡ b → GoesOther s i (cond (not b) (On e) (Stopped e))
+      by : (k : e < length s) (b : Bool) → (eqb (get_or s e 0) 62 && leb 2 (e - i)) ≡ b → GoesOther s i (cond (not b) (Ok e) (stop e))
       by k true l = row_greater k l
       by k false l = row_on j k l
 
-      go : Dec (e < length s) → GoesOther s i (cond (goes_on (e - i) (drop e s)) (On e) (Stopped e))
-      go (yes k) = subst (λ (b : Bool). GoesOther s i (cond b (On e) (Stopped e))) (sym (row_next s i e is k)) (by k (eqb (get_or s e 0) 62 && leb 2 (e - i)) refl)
-      go (no k) = subst (λ (b : Bool). GoesOther s i (cond b (On e) (Stopped e))) (sym (row_end s i e is (omega arith))) (row_cut (omega arith))
+      go : Dec (e < length s) → GoesOther s i (cond (goes_on (e - i) (drop e s)) (Ok e) (stop e))
+      go (yes k) = subst (λ (b : Bool). GoesOther s i (cond b (Ok e) (stop e))) (sym (row_next s i e is k)) (by k (eqb (get_or s e 0) 62 && leb 2 (e - i)) refl)
+      go (no k) = subst (λ (b : Bool). GoesOther s i (cond b (Ok e) (stop e))) (sym (row_end s i e is (omega arith))) (row_cut (omega arith))
 
 module _ (s : List ℕ) (i : ℕ) (h : i < length s) where
-  pub other_greater : get_or s i 0 ≡ 62 → GoesOther s i (On (i + 1))
+  pub other_greater : get_or s i 0 ≡ 62 → GoesOther s i (Ok (i + 1))
   other_greater e = λ d n ns. (omega arith, omega arith, fate_byte s i (content 0 d n ns) (content 0 d n ns) h (content_greater d n ns (get_or s i 0) e))
 
-  pub other_row : get_or s i 0 ≡ 93 → (r : Went) → r ≡ over_row (drop i s) i → GoesOther s i r
+  pub other_row : get_or s i 0 ≡ 93 → (r : Result ℕ Stopped) → r ≡ over_row (drop i s) i → GoesOther s i r
   other_row e r f =
       subst (GoesOther s i) (sym f) (row_over s i (i + span is_bracket (drop i s)) refl (omega arith) (omega (arith, span_go is_bracket s i h (eq-eqb (get_or s i 0) 93 e))))
 
-  pub other_piece : get_or s i 0 ≢ 60 → get_or s i 0 ≢ 62 → get_or s i 0 ≢ 93 → (r : Went) → Over IsPiece (drop i s) i r → GoesOther s i r
+  pub other_piece : get_or s i 0 ≢ 60 → get_or s i 0 ≢ 62 → get_or s i 0 ≢ 93 → (r : Result ℕ Stopped) → Over IsPiece (drop i s) i r → GoesOther s i r
   other_piece e f g r k =
       λ d n ns. piece_goes s i r h k (content 0 d n ns) (λ p. part p d n ns) (content 0 d n ns) (content_hosts d n ns) (content_piece d n ns (get_or s i 0) e f g)
 
@@ -145,22 +146,22 @@ module _ (s : List ℕ) (o i : ℕ) (t : Texting s o i) where
         so = λ d n ns. t.so d n ns ∙ run_over (above 0) s i j e (content 0 d n ns) (λ x f. easy_next 0 d n ns x (above_easy x f));
       }
 
-  pub text_cut : length s ≤ i → GoesText s o (Stopped i)
+  pub text_cut : length s ≤ i → GoesText s o (stop i)
   text_cut h = λ d n ns. t.so d n ns ∙ fate_end s i (content 0 d n ns) h refl
 
-  pub text_less : i < length s → get_or s i 0 ≡ 60 → GoesText s o (On (i + 1))
+  pub text_less : i < length s → get_or s i 0 ≡ 60 → GoesText s o (Ok (i + 1))
   text_less h e =
       λ d n ns. (omega (arith, t.from), omega arith, t.so d n ns ∙ fate_byte s i (content 0 d n ns) (less d n ns) h (content_less d n ns (get_or s i 0) e))
 
-  module _ (q : Went) (g : GoesOther s i q) where
-    pub text_stop : (n : ℕ) → q ≡ Stopped n → GoesText s o (Stopped n)
+  module _ (q : Result ℕ Stopped) (g : GoesOther s i q) where
+    pub text_stop : (n : ℕ) → q ≡ stop n → GoesText s o (stop n)
     text_stop n e = λ d m ns. t.so d m ns ∙ goes_stop s i (content 0 d m ns) (content 0 d m ns) q n (g d m ns) e
 
-    pub other_on : (j : ℕ) → q ≡ On j → (i < j) × (j ≤ length s)
-    other_on j e = let w : GoesOther s i (On j) = subst (GoesOther s i) e g in let v = w 0 [] [] in (v.0, v.1)
+    pub other_on : (j : ℕ) → q ≡ Ok j → (i < j) × (j ≤ length s)
+    other_on j e = let w : GoesOther s i (Ok j) = subst (GoesOther s i) e g in let v = w 0 [] [] in (v.0, v.1)
 
-    pub texting_on : (j : ℕ) → q ≡ On j → Texting s o j
+    pub texting_on : (j : ℕ) → q ≡ Ok j → Texting s o j
     texting_on j e =
-        let w : GoesOther s i (On j) = subst (GoesOther s i) e g in
+        let w : GoesOther s i (Ok j) = subst (GoesOther s i) e g in
         let v = other_on j e in
         record { from = omega (arith, t.from, v.0); within = v.1; so = λ d n ns. t.so d n ns ∙ (w d n ns).2 }

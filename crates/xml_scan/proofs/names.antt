@@ -1,5 +1,5 @@
 -- Of `xml_scan`: names, of elements and of attributes.
--- names as places in the text
+-- names that are held
 pub mod Names
 -- an attribute's name, which may hold a colon
 pub mod FullNames

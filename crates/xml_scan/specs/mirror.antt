@@ -3,5 +3,5 @@
 pub mod Classes
 -- a mirror: what the scanner's functions say of the automaton
 pub mod Goes
--- a mirror: names as places, and what the functions over tags say
+-- a mirror: what the functions over tags say
 pub mod Tags

@@ -5,33 +5,30 @@ ghost use Rattle.xml_scan.specs.mirror.Goes.{Goes};
 
 use text::part::begins;
 use text::span::blanks_end;
-use xml_pieces::Went;
+use xml_pieces::Stopped;
 use xml_pieces::word::word;
 
 // Over blanks and the `<` of the one element.
-fn root(s: &[u8], at: usize) -> Went
+fn root(s: &[u8], at: usize) -> Result<usize, Stopped>
     requires { at ≤ length s.now }
     ensures { Goes s.now at auto.before auto.root result }
 {
     let b = blanks_end(s, at);
     if s.len() <= b {
-        return Went::Stopped(b);
+        return Err(Stopped { at: b });
     }
     if s[b] == b'<' {
-        return Went::On(b + 1);
+        return Ok(b + 1);
     }
-    Went::Stopped(b)
+    Err(Stopped { at: b })
 }
 
 // Over the declaration, if there is one, blanks, and the `<` of the one element.
-pub(crate) fn prolog(s: &[u8]) -> Went
+pub(crate) fn prolog(s: &[u8]) -> Result<usize, Stopped>
     ensures { Goes s.now 0 auto.start auto.root result }
 {
     if !begins(s, 0, b"<?") {
         return root(s, 0);
     }
-    match word(s, 2, b"xml version=\"1.0\" encoding=\"UTF-8\"?>") {
-        Went::Stopped(p) => Went::Stopped(p),
-        Went::On(e) => root(s, e),
-    }
+    root(s, word(s, 2, b"xml version=\"1.0\" encoding=\"UTF-8\"?>")?)
 }

@@ -1,4 +1,5 @@
 -- What holds of `check`'s answers with document 01's types and the list that a file chooses. Assumes nothing.
+use Rattle.std.specs.Prelude.{Ok}
 use mathlib.Core.Path.{◌≡◌, refl, sym, ◌∙◌, ap, ap₂, subst}
 use mathlib.Core.Bool.{Bool, true, false, ◌||◌, not, false≢true}
 use mathlib.Core.Logic.{◌≢◌, ◌↔◌, inl, inr}
@@ -24,7 +25,6 @@ use Rattle.value.specs.Value.{Value}
 use Rattle.value.proofs.types.Values.{value_laws}
 use Rattle.value.specs.decided.Spell.{spell}
 use Rattle.value.proofs.types.Spell.{spell_sound, spell_some, spell_complete}
-use Rattle.file_walk.specs.declared.found.Found.TheVariants.{Fine}
 use Rattle.file_walk.specs.Types.{Judge, Decides, Spelling}
 use Rattle.file_walk.specs.First.{First}
 use Rattle.file_walk.specs.mirror.Machine.{judge_of, speller_of, Computes}
@@ -133,7 +133,7 @@ hints_free s s' l m c e f g h =
     (o.0, o.1, ap₂ (λ (x : Listing) (y : Content Value). image_of house_kinds x y) o.0 o.1)
 
 -- in the message of a good file nothing is found
-pub good_fine : (s : List ℕ) (l : Listing) (c : Content Value) → Filed s l c → (w : Whole s) → First house_types l (message_in w) Fine
+pub good_fine : (s : List ℕ) (l : Listing) (c : Content Value) → Filed s l c → (w : Whole s) → First house_types l (message_in w) (Ok tt)
 good_fine s l c f = file_first house_kinds spelling l (asked_well l f.among) s house_judge deciding c f.file
 
 -- only one answer fits, and one buffer

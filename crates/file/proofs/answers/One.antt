@@ -1,4 +1,5 @@
 -- Only one answer fits a file and a buffer: what a file is says the answer and every byte of the buffer. Assumes nothing.
+use Rattle.std.specs.Prelude.{Ok, Err}
 use mathlib.Core.Path.{◌≡◌, refl, sym, ◌∙◌, ap, subst}
 use mathlib.Core.Bool.{Bool, true, false, true≢false}
 use mathlib.Core.List.{List, ◌++◌}
@@ -15,10 +16,8 @@ use Rattle.list.specs.Content.{Content}
 use Rattle.xml.specs.House.{HouseXml, Viable}
 use Rattle.xml.specs.Message.{Inside, message_of}
 use Rattle.xml.proofs.Unique.{tree_one}
-use Rattle.file_walk.specs.declared.found.Found.{Found}
-use Rattle.file_walk.specs.declared.found.Found.TheVariants.{Fine, Violation}
 use Rattle.file_walk.specs.Types.{Judge, Decides, Spelling}
-use Rattle.file_walk.specs.First.{First, first_violation}
+use Rattle.file_walk.specs.First.{Found, First, first_violation}
 use Rattle.file_walk.specs.Denotes.{Has}
 use Rattle.file_walk.proofs.violation.Accept as walk
 use Rattle.file_walk.proofs.violation.Judges.{first_one}
@@ -32,14 +31,14 @@ pub message_one : (s : List ℕ) (a b : Whole s) → message_in a ≡ message_in
 message_one s a b = ap message_of (tree_one a.xml.tree b.xml.tree a.xml.good b.xml.good (sym a.xml.is ∙ b.xml.is))
 
 abbrev is_fine : Found → Bool
-is_fine Fine = true
-is_fine (Violation a) = false
+is_fine (Ok tt) = true
+is_fine (Err a) = false
 
-pub fine_found : {P : Type 0} (f : Found) (a : Answer) → f ≡ Fine → f ≡ Violation a → P
+pub fine_found : {P : Type 0} (f : Found) (a : Answer) → f ≡ Ok tt → f ≡ Err a → P
 fine_found f a e g = absurd (true≢false (ap is_fine (sym e ∙ g)))
 
 -- a violation has one answer
-violation_one : (a b : Answer) → Violation a ≡ Violation b → a ≡ b
+violation_one : (a b : Answer) → ◌≡◌ {A = Found} (Err a) (Err b) → a ≡ b
 violation_one a b e = cc
 
 -- the answer and the buffer after the call are these
@@ -54,15 +53,15 @@ module _ (k : Kinds) (y : Spelling k.types) (l : Listing) (wf : WellFormed l) (s
       walk.unique k.types y l wf (message_in a.whole) c e a.has (subst (λ (m : Inside). Has k.types l m e) (message_one s b.whole a.whole) b.has)
 
   -- in the message of a good file nothing is found
-  pub file_fine : (c : Content k.types.A) → File k l s c → (w : Whole s) (f : Found) → First k.types l (message_in w) f → f ≡ Fine
+  pub file_fine : (c : Content k.types.A) → File k l s c → (w : Whole s) (f : Found) → First k.types l (message_in w) f → f ≡ Ok tt
   file_fine c x w =
       walk.accepted k.types y l wf (message_in w) c x.meets (subst (λ (m : Inside). Has k.types l m c) (message_one s x.whole w) x.has)
 
-  pub file_first : (j : Judge) → Decides k.types j → (c : Content k.types.A) → File k l s c → (w : Whole s) → First k.types l (message_in w) Fine
+  pub file_first : (j : Judge) → Decides k.types j → (c : Content k.types.A) → File k l s c → (w : Whole s) → First k.types l (message_in w) (Ok tt)
   file_first j d c x w = record { judge = j; decides = d; is = file_fine c x w (first_violation j l (message_in w)) (record { judge = j; decides = d; is = refl }) }
 
-  no_violation : {P : Type 0} (c : Content k.types.A) → File k l s c → (w : Whole s) (a : Answer) → First k.types l (message_in w) (Violation a) → P
-  no_violation c x w a v = fine_found (Violation a) a (file_fine c x w (Violation a) v) refl
+  no_violation : {P : Type 0} (c : Content k.types.A) → File k l s c → (w : Whole s) (a : Answer) → First k.types l (message_in w) (Err a) → P
+  no_violation c x w a v = fine_found (Err a) a (file_fine c x w (Err a) v) refl
 
   module _ (d : List ℕ) (a : Answer) (d' : List ℕ) where
     -- code 1 exactly of a file that is too long
@@ -93,13 +92,13 @@ module _ (k : Kinds) (y : Spelling k.types) (l : Listing) (wf : WellFormed l) (s
     of_markup h u x n p (imaged c w i e f) = absurd (x w.whole.xml)
 
     -- 4 to 13
-    pub of_violation : (w : Whole s) (b : Answer) → First k.types l (message_in w) (Violation b) → Answers k l s d a d' → Is b d a d'
+    pub of_violation : (w : Whole s) (b : Answer) → First k.types l (message_in w) (Err b) → Answers k l s d a d' → Is b d a d'
     of_violation w b v (long i e f) = absurd (omega (arith, w.size))
     of_violation w b v (bad_bytes i u m q e f) = absurd (u w.utf8)
     of_violation w b v (markup i u x m q e f) = absurd (x w.xml)
     of_violation w b v (violation z q f) =
-        let u = subst (λ (m : Inside). First k.types l m (Violation a)) (message_one s z w) q in
-        record { answer = violation_one a b (first_one k.types l (message_in w) (Violation a) (Violation b) u v); buffer = f }
+        let u = subst (λ (m : Inside). First k.types l m (Err a)) (message_one s z w) q in
+        record { answer = violation_one a b (first_one k.types l (message_in w) (Err a) (Err b) u v); buffer = f }
     of_violation w b v (room e z i g f) = no_violation e z w b v
     of_violation w b v (imaged e z i g f) = no_violation e z w b v
 

@@ -1,4 +1,5 @@
 -- Some answer fits every file and every buffer, over any types and any well-formed list; with `answers_one`: exactly one. Assumes nothing.
+use Rattle.std.specs.Prelude.{Ok, Err}
 use mathlib.Core.Path.{◌≡◌, refl, sym, ◌∙◌, ap, subst}
 use mathlib.Core.Logic.{◌⊎◌, inl, inr}
 use mathlib.Core.Bool.{Bool, true, false, true≢false, false≢true}
@@ -23,10 +24,8 @@ use Rattle.xml.specs.House.{HouseXml}
 use Rattle.xml.specs.Message.{Inside, root_at}
 use Rattle.xml.specs.mirror.Auto.{done, start, first, before, root, declare, name, tail, gap, attr, equals, quote, value, within, slash, content, part, less, close, St, dead, at, run, live_len}
 use Rattle.xml.proofs.Theorem as xml
-use Rattle.file_walk.specs.declared.found.Found.{Found}
-use Rattle.file_walk.specs.declared.found.Found.TheVariants.{Fine, Violation}
 use Rattle.file_walk.specs.Types.{Judge, Decides, Spelling}
-use Rattle.file_walk.specs.First.{First, first_violation}
+use Rattle.file_walk.specs.First.{Found, First, first_violation}
 use Rattle.file_walk.proofs.violation.Accept.{accept}
 use Rattle.file.specs.Instance.{Kinds, house_kinds}
 use Rattle.file.specs.File.{Whole, message_in, File, image_of}
@@ -125,8 +124,8 @@ module _ (k : Kinds) (y : Spelling k.types) (j : Judge) (x : Decides k.types j) 
   ]
 
   of_message : (w : Whole s) (f : Found) → First k.types l (message_in w) f → Answered
-  of_message w (Violation a) e = leaves a (violation w e refl)
-  of_message w Fine e =
+  of_message w (Err a) e = leaves a (violation w e refl)
+  of_message w (Ok tt) e =
       let g = accept k.types y l wf (message_in w) (one_element w.xml.tree.root (root_at w.xml.tree) w.xml.good.one) e in
       of_file g.0 (record { whole = w; has = g.2; meets = g.1 })
 

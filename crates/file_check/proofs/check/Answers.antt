@@ -1,16 +1,12 @@
 -- `check` meets its contract, from what the lane left, or what the exact passes answered. Assumes nothing.
-use native.Mathlib.Omega.{arith}
 use Rattle.file_fill.proofs.Imaging.{laned_checks, laned_room, laned_still}
 use Rattle.file_check.proofs.check.Goals as goal
 
-pub returns-then-size-eq0 : goal.returns-then-size-eq0
-returns-then-size-eq0 c =
-    laned_still _ _ _ _ c.laned-size.ensures c.if-size-eq0.true _ _ c.exact.ensures
+pub returns-in-Some : goal.returns-in-Some
+returns-in-Some c = laned_checks _ _ _ _ _ _ c.in-Some.is c.laned.ensures c.if-size-out.true c.accepted.ensures
 
-pub returns-then-out-size : goal.returns-then-out-size
-returns-then-out-size c =
-    laned_room _ _ _ _ _ c.if-size-eq0.false c.laned-size.ensures (omega (arith, c.if-out-size.true)) c.no_room.ensures
+pub returns-in-Some-2 : goal.returns-in-Some-2
+returns-in-Some-2 c = laned_room _ _ _ _ _ _ c.in-Some.is c.laned.ensures c.if-size-out.false c.no_room.ensures
 
-pub returns : goal.returns
-returns c =
-    laned_checks _ _ _ _ _ c.if-size-eq0.false c.laned-size.ensures (omega (arith, c.if-out-size.false)) c.accepted.ensures
+pub returns-in-None : goal.returns-in-None
+returns-in-None c = laned_still _ _ _ _ c.laned.ensures c.in-None.is _ _ c.exact.ensures

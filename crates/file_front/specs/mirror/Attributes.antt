@@ -1,5 +1,5 @@
 -- A mirror: the front of a file before its root's tag, and the attributes of that tag, one after the other. Assumes nothing.
-use Rattle.std.specs.Prelude.{◌≡◌, Bool, true, false, List, [], ◌∷◌, ◌++◌, ℕ, ◌+◌, ◌≤◌, length, drop}
+use Rattle.std.specs.Prelude.{Option, Some, None, ◌≡◌, Bool, true, false, List, [], ◌∷◌, ◌++◌, ℕ, ◌+◌, ◌≤◌, length, drop}
 use Rattle.text.specs.Bytes.{ascii, is_blank}
 use Rattle.text.specs.Lists.{All}
 use Rattle.text_characters.specs.Pieces.{greater, Piece, resolved_all}
@@ -28,7 +28,7 @@ pub record Space (w : List ℕ) (b : ℕ) : Type 0 where
 
 -- after c came an attribute of this name and value, which c does not have yet; so d came
 pub data Notes (n : List ℕ) (v : List Piece) (c d : Carried) : Type 0 where
-  spaced : n ≡ ascii "xmlns" → c.kind ≡ 0 → Space (resolved_all v) d.kind → d.prefix ≡ c.prefix → d.location ≡ c.location → Notes n v c d
+  spaced : n ≡ ascii "xmlns" → c.kind ≡ None → (b : ℕ) → d.kind ≡ Some b → Space (resolved_all v) b → d.prefix ≡ c.prefix → d.location ≡ c.location → Notes n v c d
   tied : n ≡ ascii "xmlns:xsi" → c.prefix ≡ false → d.kind ≡ c.kind → d.prefix ≡ true → d.location ≡ c.location → Notes n v c d
   placed : n ≡ ascii "xsi:schemaLocation" → c.location ≡ false → d.kind ≡ c.kind → d.prefix ≡ c.prefix → d.location ≡ true → Notes n v c d
 
@@ -45,9 +45,9 @@ pub record Adds (s : List ℕ) (c d : Carried) : Type 0 where
   pub notes : Notes attribute.name attribute.value c d
 
 -- of these attributes k are xmlns, none before a kind byte is known
-pub data Spaced (b : ℕ) (ats : Attrs) (k : ℕ) : Type 0 where
-  none : b ≡ 0 → carries (ascii "xmlns") ats ≡ false → unhinted ats ≡ [] → k ≡ 0 → Spaced b ats k
-  one : (w : List ℕ) → Space w b → unhinted ats ≡ (ascii "xmlns", w) ∷ [] → k ≡ 1 → Spaced b ats k
+pub data Spaced (kind : Option ℕ) (ats : Attrs) (k : ℕ) : Type 0 where
+  none : kind ≡ None → carries (ascii "xmlns") ats ≡ false → unhinted ats ≡ [] → k ≡ 0 → Spaced kind ats k
+  one : (b : ℕ) → kind ≡ Some b → (w : List ℕ) → Space w b → unhinted ats ≡ (ascii "xmlns", w) ∷ [] → k ≡ 1 → Spaced kind ats k
 
 abbrev pub bit : Bool → ℕ
 bit false = 0

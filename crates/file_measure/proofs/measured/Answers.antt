@@ -6,18 +6,18 @@ use Rattle.file_measure.proofs.measured.Goals as goal
 
 pub returns-then-input-gt-LIMIT : goal.returns-then-input-gt-LIMIT
 returns-then-input-gt-LIMIT c =
-    tells_long _ _ _ _ c.told.ensures (omega (arith, c.if-input-gt-LIMIT.true)) c.too_long.ensures
+    tells_long _ _ (omega (arith, c.if-input-gt-LIMIT.true)) c.too_long.ensures
 
 pub returns-then-good-input : goal.returns-then-good-input
 returns-then-good-input c =
-    tells_bytes _ _ _ _ c.told-then-good-input.ensures (omega (arith, c.if-input-gt-LIMIT.false)) _ c.utf8_end-good.ensures
+    tells_bytes _ _ (omega (arith, c.if-input-gt-LIMIT.false)) _ c.utf8_end-good.ensures
     (omega (arith, c.if-good-input.true)) c.not_utf8.ensures
 
 pub message-requires : goal.message-requires
 message-requires c =
-    is_whole _ (omega (arith, c.if-input-gt-LIMIT.false)) (all_utf8 _ _ c.utf8_end-good.ensures (omega (arith, c.if-good-input.false))) c.scan.result c.scan.ensures c.in-Whole.is
+    is_whole _ (omega (arith, c.if-input-gt-LIMIT.false)) (all_utf8 _ _ c.utf8_end-good.ensures (omega (arith, c.if-good-input.false))) c.in-Ok.ensures
 
-pub returns-in-Stops : goal.returns-in-Stops
-returns-in-Stops c =
-    tells_markup _ _ _ _ c.told-in-Stops.ensures (omega (arith, c.if-input-gt-LIMIT.false)) (all_utf8 _ _ c.utf8_end-good.ensures (omega (arith, c.if-good-input.false)))
-    c.scan.result c.scan.ensures _ c.in-Stops.is c.not_house_xml.ensures
+pub returns-in-Err : goal.returns-in-Err
+returns-in-Err c =
+    tells_markup _ _ (omega (arith, c.if-input-gt-LIMIT.false)) (all_utf8 _ _ c.utf8_end-good.ensures (omega (arith, c.if-good-input.false)))
+    _ c.in-Err.ensures c.not_house_xml.ensures

@@ -1,4 +1,5 @@
 -- One step over bytes and tables does what the walk over events does, in sound tables. Assumes nothing.
+use Rattle.std.specs.Prelude.{Ok, Err}
 use mathlib.Core.Path.{◌≡◌, refl, sym, ◌∙◌, ap, ap₂, subst}
 use mathlib.Core.Logic.{◌⊎◌, inl, inr}
 use mathlib.Core.Bool.{Bool, true, false, cond, not}
@@ -27,10 +28,8 @@ use Rattle.xml_tags.specs.Story.{Event, leave, chars, ink_of, Text, token_in, Ta
 use Rattle.xml_tags.proofs.Slices.{slice_end}
 use Rattle.xml_tags.proofs.Texts.{ink_is}
 use Rattle.file_walk.specs.declared.level.Level.{Level}
-use Rattle.file_walk.specs.declared.found.Found.{Found}
-use Rattle.file_walk.specs.declared.found.Found.TheVariants.{Fine, Violation}
 use Rattle.file_walk.specs.Types.{Judge}
-use Rattle.file_walk.specs.First.{refuse, or_else, is_empty, currency_given, kind_of}
+use Rattle.file_walk.specs.First.{Found, refuse, or_else, is_empty, currency_given, kind_of}
 use Rattle.file_walk.specs.mirror.Machine.{Speller, verdict_of, judge_of, at, pop, open_test, close_test, run}
 use Rattle.list.specs.tables.Numbers.{is_group_in}
 use Rattle.file_walk.specs.mirror.Tables.{opening_in, group_end_in}
@@ -47,8 +46,8 @@ text_empty (p ∷ ps) = sym (ne_eqb (length (spell p ++ spells ps)) 0 (omega (ar
 
 -- what is left to say of a leaf when it has a character: 12
 abbrev pub judged : Judge → Kind → ℕ → ℕ → Attrs → List ℕ → Found
-judged j group r o ats cs = Fine
-judged j choice r o ats cs = Fine
+judged j group r o ats cs = Ok tt
+judged j choice r o ats cs = Ok tt
 judged j (leaf k) r o ats cs = refuse (not (j.value k (currency_given ats) cs)) (table.bad_value r o)
 
 -- the characters that are kept of a text
@@ -71,12 +70,12 @@ module _ (T : Speller) (t pool s : List ℕ) (sd : Sound t pool) where
       -- a text: 10 where a group has ink, else what follows
       pub text_run : (more : List Event)
           → run T l (at lv below ats []) (chars a ps more)
-          ≡ cond (ltb (ink_before t s lv.row a b) b) (Violation (table.text_in_group lv.row (ink_before t s lv.row a b))) (run T l (at lv below ats (kept (is_group (kind_of l lv.row)) ps)) more)
+          ≡ cond (ltb (ink_before t s lv.row a b) b) (Err (table.text_in_group lv.row (ink_before t s lv.row a b))) (run T l (at lv below ats (kept (is_group (kind_of l lv.row)) ps)) more)
       unfolding ink_before
       text_run more = by_cases (is_group (kind_of l lv.row))
           (λ g. let i : ink_in s a b ≡ ink_of a ps = ink_is s a b ps lo hi x in
           group_chars T l lv below ats ps a [] more g
-          ∙ ap (λ n. cond (ltb (ink_of a ps) n) (Violation (table.text_in_group lv.row (ink_of a ps))) (run T l (at lv below ats []) more)) (sym text_length)
+          ∙ ap (λ n. cond (ltb (ink_of a ps) n) (Err (table.text_in_group lv.row (ink_of a ps))) (run T l (at lv below ats []) more)) (sym text_length)
           ∙ sym (rw (is_group_lem, g, i)))
           (λ g. leaf_chars T l lv below ats ps a [] more g ∙ sym (rw (is_group_lem, g, le-ltb b b (omega arith))))
 

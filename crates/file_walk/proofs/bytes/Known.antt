@@ -1,6 +1,7 @@
 -- A step that refuses nothing: what it met, by the bytes after the place where it began. Assumes nothing.
+use Rattle.std.specs.Prelude.{Ok, Err, is_ok}
 use mathlib.Core.Path.{◌≡◌, refl, sym, ◌∙◌, ap, subst}
-use mathlib.Core.Logic.{◌≢◌}
+use mathlib.Core.Logic.{◌≢◌, ◌⊎◌, inl, inr}
 use mathlib.Core.Bool.{Bool, true, false, cond, true≢false, false≢true}
 use mathlib.Core.List.{List, [], ◌∷◌}
 use Prim.Native.Nat.{ℕ, ◌+◌, ◌-◌, ◌≤◌, ◌<◌}
@@ -11,7 +12,7 @@ use lib.Dec.{eqb, ltb}
 use lib.ListN.{length, get_or, drop, drop_of_length-le}
 use lib.Seq.{drop-cons}
 use native.Mathlib.Numerals.{add-one}
-use borrow.Author.Tests.{eqb-true, eqb-false, lt-ltb}
+use borrow.Author.Tests.{lt-ltb}
 use Rattle.answer.specs.Table as table
 use Rattle.text.specs.Bytes.{is_blank}
 use Rattle.text.specs.Lists.{span}
@@ -28,15 +29,13 @@ use Rattle.xml_tags.specs.Story.{token_in}
 use Rattle.xml_tags.proofs.Passing.{pass_at, pass_any}
 use Rattle.xml_tags.proofs.Tokens.{token_ahead}
 use Rattle.xml_tags.proofs.Steps.{token_later}
-use Rattle.file_walk.specs.declared.found.Found.{Found}
-use Rattle.file_walk.specs.declared.found.Found.TheVariants.{Fine, Violation}
+use Rattle.file_walk.specs.First.{Found}
 use Rattle.file_walk.specs.declared.step.Here.{Here}
-use Rattle.file_walk.specs.declared.step.Turn.{Turn}
-use Rattle.file_walk.specs.declared.step.Met.{Met}
-use Rattle.file_walk.specs.declared.step.Met.TheVariants.{Opened, Closed, Refused, Lost}
+use Rattle.file_walk.specs.declared.level.Level.{Level}
+use Rattle.file_walk.specs.declared.step.Turn.TheVariants.{Opened, Closed, Ended}
 use Rattle.list.specs.tables.Numbers.{is_group_in}
 use Rattle.file_walk.specs.mirror.Tables.{opening_in}
-use Rattle.file_walk.specs.mirror.Stride.{own_in, ink_before, end_in, refused_at, lost_at, outer, closed_by, closed_in, row_in, inner, entered_by, entered_in, vacant_by, vacant_in, met_in, ink_ahead, step_by, step_in}
+use Rattle.file_walk.specs.mirror.Stride.{own_in, ink_before, end_in, Stepped, outer, closed_by, closed_in, row_in, inner, entered_by, entered_in, met_in, ink_ahead, step_by, step_in}
 
 -- ---- a token, by the bytes
 
@@ -139,121 +138,85 @@ module _ (s : List ℕ) (at : ℕ) where
 
 -- ---- a step that refuses nothing
 
-abbrev is_opened : Met → Bool
-is_opened Opened = true
-is_opened Closed = false
-is_opened (Refused a) = false
-is_opened Lost = false
+-- of two turns by a test
+one_way : (b : Bool) (x y : Stepped) {c : Stepped} → is_ok x ≡ false → c ≡ cond b x y → is_ok c ≡ true → (b ≡ false) × (c ≡ y)
+one_way true x y e f n = absurd (false≢true (sym e ∙ sym (ap is_ok f) ∙ n))
+one_way false x y e f n = (refl, f)
 
-clash : Opened ≡ Closed → ⊥
-clash e = true≢false (ap is_opened e)
-
--- neither a violation nor bytes that are no house XML
-abbrev pub goes_on : Met → Bool
-goes_on Opened = true
-goes_on Closed = true
-goes_on (Refused a) = false
-goes_on Lost = false
-
-one_way : (b : Bool) (x y : Turn) → goes_on x.met ≡ false → goes_on (cond b x y).met ≡ true → (b ≡ false) × (cond b x y ≡ y)
-one_way true x y e n = absurd (false≢true (sym e ∙ n))
-one_way false x y e n = (refl, refl)
-
-module _ (t pool s st : List ℕ) (here : Here) where
+module _ (t pool s : List ℕ) (st : List Level) (here : Here) where
   abbrev token : Token
   token = token_in s here.at
 
   abbrev row : ℕ
   row = row_in t pool s here.level token.less token.stop
 
-  abbrev opens : Turn
-  opens = record { met = Opened; here = inner t here row token.less token.end token.first; less = token.less }
-
-  abbrev shuts : Here → Turn
-  shuts h = record { met = Closed; here = h; less = token.less }
-
   -- an opening tag, the root's closing tag, another's
-  pub data Went (x : Turn) : Type 0 where
-    entered : token.kind ≡ Open → x ≡ opens → Went x
-    ended : token.kind ≡ Close → here.depth ≡ 0 → x ≡ shuts here → Went x
-    left : token.kind ≡ Close → here.depth ≢ 0 → x ≡ shuts (outer st (here.depth - 1) token.end) → Went x
+  pub data Went (x : Stepped) : Type 0 where
+    entered : token.kind ≡ Open → x ≡ Ok (Opened (inner t here row token.less token.end token.first)) → Went x
+    ended : token.kind ≡ Close → x ≡ Ok Ended → Went x
+    left : token.kind ≡ Close → (to : Here) → to.at ≡ token.end → x ≡ Ok (Closed to token.less) → Went x
 
-  enters : token.kind ≡ Open → (f : Found) → goes_on (entered_by t here row token.less token.end token.first f).met ≡ true → Went (entered_by t here row token.less token.end token.first f)
-  enters k (Violation a) n = absurd (false≢true n)
-  enters k Fine n = entered k (one_way (ltb 15 here.depth) (lost_at here token.less) opens refl n).1
-
-  leaves : token.kind ≡ Close → (f : Found) → goes_on (closed_by st here token.less token.end f).met ≡ true → Went (closed_by st here token.less token.end f)
-  leaves k (Violation a) n = absurd (false≢true n)
-  leaves k Fine n = go (eqb here.depth 0) (ltb 16 here.depth) refl n
+  enters : token.kind ≡ Open → (f : Found) → is_ok (entered_by t here row token.less token.end token.first f) ≡ true → Went (entered_by t here row token.less token.end token.first f)
+  enters k (Err a) n = absurd (false≢true n)
+  enters k (Ok tt) n = go (ltb 15 here.depth) n
     where
-      further : Turn
-      further = shuts (outer st (here.depth - 1) token.end)
+      go : (b : Bool) → is_ok (cond b (Err (table.not_house_xml token.less)) (Ok (Opened (inner t here row token.less token.end token.first)))) ≡ true
+          → Went (cond b (Err (table.not_house_xml token.less)) (Ok (Opened (inner t here row token.less token.end token.first))))
+      go true n = absurd (false≢true n)
+      go false n = entered k refl
 
-      go : (b c : Bool) → eqb here.depth 0 ≡ b → goes_on (cond b (shuts here) (cond c (lost_at here token.less) further)).met ≡ true → Went (cond b (shuts here) (cond c (lost_at here token.less) further))
-      go true c e n = ended k (eqb-true here.depth 0 e) refl
-      go false true e n = absurd (false≢true n)
-      go false false e n = left k (eqb-false here.depth 0 e) refl
+  leaves : token.kind ≡ Close → (f : Found) → is_ok (closed_by st here token.less token.end f) ≡ true → Went (closed_by st here token.less token.end f)
+  leaves k (Err a) n = absurd (false≢true n)
+  leaves k (Ok tt) n = go (eqb here.depth 0) (ltb 16 here.depth) n
+    where
+      go : (b c : Bool) → is_ok (cond b (Ok Ended) (cond c (Err (table.not_house_xml token.less)) (Ok (Closed (outer st (here.depth - 1) token.end) token.less)))) ≡ true
+          → Went (cond b (Ok Ended) (cond c (Err (table.not_house_xml token.less)) (Ok (Closed (outer st (here.depth - 1) token.end) token.less))))
+      go true c n = ended k refl
+      go false true n = absurd (false≢true n)
+      go false false n = left k (outer st (here.depth - 1) token.end) refl refl
 
-  -- an element without content has none
-  vacant : (f : Found) → goes_on (vacant_by here row token.less f).met ≡ true → ⊥
-  vacant (Violation a) n = false≢true n
-  vacant Fine n = false≢true n
-
-  stays : (q : Kind) → token.kind ≡ q → goes_on (met_in t pool s st here q token).met ≡ true → Went (met_in t pool s st here q token)
-  unfolding entered_in closed_in vacant_in
+  stays : (q : Kind) → token.kind ≡ q → is_ok (met_in t pool s st here q token) ≡ true → Went (met_in t pool s st here q token)
+  unfolding entered_in closed_in
   stays Open e n = enters e (opening_in t here.level row (own_in t s row token.attributes token.first) token.less) n
   stays Close e n = leaves e (end_in t (is_group_in (cell t here.level.row 2)) here.level here.at token.less) n
-  stays Empty e n = absurd (vacant (opening_in t here.level row (own_in t s row token.attributes token.first) token.less) n)
+  stays Empty e n = absurd (false≢true n)
   stays End e n = absurd (false≢true n)
 
-  pub known : goes_on (step_in t pool s st here).met ≡ true → (ltb (ink_before t s here.level.row here.at token.less) token.less ≡ false) × Went (step_in t pool s st here)
+  pub known : is_ok (step_in t pool s st here) ≡ true → (ltb (ink_before t s here.level.row here.at token.less) token.less ≡ false) × Went (step_in t pool s st here)
   unfolding step_by
   known n =
       let ink = ink_ahead t pool s st here token in
-      let w = one_way (ltb ink token.less) (refused_at here (table.text_in_group here.level.row ink)) (met_in t pool s st here token.kind token) refl n in
-      (w.0, subst Went (sym w.1) (stays token.kind refl (ap (λ (x : Turn). goes_on x.met) (sym w.1) ∙ n)))
+      let w = one_way (ltb ink token.less) (Err (table.text_in_group here.level.row ink)) (met_in t pool s st here token.kind token) refl refl n in
+      (w.0, subst Went (sym w.1) (stays token.kind refl (ap is_ok (sym w.1) ∙ n)))
 
   -- ---- by the byte after the `<`
 
   goes : (q : Kind) → token.kind ≡ q → rank q ≢ 3 → token.kind ≢ End
   goes q e n = λ f. unlike token.kind q End e f n
 
-  module _ (x : Turn) (w : Went x) where
+  module _ (x : Stepped) (w : Went x) where
     pub there : token.less < length s
     there = inside s here.at token.less refl (elim w [
       | entered k e ↦ goes Open k (λ z. absurd (omega (arith, z)))
-      | ended k d e ↦ goes Close k (λ z. absurd (omega (arith, z)))
-      | left k d e ↦ goes Close k (λ z. absurd (omega (arith, z)))
+      | ended k e ↦ goes Close k (λ z. absurd (omega (arith, z)))
+      | left k to d e ↦ goes Close k (λ z. absurd (omega (arith, z)))
     ])
 
     module _ (m : ℕ) (is : m ≡ token.less) where
       there_is : m < length s
       there_is = subst (λ (n : ℕ). n < length s) (sym is) there
 
-      pub by_close_lem : head_is solidus (drop (m + 1) s) ≡ true → x.met ≡ Closed
+      -- the end of the root or of another element
+      pub by_close_lem : head_is solidus (drop (m + 1) s) ≡ true → (token.kind ≡ Close) × ((x ≡ Ok Ended) ⊎ ((to : Here) × (to.at ≡ token.end) × (x ≡ Ok (Closed to token.less))))
       by_close_lem b = elim w [
         | entered k e ↦ absurd (unlike token.kind Open Close k (ap (λ (z : Token). z.kind) (is_close s here.at m is there_is b)) (λ z. absurd (omega (arith, z))))
-        | ended k d e ↦ ap (λ (z : Turn). z.met) e
-        | left k d e ↦ ap (λ (z : Turn). z.met) e
+        | ended k e ↦ (k, inl e)
+        | left k to d e ↦ (k, inr (to, d, e))
       ]
 
-      pub by_open_lem : head_is solidus (drop (m + 1) s) ≡ false → x.met ≡ Opened
+      pub by_open_lem : head_is solidus (drop (m + 1) s) ≡ false → x ≡ Ok (Opened (inner t here row token.less token.end token.first))
       by_open_lem b = elim w [
-        | entered k e ↦ ap (λ (z : Turn). z.met) e
-        | ended k d e ↦ absurd (not_close s here.at m is there_is b k)
-        | left k d e ↦ absurd (not_close s here.at m is there_is b k)
+        | entered k e ↦ e
+        | ended k e ↦ absurd (not_close s here.at m is there_is b k)
+        | left k to d e ↦ absurd (not_close s here.at m is there_is b k)
       ]
-
-    pub opened_here : x.met ≡ Opened → x.here ≡ inner t here row token.less token.end token.first
-    opened_here m = elim w [
-      | entered k e ↦ ap (λ (z : Turn). z.here) e
-      | ended k d e ↦ absurd (clash (sym m ∙ ap (λ (z : Turn). z.met) e))
-      | left k d e ↦ absurd (clash (sym m ∙ ap (λ (z : Turn). z.met) e))
-    ]
-
-    pub closed_here : x.met ≡ Closed → here.depth ≢ 0 → (x.less ≡ token.less) × (x.here.at ≡ token.end) × (token.kind ≡ Close)
-    closed_here m n = elim w [
-      | entered k e ↦ absurd (clash (sym (ap (λ (z : Turn). z.met) e) ∙ m))
-      | ended k d e ↦ absurd (n d)
-      | left k d e ↦ (ap (λ (z : Turn). z.less) e, ap (λ (z : Turn). z.here.at) e, k)
-    ]

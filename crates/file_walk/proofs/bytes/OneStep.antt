@@ -1,4 +1,5 @@
 -- One step of the walk over bytes does what the walk over events does, where the walk stands. Assumes nothing.
+use Rattle.std.specs.Prelude.{Ok, Err}
 use mathlib.Core.Path.{◌≡◌, refl, sym, ◌∙◌, ap, ap₂, subst}
 use mathlib.Core.Logic.{◌≢◌, inl, inr}
 use mathlib.Core.Bool.{Bool, true, false, cond, not, true≢false, false≢true}
@@ -28,17 +29,14 @@ use Rattle.xml_tags.specs.Story.{Event, enter, leave, chars, Text, token_in, Tag
 use Rattle.xml_tags.proofs.Tokens.{Ahead, token_within}
 use Rattle.xml_tags.proofs.Texts.{text_spells}
 use Rattle.file_walk.specs.declared.level.Level.{Level}
-use Rattle.file_walk.specs.declared.found.Found.{Found}
-use Rattle.file_walk.specs.declared.found.Found.TheVariants.{Fine, Violation}
 use Rattle.file_walk.specs.declared.step.Here.{Here}
-use Rattle.file_walk.specs.declared.step.Turn.{Turn}
-use Rattle.file_walk.specs.declared.step.Met.TheVariants.{Opened, Closed}
-use Rattle.file_walk.specs.First.{refuse, or_else, first_of, currency_given, attrs_ok, kind_of}
+use Rattle.file_walk.specs.declared.step.Turn.TheVariants.{Opened, Closed, Ended}
+use Rattle.file_walk.specs.First.{Found, refuse, or_else, first_of, currency_given, attrs_ok, kind_of}
 use Rattle.file_walk.specs.mirror.Machine.{Speller, verdict_of, judge_of, State, at, pop, fresh, advance, close_test, run, opens, closes, emits}
 use Rattle.list.specs.tables.Numbers.{is_group_in}
 use Rattle.value.specs.mirror.Judges.{is_currency}
 use Rattle.file_walk.specs.mirror.Tables.{fresh_in, advance_in, passed_in, again_in, opening_in, level_at, pushed, levels}
-use Rattle.file_walk.specs.mirror.Stride.{own_in, ink_before, end_in, row_in, refused_at, closed_in, entered_in, below_in, vacant_in, step_in, stack_in}
+use Rattle.file_walk.specs.mirror.Stride.{own_in, ink_before, end_in, row_in, Stepped, closed_in, entered_in, below_in, vacant_in, step_in, stack_in}
 use Rattle.file_walk.proofs.violation.Answers.{or_fine, refuse_no, attrs_group}
 use Rattle.file_walk.proofs.bytes.Sound.{fresh_in_lem, advance_in_lem}
 use Rattle.file_walk.proofs.events.Items.{closes_group}
@@ -51,7 +49,7 @@ use Rattle.file_walk.proofs.events.Told.{Told, by_open, by_empty, by_close, by_e
 use Rattle.file_walk.proofs.bytes.Stands.{Closing, Nested, Stands, finds, hands, Turned, refused, opened, closed, whole}
 
 module _ (T : Speller) (l : Listing) where
-  pub judged_group : (k : Kind) (r o : ℕ) (ats : Attrs) (cs : List ℕ) → is_group k ≡ true → judged (judge_of T) k r o ats cs ≡ Fine
+  pub judged_group : (k : Kind) (r o : ℕ) (ats : Attrs) (cs : List ℕ) → is_group k ≡ true → judged (judge_of T) k r o ats cs ≡ Ok tt
   judged_group group r o ats cs g = refl
   judged_group choice r o ats cs g = refl
   judged_group (leaf f) r o ats cs g = absurd (false≢true g)
@@ -66,14 +64,14 @@ no_amount_lem k g e = true≢false (sym g ∙ ap is_group e)
 
 -- ---- an opening tag in which nothing is found
 
-open_fits : (a b c d : Bool) (u v w x : Answer) → first_of (refuse a u ∷ refuse b v ∷ refuse c w ∷ refuse (not d) x ∷ []) ≡ Fine → (a ≡ false) × (d ≡ true)
+open_fits : (a b c d : Bool) (u v w x : Answer) → first_of (refuse a u ∷ refuse b v ∷ refuse c w ∷ refuse (not d) x ∷ []) ≡ Ok tt → (a ≡ false) × (d ≡ true)
 open_fits a b c d u v w x e =
     let p = or_fine (refuse a u) _ e in
     let q = or_fine (refuse b v) _ p.1 in
     let r = or_fine (refuse c w) _ q.1 in
-    (refuse_no a u p.0, not-false d (refuse_no (not d) x (or_fine (refuse (not d) x) Fine r.1).0))
+    (refuse_no a u p.0, not-false d (refuse_no (not d) x (or_fine (refuse (not d) x) (Ok tt) r.1).0))
 
-opening_fits : (t : List ℕ) (lv : Level) (r : ℕ) (own : Bool) (o : ℕ) → opening_in t lv r own o ≡ Fine → (eqb r 0 ≡ false) × (own ≡ true)
+opening_fits : (t : List ℕ) (lv : Level) (r : ℕ) (own : Bool) (o : ℕ) → opening_in t lv r own o ≡ Ok tt → (eqb r 0 ≡ false) × (own ≡ true)
 unfolding opening_in
 opening_fits t lv r own o e = open_fits (eqb r 0) (passed_in t lv r) (again_in t lv r) own _ _ _ _ e
 
@@ -95,7 +93,7 @@ module _ (T : Speller) (t pool s : List ℕ) (sd : Sound t pool) (m : Coins (jud
   nested_most [] r e = omega arith
   nested_most (lv ∷ below) r w = omega (arith, nested_level (lv ∷ below) r w, (level_bound l sd.well lv.row r w.0).1)
 
-  module _ (st : List ℕ) (here : Here) (below : List Level) (ats : Attrs) (es : List Event) (w : Stands T t pool s sd st here below ats es) where
+  module _ (st : List Level) (here : Here) (below : List Level) (ats : Attrs) (es : List Event) (w : Stands T t pool s sd st here below ats es) where
     abbrev lv : Level
     lv = here.level
 
@@ -120,13 +118,13 @@ module _ (T : Speller) (t pool s : List ℕ) (sd : Sound t pool) (m : Coins (jud
     abbrev Goal : Type 0
     Goal = Turned T t pool s sd here below ats es (stack_in t pool s st here) (step_in t pool s st here)
 
-    to : (x : Turn) (y : List ℕ) → (x ≡ step_in t pool s st here) × (y ≡ stack_in t pool s st here) → Turned T t pool s sd here below ats es y x → Goal
+    to : (x : Stepped) (y : List Level) → (x ≡ step_in t pool s st here) × (y ≡ stack_in t pool s st here) → Turned T t pool s sd here below ats es y x → Goal
     to x y e v =
         subst (λ z. Turned T t pool s sd here below ats es z (step_in t pool s st here)) e.1 (subst (λ z. Turned T t pool s sd here below ats es y z) e.0 v)
 
     -- a violation that is the first
-    refuses : (a : Answer) → finds T t pool s sd here below ats es ≡ Violation a → Turned T t pool s sd here below ats es st (refused_at here a)
-    refuses a e = refused (record { answer = a; met = refl; found = e })
+    refuses : (a : Answer) → finds T t pool s sd here below ats es ≡ Err a → Turned T t pool s sd here below ats es st (Err a)
+    refuses a e = refused a refl e
 
     -- ---- the text
 
@@ -135,7 +133,7 @@ module _ (T : Speller) (t pool s : List ℕ) (sd : Sound t pool) (m : Coins (jud
       abbrev inside : State
       inside = at lv below ats (kept (is_group (kind_of l lv.row)) ps)
 
-      found_text : finds T t pool s sd here below ats es ≡ cond (ltb ink k.less) (Violation (table.text_in_group lv.row ink)) (run T l inside more)
+      found_text : finds T t pool s sd here below ats es ≡ cond (ltb ink k.less) (Err (table.text_in_group lv.row ink)) (run T l inside more)
       found_text = ap (λ z. run T l (at lv below ats []) z) is ∙ text_run T t pool s sd lv w.placed below ats here.at k.less ps low high x more
 
       handed_text : hands T t pool s sd here below ats es ≡ emits T l inside more
@@ -149,7 +147,7 @@ module _ (T : Speller) (t pool s : List ℕ) (sd : Sound t pool) (m : Coins (jud
       inked : ink < k.less → Goal
       inked h =
           let a = table.text_in_group lv.row ink in
-          to (refused_at here a) st (step_ink t pool s st here k refl ink refl a (refused_at here a) h refl refl) (refuses a (found_text ∙ rw (lt-ltb ink k.less h)))
+          to (Err a) st (step_ink t pool s st here k refl ink refl a h refl) (refuses a (found_text ∙ rw (lt-ltb ink k.less h)))
 
       passed_text : k.less ≤ ink → finds T t pool s sd here below ats es ≡ run T l inside more
       passed_text h = found_text ∙ rw (le-ltb ink k.less h)
@@ -168,7 +166,7 @@ module _ (T : Speller) (t pool s : List ℕ) (sd : Sound t pool) (m : Coins (jud
           ≡ or_else v (or_else (judged (judge_of T) (kind_of l lv.row) lv.row lv.place ats (resolved_all ps)) (run T l (pop below) more))
       found_close = passed_text ps x (leave ∷ more) is h ∙ close_run T t pool s sd lv w.placed below ats here.at k.less ps low high x more
 
-      close_to : (y : Turn) → y ≡ closed_in t in_group st here k.less k.end → Turned T t pool s sd here below ats es st y → Goal
+      close_to : (y : Stepped) → y ≡ closed_in t in_group st here k.less k.end → Turned T t pool s sd here below ats es st y → Goal
       close_to y e = to y st (step_close t pool s st here k refl ink refl h y in_group kind refl e)
 
       handed_close : hands T t pool s sd here below ats es ≡ closes T l (kind_of l lv.row) lv.row ats (resolved_all ps) ++ emits T l (pop below) more
@@ -179,12 +177,12 @@ module _ (T : Speller) (t pool s : List ℕ) (sd : Sound t pool) (m : Coins (jud
       found_by_lem : (f : Found) → v ≡ f → finds T t pool s sd here below ats es ≡ or_else f (or_else (judged (judge_of T) (kind_of l lv.row) lv.row lv.place ats (resolved_all ps)) (run T l (pop below) more))
       found_by_lem f e = found_close ∙ ap (λ g. or_else g (or_else (judged (judge_of T) (kind_of l lv.row) lv.row lv.place ats (resolved_all ps)) (run T l (pop below) more))) e
 
-      close_refused : (a : Answer) → v ≡ Violation a → Goal
-      close_refused a e = close_to (refused_at here a) (closed_refused t in_group st here k.less k.end v refl a (refused_at here a) e refl) (refuses a (found_by_lem (Violation a) e))
+      close_refused : (a : Answer) → v ≡ Err a → Goal
+      close_refused a e = close_to (Err a) (closed_refused t in_group st here k.less k.end v refl a e) (refuses a (found_by_lem (Err a) e))
 
-      module _ (z : v ≡ Fine) where
+      module _ (z : v ≡ Ok tt) where
         found_on : finds T t pool s sd here below ats es ≡ or_else (judged (judge_of T) (kind_of l lv.row) lv.row lv.place ats (resolved_all ps)) (run T l (pop below) more)
-        found_on = found_by_lem Fine z
+        found_on = found_by_lem (Ok tt) z
 
         -- the root's
         close_root : here.depth ≡ 0 → Goal
@@ -193,10 +191,9 @@ module _ (T : Speller) (t pool s : List ℕ) (sd : Sound t pool) (m : Coins (jud
             let none : below ≡ [] = sym w.around ∙ ap (levels st) d in
             let row : lv.row ≡ 1 = subst (Nested T t pool s sd lv.row) none w.nested in
             let g : is_group (kind_of l lv.row) ≡ true = ap (λ r. is_group (kind_of l r)) row ∙ ap is_group sd.well.root.1 in
-            close_to (record { met = Closed; here = here; less = k.less }) (closed_root t in_group st here k.less k.end v refl z d)
-            (whole (record {
-              met = refl;
-              root = d;
+            close_to (Ok Ended) (closed_root t in_group st here k.less k.end v refl z d)
+            (whole refl (record {
+              root = row;
               found = found_on ∙ ap₂ or_else (judged_group T l (kind_of l lv.row) lv.row lv.place ats (resolved_all ps) g) (ap (λ b. run T l (pop b) more) none ∙ run_after T l more);
               handed = handed_close ∙ ap₂ ◌++◌ (closes_group T l (kind_of l lv.row) lv.row ats (resolved_all ps) g) (ap (λ b. emits T l (pop b) more) none ∙ emits_after T l more);
             }))
@@ -237,11 +234,9 @@ module _ (T : Speller) (t pool s : List ℕ) (sd : Sound t pool) (m : Coins (jud
 
           close_on : Goal
           close_on =
-              close_to (record { met = Closed; here = out; less = k.less })
+              close_to (Ok (Closed out k.less))
               (closed_outer t in_group st here k.less k.end v refl z d out (omega (arith, shallow)) refl)
-              (closed (record {
-                met = refl;
-                deep = omega arith;
+              (closed out k.less refl (record {
                 text = low;
                 inside = high;
                 chars = resolved_all ps;
@@ -259,8 +254,8 @@ module _ (T : Speller) (t pool s : List ℕ) (sd : Sound t pool) (m : Coins (jud
       close_turned = go v refl
         where
           go : (f : Found) → v ≡ f → Goal
-          go Fine z = elim (ℕ_discrete here.depth 0) [ yes d ↦ close_root z d | no d ↦ close_on z d ]
-          go (Violation a) e = close_refused a e
+          go (Ok tt) z = elim (ℕ_discrete here.depth 0) [ yes d ↦ close_root z d | no d ↦ close_on z d ]
+          go (Err a) e = close_refused a e
 
     -- ---- an opening tag
 
@@ -294,7 +289,7 @@ module _ (T : Speller) (t pool s : List ℕ) (sd : Sound t pool) (m : Coins (jud
       row : r ≡ row_in t pool s lv k.less k.stop
       row = sym (row_is T t pool s sd lv w.placed m here.at k refl shorter n new g)
 
-      module _ (z : u ≡ Fine) where
+      module _ (z : u ≡ Ok tt) where
         its : Child l lv.row r
         its = (child_found l lv.row n r refl (some (opening_fits t lv r ok k.less z).0)).its
           where
@@ -308,7 +303,7 @@ module _ (T : Speller) (t pool s : List ℕ) (sd : Sound t pool) (m : Coins (jud
         fresh_is = fresh_in_lem t pool sd r k.less its.last
 
         found_in : finds T t pool s sd here below ats es ≡ run T l (at (fresh_in t r k.less) (advance l lv r ∷ below) new []) more
-        found_in = found_as Fine z ∙ ap (λ y. run T l (at y (advance l lv r ∷ below) new []) more) (sym fresh_is)
+        found_in = found_as (Ok tt) z ∙ ap (λ y. run T l (at y (advance l lv r ∷ below) new []) more) (sym fresh_is)
 
         handed_in : hands T t pool s sd here below ats es ≡ opens T l (kind_of l r) r ++ emits T l (at (fresh_in t r k.less) (advance l lv r ∷ below) new []) more
         handed_in = handed_open ∙ ap (λ y. opens T l (kind_of l r) r ++ emits T l (at y (advance l lv r ∷ below) new []) more) (sym fresh_is)
@@ -316,7 +311,7 @@ module _ (T : Speller) (t pool s : List ℕ) (sd : Sound t pool) (m : Coins (jud
         abbrev in' : Here
         in' = record { level = fresh_in t r k.less; depth = here.depth + 1; at = k.end; value = k.first.value; quote = k.first.quote }
 
-        abbrev st' : List ℕ
+        abbrev st' : List Level
         st' = pushed st here.depth (advance_in t lv r)
 
         nested_child : Nested T t pool s sd r (advance l lv r ∷ below)
@@ -342,7 +337,7 @@ module _ (T : Speller) (t pool s : List ℕ) (sd : Sound t pool) (m : Coins (jud
 
       -- of an element that goes on
       module _ (kind : k.kind ≡ Open) (tells : Tells s k.end more) where
-        open_to : (y : Turn) (b : List ℕ) → (y ≡ entered_in t here r ok k.less k.end k.first) × (b ≡ below_in t st here r ok k.less)
+        open_to : (y : Stepped) (b : List Level) → (y ≡ entered_in t here r ok k.less k.end k.first) × (b ≡ below_in t st here r ok k.less)
             → Turned T t pool s sd here below ats es b y → Goal
         open_to y b e = to y b (step_open t pool s st here k refl ink refl h r ok row refl y b kind e.0 e.1)
 
@@ -350,10 +345,9 @@ module _ (T : Speller) (t pool s : List ℕ) (sd : Sound t pool) (m : Coins (jud
         open_turned = go u refl
           where
             go : (f : Found) → u ≡ f → Goal
-            go Fine z = open_to (record { met = Opened; here = in' z; less = k.less }) (st' z)
+            go (Ok tt) z = open_to (Ok (Opened (in' z))) (st' z)
                 (entered_on t here r ok k.less u refl st k.end k.first z (fresh_in t r k.less) (advance_in t lv r) (st' z) shallow refl refl refl)
-                (opened (record {
-                  met = refl;
+                (opened (in' z) refl (record {
                   attrs = new;
                   rest = more;
                   stands = stands_in z tells;
@@ -361,7 +355,7 @@ module _ (T : Speller) (t pool s : List ℕ) (sd : Sound t pool) (m : Coins (jud
                   handed = handed_in z;
                   on = omega (arith, low, ahead.on going);
                 }))
-            go (Violation a) e = open_to (refused_at here a) st (entered_refused t here r ok k.less u refl st k.end k.first a (refused_at here a) e refl) (refuses a (found_as (Violation a) e))
+            go (Err a) e = open_to (Err a) st (entered_refused t here r ok k.less u refl st k.end k.first a e) (refuses a (found_as (Err a) e))
 
     -- of an element without content
     module _ (ps : List Piece) (x : Text s here.at k.less ps) (n : List ℕ) (new : Attrs) (more : List Event) (is : es ≡ chars here.at ps (enter k.less n new ∷ leave ∷ more))
@@ -378,26 +372,26 @@ module _ (T : Speller) (t pool s : List ℕ) (sd : Sound t pool) (m : Coins (jud
       abbrev y : Found
       y = opening_in t lv q own k.less
 
-      empty_to : (x : Turn) → x ≡ vacant_in t here q own k.less → Turned T t pool s sd here below ats es st x → Goal
-      empty_to z e = to z st (step_empty t pool s st here k refl ink refl h q own (row ps x n new (leave ∷ more) is going g h) refl z kind e)
+      empty_to : (a : Answer) → a ≡ vacant_in t here q own k.less → Turned T t pool s sd here below ats es st (Err a) → Goal
+      empty_to z e = to (Err z) st (step_empty t pool s st here k refl ink refl h q own (row ps x n new (leave ∷ more) is going g h) refl z kind e)
 
-      empty_found : y ≡ Fine → finds T t pool s sd here below ats es ≡ Violation (table.empty q k.less)
+      empty_found : y ≡ Ok tt → finds T t pool s sd here below ats es ≡ Err (table.empty q k.less)
       unfolding run
-      empty_found z = found_as ps x n new (leave ∷ more) is going g h Fine z
+      empty_found z = found_as ps x n new (leave ∷ more) is going g h (Ok tt) z
           ∙ ap (λ f. or_else f (run T l (at (advance l lv q) below [] []) more)) (closes_now q)
         where
-          closes_now : (q : ℕ) → close_test T l (kind_of l (fresh l q k.less).row) (fresh l q k.less) new [] ≡ Violation (table.empty q k.less)
+          closes_now : (q : ℕ) → close_test T l (kind_of l (fresh l q k.less).row) (fresh l q k.less) new [] ≡ Err (table.empty q k.less)
           closes_now q = closes_empty T l (kind_of l (fresh l q k.less).row) q k.less new
 
       empty_turned : Goal
       empty_turned = go y refl
         where
           go : (f : Found) → y ≡ f → Goal
-          go Fine z =
+          go (Ok tt) z =
               let a = table.empty q k.less in
-              empty_to (refused_at here a) (vacant_on t here q own k.less y refl a (refused_at here a) z refl refl) (refuses a (empty_found z))
-          go (Violation a) e =
-              empty_to (refused_at here a) (vacant_refused t here q own k.less y refl a (refused_at here a) e refl) (refuses a (found_as ps x n new (leave ∷ more) is going g h (Violation a) e))
+              empty_to a (vacant_on t here q own k.less y refl a z refl) (refuses a (empty_found z))
+          go (Err a) e =
+              empty_to a (vacant_refused t here q own k.less y refl a e) (refuses a (found_as ps x n new (leave ∷ more) is going g h (Err a) e))
 
     -- ---- by what is told
 

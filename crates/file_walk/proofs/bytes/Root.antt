@@ -1,4 +1,5 @@
 -- The root's tag over bytes does what the walk over events does, in the text of a good tree. Assumes nothing.
+use Rattle.std.specs.Prelude.{Ok, Err}
 use mathlib.Core.Path.{◌≡◌, refl, sym, ◌∙◌, ap, ap₂, subst}
 use mathlib.Core.Logic.{◌≢◌, inl}
 use mathlib.Core.Bool.{Bool, true, false, ◌&&◌, not}
@@ -27,16 +28,13 @@ use Rattle.xml_tags.specs.mirror.Tokens.{start_of}
 use Rattle.xml_tags.specs.Story.{Event, char, enter, leave, events, chars, token_in, Tagged, Tells}
 use Rattle.xml_tags.proofs.Tokens.{Ahead, token_within}
 use Rattle.xml_tags.proofs.Story.{start_root, start_opens, told}
-use Rattle.file_walk.specs.declared.found.Found.TheVariants.{Violation}
+use Rattle.file_walk.specs.declared.level.Level.{Level}
 use Rattle.file_walk.specs.declared.step.Here.{Here}
-use Rattle.file_walk.specs.declared.step.Turn.{Turn}
-use Rattle.file_walk.specs.declared.step.Met.TheVariants.{Opened}
 use Rattle.file_walk.specs.First.{refuse, or_else, kind_of, is_root, first_violation}
 use Rattle.file_walk.specs.Denotes.{OneElement as Single}
 use Rattle.file_walk.specs.mirror.Machine.{Speller, judge_of, before, at, after, fresh, run, walk, emits}
 use Rattle.file_walk.specs.mirror.Tables.{fresh_in, levels}
-use Rattle.file_walk.specs.mirror.Stride.{refused_at}
-use Rattle.file_walk.specs.mirror.Begin.{is_first_in, is_root_in, root_at as root_in_lem, rooted_in, hollow_in, found_in, begin_by, begin_in, unrooted}
+use Rattle.file_walk.specs.mirror.Begin.{is_first_in, is_root_in, root_at as root_in_lem, Rooted, rooted_in, hollow_in, found_in, begin_by, begin_in, unrooted}
 use Rattle.file_walk.proofs.violation.Answers.{attrs_group}
 use Rattle.file_walk.proofs.Carrying.{root_judged}
 use Rattle.file_walk.proofs.bytes.Sound.{fresh_in_lem}
@@ -128,7 +126,7 @@ module _ (T : Speller) (t pool : List ℕ) (sd : Sound t pool) (m : Tree) (good 
   abbrev Goal : Type 0
   Goal = Began T t pool s sd m (begin_in t pool s)
 
-  to : (x : Turn) → x ≡ begin_in t pool s → Began T t pool s sd m x → Goal
+  to : (x : Rooted) → x ≡ begin_in t pool s → Began T t pool s sd m x → Goal
   to x e v = subst (λ z. Began T t pool s sd m z) e v
 
   by_kind : (q : Mark) → k.kind ≡ q → found_in t pool s q k ≡ begin_in t pool s
@@ -162,16 +160,16 @@ module _ (T : Speller) (t pool : List ℕ) (sd : Sound t pool) (m : Tree) (good 
     root = root_in_lem t k.less k.end
 
     -- a violation that is the first
-    denies : (a : Answer) → run T list before es ≡ Violation a → Began T t pool s sd m (refused_at root a)
-    denies a e = denied (record { answer = a; met = refl; found = e })
+    denies : (a : Answer) → run T list before es ≡ Err a → Began T t pool s sd m (Err a)
+    denies a e = denied a refl e
 
-    not_root : b ≡ false → Began T t pool s sd m (refused_at root (table.wrong_root k.less))
+    not_root : b ≡ false → Began T t pool s sd m (Err (table.wrong_root k.less))
     not_root e = denies (table.wrong_root k.less) (found_root ∙ ap (λ z. or_else (refuse (not z) (table.wrong_root k.less)) (run T list (at (fresh list 1 k.less) [] [] []) more)) e)
 
     found_in_lem : b ≡ true → run T list before es ≡ run T list (at (fresh list 1 k.less) [] [] []) more
     found_in_lem e = found_root ∙ ap (λ z. or_else (refuse (not z) (table.wrong_root k.less)) (run T list (at (fresh list 1 k.less) [] [] []) more)) e
 
-    stands_root : Tells s k.end more → (st : List ℕ) → length st ≡ 80 → Stands T t pool s sd st root [] [] more
+    stands_root : Tells s k.end more → (st : List Level) → length st ≡ 16 → Stands T t pool s sd st root [] [] more
     unfolding levels
     stands_root tells st e = record {
       room = e;
@@ -189,23 +187,22 @@ module _ (T : Speller) (t pool : List ℕ) (sd : Sound t pool) (m : Tree) (good 
     open_began : k.kind ≡ Open → Tells s k.end more → Goal
     unfolding rooted_in
     open_began kind tells = by_cases b
-        (λ e. to (record { met = Opened; here = root; less = k.less }) (ap (λ z. rooted_in z root k.less) (sym e) ∙ by_kind Open kind)
-        (starts (record {
-          met = refl;
+        (λ e. to (Ok root) (ap (λ z. rooted_in z root k.less) (sym e) ∙ by_kind Open kind)
+        (starts root refl (record {
           rest = more;
           stands = stands_root tells;
           found = found_in_lem e ∙ ap (λ z. run T list (at z [] [] []) more) fresh_is;
           handed = handed_root ∙ ap (λ z. (1, Option.none) ∷ emits T list (at z [] [] []) more) fresh_is;
         })))
-        (λ e. to (refused_at root (table.wrong_root k.less)) (ap (λ z. rooted_in z root k.less) (sym e) ∙ by_kind Open kind) (not_root e))
+        (λ e. to (Err (table.wrong_root k.less)) (ap (λ z. rooted_in z root k.less) (sym e) ∙ by_kind Open kind) (not_root e))
 
     empty_began : (rest : List Event) → more ≡ leave ∷ rest → k.kind ≡ Empty → Goal
     unfolding hollow_in run
     empty_began rest f kind = by_cases b
-        (λ e. to (refused_at root (table.empty 1 k.less)) (ap (λ z. hollow_in z root k.less) (sym e) ∙ by_kind Empty kind)
+        (λ e. to (Err (table.empty 1 k.less)) (ap (λ z. Err (hollow_in z k.less)) (sym e) ∙ by_kind Empty kind)
         (denies (table.empty 1 k.less) (found_in_lem e ∙ ap (run T list (at (fresh list 1 k.less) [] [] [])) f
         ∙ ap (λ z. or_else z (run T list after rest)) (closes_empty T list (kind_of list (fresh list 1 k.less).row) 1 k.less []))))
-        (λ e. to (refused_at root (table.wrong_root k.less)) (ap (λ z. hollow_in z root k.less) (sym e) ∙ by_kind Empty kind) (not_root e))
+        (λ e. to (Err (table.wrong_root k.less)) (ap (λ z. Err (hollow_in z k.less)) (sym e) ∙ by_kind Empty kind) (not_root e))
 
   began_by : Told s (start_of s) es → Goal
   began_by (by_open ps n ats more is kind x g tells) = open_began ps n ats more is g (goes_on k.kind Open kind (omega arith)) kind tells
@@ -222,28 +219,28 @@ module _ (T : Speller) (t pool : List ℕ) (sd : Sound t pool) (m : Tree) (good 
     kept_is : is_root_in t pool s k.less k.stop k.attributes ≡ rooted list (message_of m)
     kept_is = test_is ps n ats more is g going ∙ sym (ap (rooted_by list) is ∙ rooted_behind list (start_of s) ps (enter k.less n ats ∷ more)) ∙ rooted_events list m.root (root_at m) good.one
 
-  met_by : (q : Mark) → k.kind ≡ q → unrooted (begin_in t pool s).met ≡ unrooted (found_in t pool s q k).met
-  met_by q e = ap (λ z. unrooted z.met) (sym (by_kind q e))
+  met_by : (q : Mark) → k.kind ≡ q → unrooted (begin_in t pool s) ≡ unrooted (found_in t pool s q k)
+  met_by q e = ap unrooted (sym (by_kind q e))
 
-  open_kept : (b : Bool) (here : Here) (less : ℕ) → unrooted (rooted_in b here less).met ≡ not b
+  open_kept : (b : Bool) (here : Here) (less : ℕ) → unrooted (rooted_in b here less) ≡ not b
   unfolding rooted_in
   open_kept true here less = refl
   open_kept false here less = refl
 
-  empty_kept : (b : Bool) (here : Here) (less : ℕ) → unrooted (hollow_in b here less).met ≡ not b
+  empty_kept : (b : Bool) (less : ℕ) → unrooted (Err (hollow_in b less)) ≡ not b
   unfolding hollow_in
-  empty_kept true here less = refl
-  empty_kept false here less = refl
+  empty_kept true less = refl
+  empty_kept false less = refl
 
-  keeps_by : Told s (start_of s) es → unrooted (begin_in t pool s).met ≡ not (rooted list (message_of m))
+  keeps_by : Told s (start_of s) es → unrooted (begin_in t pool s) ≡ not (rooted list (message_of m))
   keeps_by (by_open ps n ats more is kind x g tells) =
       met_by Open kind ∙ open_kept (is_root_in t pool s k.less k.stop k.attributes) (root_in_lem t k.less k.end) k.less
       ∙ ap not (kept_is ps n ats more is g (goes_on k.kind Open kind (omega arith)))
   keeps_by (by_empty ps n ats more is kind x g) =
-      met_by Empty kind ∙ empty_kept (is_root_in t pool s k.less k.stop k.attributes) (root_in_lem t k.less k.end) k.less
+      met_by Empty kind ∙ empty_kept (is_root_in t pool s k.less k.stop k.attributes) k.less
       ∙ ap not (kept_is ps n ats (leave ∷ more) is g (goes_on k.kind Empty kind (omega arith)))
   keeps_by (by_close ps more is kind x tells) = absurd (closing_text 0 (start_of s) ps (leave ∷ more) (subst (Closing 0) is (closing_events (message_of m) 0 [] refl)))
   keeps_by (by_end is) = absurd (omega (arith, some_events m.root (root_at m) good.one, ap length is))
 
-  pub keeps : unrooted (begin_in t pool (text m)).met ≡ not (rooted (list_of t pool) (message_of m))
+  pub keeps : unrooted (begin_in t pool (text m)) ≡ not (rooted (list_of t pool) (message_of m))
   keeps = keeps_by (told_of (told m good))

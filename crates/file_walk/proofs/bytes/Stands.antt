@@ -1,4 +1,5 @@
 -- Where the walk over bytes stands, and what one step there does, said by the walk over events. Assumes nothing.
+use Rattle.std.specs.Prelude.{Ok, Err}
 use mathlib.Core.Path.{◌≡◌}
 use mathlib.Core.Bool.{true}
 use mathlib.Core.List.{List, [], ◌∷◌, ◌++◌}
@@ -16,11 +17,10 @@ use Rattle.xml.specs.Message.{Attrs, message_of}
 use Rattle.xml_tags.specs.Story.{Event, char, enter, leave, events, Tells}
 use Rattle.file_walk.specs.declared.level.Level.{Level}
 use Rattle.file_walk.specs.declared.step.Here.{Here}
-use Rattle.file_walk.specs.declared.step.Turn.{Turn}
-use Rattle.file_walk.specs.declared.step.Met.TheVariants.{Opened, Closed, Refused}
-use Rattle.file_walk.specs.declared.found.Found.{Found}
-use Rattle.file_walk.specs.declared.found.Found.TheVariants.{Fine, Violation}
-use Rattle.file_walk.specs.First.{or_else, currency_given, attrs_ok, kind_of}
+use Rattle.file_walk.specs.declared.step.Turn.TheVariants.{Opened, Closed, Ended}
+use Rattle.file_walk.specs.mirror.Stride.{Stepped}
+use Rattle.file_walk.specs.mirror.Begin.{Rooted}
+use Rattle.file_walk.specs.First.{Found, or_else, currency_given, attrs_ok, kind_of}
 use Rattle.file_walk.specs.mirror.Machine.{Speller, judge_of, before, at, advance, run, opens, closes, emits}
 use Rattle.file_walk.specs.mirror.Tables.{levels}
 use Rattle.value.specs.mirror.Judges.{is_currency}
@@ -45,8 +45,8 @@ module _ (T : Speller) (t pool s : List ℕ) (sd : Sound t pool) where
   Nested r (lv ∷ below) = Child list lv.row r × Placed t pool sd lv × Nested lv.row below
 
   -- the walk stands here: the levels around, the attributes of the innermost element, and what is still to come
-  pub record Stands (st : List ℕ) (here : Here) (below : List Level) (ats : Attrs) (es : List Event) : Type 0 where
-    pub room : length st ≡ 80
+  pub record Stands (st : List Level) (here : Here) (below : List Level) (ats : Attrs) (es : List Event) : Type 0 where
+    pub room : length st ≡ 16
     pub around : levels st here.depth ≡ below
     pub placed : Placed t pool sd here.level
     pub nested : Nested here.level.row below
@@ -65,72 +65,56 @@ module _ (T : Speller) (t pool s : List ℕ) (sd : Sound t pool) where
   abbrev pub hands : Here → List Level → Attrs → List Event → List (ℕ × Option T.A)
   hands here below ats es = emits T list (at here.level below ats []) es
 
-  module _ (here : Here) (below : List Level) (ats : Attrs) (es : List Event) (st : List ℕ) (turn : Turn) where
-    -- a violation, and it is the first from here on
-    pub record Refuses : Type 0 where
-      pub answer : Answer
-      pub met : turn.met ≡ Refused answer
-      pub found : finds here below ats es ≡ Violation answer
-
-    -- an element that goes on
-    pub record Enters : Type 0 where
-      pub met : turn.met ≡ Opened
+  module _ (here : Here) (below : List Level) (ats : Attrs) (es : List Event) (st : List Level) where
+    -- an element that goes on, in which the walk stands then
+    pub record Enters (to : Here) : Type 0 where
       pub attrs : Attrs
       pub rest : List Event
-      pub stands : Stands st turn.here (advance list here.level turn.here.level.row ∷ below) attrs rest
-      pub found : finds here below ats es ≡ finds turn.here (advance list here.level turn.here.level.row ∷ below) attrs rest
+      pub stands : Stands st to (advance list here.level to.level.row ∷ below) attrs rest
+      pub found : finds here below ats es ≡ finds to (advance list here.level to.level.row ∷ below) attrs rest
       pub handed : hands here below ats es
-          ≡ opens T list (kind_of list turn.here.level.row) turn.here.level.row
-          ++ hands turn.here (advance list here.level turn.here.level.row ∷ below) attrs rest
-      pub on : here.at < turn.here.at
+          ≡ opens T list (kind_of list to.level.row) to.level.row
+          ++ hands to (advance list here.level to.level.row ∷ below) attrs rest
+      pub on : here.at < to.at
 
-    -- the end of an element within another: of a leaf its characters are still to be judged
-    pub record Leaves : Type 0 where
-      pub met : turn.met ≡ Closed
-      pub deep : 0 < here.depth
-      pub text : here.at ≤ turn.less
-      pub inside : turn.less ≤ length s
+    -- the end of an element within another, in which the walk stands then: of a leaf its characters are still to be judged
+    pub record Leaves (to : Here) (less : ℕ) : Type 0 where
+      pub text : here.at ≤ less
+      pub inside : less ≤ length s
       pub chars : List ℕ
-      pub spelt : Spells (slice here.at turn.less s) chars
+      pub spelt : Spells (slice here.at less s) chars
       pub outer : List Level
-      pub is : below ≡ turn.here.level ∷ outer
+      pub is : below ≡ to.level ∷ outer
       pub rest : List Event
-      pub stands : Stands st turn.here outer [] rest
+      pub stands : Stands st to outer [] rest
       pub found : finds here below ats es
-          ≡ or_else (judged (judge_of T) (kind_of list here.level.row) here.level.row here.level.place ats chars) (finds turn.here outer [] rest)
+          ≡ or_else (judged (judge_of T) (kind_of list here.level.row) here.level.row here.level.place ats chars) (finds to outer [] rest)
       pub handed : hands here below ats es
-          ≡ closes T list (kind_of list here.level.row) here.level.row ats chars ++ hands turn.here outer [] rest
-      pub on : here.at < turn.here.at
+          ≡ closes T list (kind_of list here.level.row) here.level.row ats chars ++ hands to outer [] rest
+      pub on : here.at < to.at
 
     -- the end of the root
     pub record Ends : Type 0 where
-      pub met : turn.met ≡ Closed
-      pub root : here.depth ≡ 0
-      pub found : finds here below ats es ≡ Fine
+      pub root : here.level.row ≡ 1
+      pub found : finds here below ats es ≡ Ok tt
       pub handed : hands here below ats es ≡ []
 
-    -- one step from here did one of these; st is the stack after it
-    pub data Turned : Type 0 where
-      refused : Refuses → Turned
-      opened : Enters → Turned
-      closed : Leaves → Turned
-      whole : Ends → Turned
+    -- one step from here did one of these, the first being a violation that is the first from here on; st is the stack after it
+    pub data Turned (step : Stepped) : Type 0 where
+      refused : (a : Answer) → step ≡ Err a → finds here below ats es ≡ Err a → Turned step
+      opened : (to : Here) → step ≡ Ok (Opened to) → Enters to → Turned step
+      closed : (to : Here) (less : ℕ) → step ≡ Ok (Closed to less) → Leaves to less → Turned step
+      whole : step ≡ Ok Ended → Ends → Turned step
 
   -- ---- the beginning: the root's tag in the text of a tree
 
-  module _ (m : Tree) (turn : Turn) where
-    pub record Denied : Type 0 where
-      pub answer : Answer
-      pub met : turn.met ≡ Refused answer
-      pub found : run T list before (events (message_of m) []) ≡ Violation answer
-
-    pub record Starts : Type 0 where
-      pub met : turn.met ≡ Opened
+  module _ (m : Tree) where
+    pub record Starts (here : Here) : Type 0 where
       pub rest : List Event
-      pub stands : (st : List ℕ) → length st ≡ 80 → Stands st turn.here [] [] rest
-      pub found : run T list before (events (message_of m) []) ≡ finds turn.here [] [] rest
-      pub handed : emits T list before (events (message_of m) []) ≡ (1, Option.none) ∷ hands turn.here [] [] rest
+      pub stands : (st : List Level) → length st ≡ 16 → Stands st here [] [] rest
+      pub found : run T list before (events (message_of m) []) ≡ finds here [] [] rest
+      pub handed : emits T list before (events (message_of m) []) ≡ (1, Option.none) ∷ hands here [] [] rest
 
-    pub data Began : Type 0 where
-      denied : Denied → Began
-      starts : Starts → Began
+    pub data Began (tried : Rooted) : Type 0 where
+      denied : (a : Answer) → tried ≡ Err a → run T list before (events (message_of m) []) ≡ Err a → Began tried
+      starts : (here : Here) → tried ≡ Ok here → Starts here → Began tried

@@ -1,12 +1,12 @@
 -- One step over bytes and tables, from what the code's calls told. Assumes nothing.
+use Rattle.std.specs.Prelude.{Ok, Err}
 use mathlib.Core.Path.{◌≡◌, refl, sym, ◌∙◌, ap, ap₂, subst}
 use mathlib.Core.Bool.{Bool, true, false, cond}
 use mathlib.Core.List.{List}
-use mathlib.Core.Logic.{◌≢◌}
-use Prim.Native.Nat.{ℕ, zero, suc, ◌+◌, ◌-◌, ◌≤◌, ◌<◌, min}
+use Prim.Native.Nat.{ℕ, ◌+◌, ◌-◌, ◌≤◌, ◌<◌, min}
 use native.Mathlib.Nat.{min-eq_left}
-use lib.Dec.{eqb, ltb}
-use lib.ListN.{length, drop}
+use lib.Dec.{ltb}
+use lib.ListN.{drop}
 use lib.Seq.{slice}
 use borrow.Author.Tests.{eq-eqb, ne_eqb, lt-ltb, le-ltb}
 use Rattle.answer.specs.declared.Answer.{Answer}
@@ -14,7 +14,6 @@ use Rattle.answer.specs.Table as table
 use Rattle.text.specs.Bytes.{ascii, is_blank}
 use Rattle.text.specs.Lists.{span}
 use Rattle.list.specs.tables.Table.{cell}
-use Rattle.list.specs.mirror.Lookup.{child_along}
 use Rattle.value.specs.types.Code.{Ccy}
 use Rattle.value.specs.Judged.{Exactly}
 use Rattle.value.specs.mirror.Judges.{is_currency}
@@ -29,41 +28,12 @@ use Rattle.xml_tags.specs.mirror.Tokens.{ink_in}
 use Rattle.xml_tags.proofs.Tokens.{token_ahead}
 use Rattle.xml_tags.proofs.Steps.{token_later}
 use Rattle.file_walk.specs.declared.level.Level.{Level}
-use Rattle.file_walk.specs.declared.found.Found.{Found}
-use Rattle.file_walk.specs.declared.found.Found.TheVariants.{Fine, Violation}
+use Rattle.file_walk.specs.First.{Found}
 use Rattle.file_walk.specs.declared.step.Here.{Here}
-use Rattle.file_walk.specs.declared.step.Turn.{Turn}
-use Rattle.file_walk.specs.declared.step.Met.TheVariants.{Opened, Closed}
+use Rattle.file_walk.specs.declared.step.Turn.TheVariants.{Opened, Closed, Ended}
 use Rattle.list.specs.tables.Numbers.{is_group_in}
-use Rattle.file_walk.specs.mirror.Tables.{fresh_in, advance_in, opening_in, group_end_in, pushed}
-use Rattle.file_walk.specs.mirror.Stride.{named, own_in, ink_before, text_from, ink_from, end_in, refused_at, lost_at, outer, closed_by, closed_in, row_in, entered_by, entered_in, below_by, below_in, vacant_by, vacant_in, inner, number_of, met_in, left_in, ink_ahead, step_by, stack_by, step_in, stack_in}
-
--- ---- a kind by its number
-
-abbrev kind_at : ℕ → Kind
-kind_at zero = Open
-kind_at (suc zero) = Empty
-kind_at (suc (suc zero)) = Close
-kind_at (suc (suc (suc n))) = End
-
-kind_back : (k : Kind) → kind_at (number_of k) ≡ k
-unfolding number_of
-kind_back Open = refl
-kind_back Empty = refl
-kind_back Close = refl
-kind_back End = refl
-
--- no two have one number
-pub kind_by_lem : (k q : Kind) (n : ℕ) → n ≡ number_of k → n ≡ number_of q → k ≡ q
-kind_by_lem k q n e f = sym (kind_back k) ∙ ap kind_at (sym e ∙ f) ∙ kind_back q
-
--- a number that is none of the others'
-pub open_by : (k : Kind) (n : ℕ) → n ≡ number_of k → n ≢ 2 → n ≢ 3 → n ≢ 1 → k ≡ Open
-unfolding number_of
-open_by Open n e f g h = refl
-open_by Empty n e f g h = absurd (h e)
-open_by Close n e f g h = absurd (f e)
-open_by End n e f g h = absurd (g e)
+use Rattle.file_walk.specs.mirror.Tables.{fresh_in, advance_in, opening_in, pushed}
+use Rattle.file_walk.specs.mirror.Stride.{named, own_in, ink_before, text_from, ink_from, end_in, Stepped, outer, closed_by, closed_in, row_in, entered_by, entered_in, below_by, below_in, vacant_by, vacant_in, inner, met_in, left_in, ink_ahead, step_by, stack_by, step_in, stack_in}
 
 -- ---- attributes
 
@@ -71,46 +41,16 @@ open_by End n e f g h = absurd (g e)
 pub coin_told : {u cs : List ℕ} {r : Bool} → u ≡ cs → Exactly r (Ccy u) → r ≡ is_currency cs
 coin_told {u} {cs} {r} e h = exactly_one r (is_currency cs) (subst (λ (w : List ℕ). Exactly r (Ccy w)) e h) (currency_exactly cs)
 
-module _ (t s : List ℕ) (r count : ℕ) (a : Attribute) (k : ℕ) (e : k ≡ cell t r 2) where
-  pub own_none : (k ≡ 9 → ⊥) → eqb count 0 ≡ own_in t s r count a
-  unfolding own_in
-  own_none h = rw (ne_eqb (cell t r 2) 9 (λ z. h (e ∙ z)))
-
-  module _ (h : k ≡ 9) where
-    pub own_many : (count ≡ 1 → ⊥) → false ≡ own_in t s r count a
-    unfolding own_in
-    own_many f = rw (eq-eqb (cell t r 2) 9 (sym e ∙ h), ne_eqb count 1 f)
-
-    module _ (f : count ≡ 1) (x : Bool) (g : x ≡ named (ascii "Ccy") s a.name a.stop) where
-      pub own_name : x ≡ false → false ≡ own_in t s r count a
-      unfolding own_in
-      own_name i = rw (eq-eqb (cell t r 2) 9 (sym e ∙ h), eq-eqb count 1 f, sym g ∙ i)
-
-      pub own_value : (y : Bool) → x ≡ true → y ≡ is_currency (slice a.value a.quote s) → y ≡ own_in t s r count a
-      unfolding own_in
-      own_value y i j = rw (eq-eqb (cell t r 2) 9 (sym e ∙ h), eq-eqb count 1 f, sym g ∙ i) j
+-- of an amount with one attribute, of this name
+pub own_value : (t s : List ℕ) (r count : ℕ) (a : Attribute) (k : ℕ) → k ≡ cell t r 2 → k ≡ 9 → count ≡ 1 → (x : Bool) → x ≡ named (ascii "Ccy") s a.name a.stop
+    → (y : Bool) → x ≡ true → y ≡ is_currency (slice a.value a.quote s) → y ≡ own_in t s r count a
+unfolding own_in
+own_value t s r count a k e h f x g y i j = rw (eq-eqb (cell t r 2) 9 (sym e ∙ h), eq-eqb count 1 f, sym g ∙ i) j
 
 -- ---- a text
 
 pub group_is : (t : List ℕ) (row k : ℕ) (g : Bool) → k ≡ cell t row 2 → g ≡ is_group_in k → g ≡ is_group_in (cell t row 2)
 group_is t row k g e f = f ∙ ap is_group_in e
-
-module _ (g : Bool) (at : ℕ) where
-  pub from_group : (s : List ℕ) (i : ℕ) → g ≡ true → i ≡ at + span is_blank (drop at s) → i ≡ text_from s g at
-  unfolding text_from
-  from_group s i h j = rw h j
-
-  pub from_leaf : (s : List ℕ) → g ≡ false → at ≡ text_from s g at
-  unfolding text_from
-  from_leaf s h = rw h
-
-  pub ink_group : (less : ℕ) → g ≡ true → at ≡ ink_from g at less
-  unfolding ink_from
-  ink_group less h = rw h
-
-  pub ink_leaf : (less : ℕ) → g ≡ false → less ≡ ink_from g at less
-  unfolding ink_from
-  ink_leaf less h = rw h
 
 -- a text that is looked at from after its blanks: the tag after it, and its first ink
 module _ (s : List ℕ) (g : Bool) (at o : ℕ) (k : Token) (e : o ≡ text_from s g at) (is : k ≡ token_in s o) where
@@ -135,62 +75,36 @@ module _ (s : List ℕ) (g : Bool) (at o : ℕ) (k : Token) (e : o ≡ text_from
 
 -- ---- a closing tag
 
-module _ (t : List ℕ) (g : Bool) (lv : Level) (at less : ℕ) where
-  pub end_group : (v : Found) → g ≡ true → v ≡ group_end_in t lv → v ≡ end_in t g lv at less
-  unfolding end_in
-  end_group v h j = rw h j
-
-  pub end_empty : (a : Answer) → g ≡ false → less ≡ at → a ≡ table.empty lv.row lv.place → Violation a ≡ end_in t g lv at less
-  unfolding end_in
-  end_empty a h j f = rw (h, eq-eqb less at j) (ap Violation f)
-
-  pub end_some : g ≡ false → (less ≡ at → ⊥) → Fine ≡ end_in t g lv at less
-  unfolding end_in
-  end_some h j = rw (h, ne_eqb less at j)
-
-module _ (t : List ℕ) (g : Bool) (st : List ℕ) (here : Here) (less end : ℕ) (v : Found) (e : v ≡ end_in t g here.level here.at less) where
-  pub closed_refused : (a : Answer) (x : Turn) → v ≡ Violation a → x ≡ refused_at here a → x ≡ closed_in t g st here less end
+module _ (t : List ℕ) (g : Bool) (st : List Level) (here : Here) (less end : ℕ) (v : Found) (e : v ≡ end_in t g here.level here.at less) where
+  pub closed_refused : (a : Answer) → v ≡ Err a → Err a ≡ closed_in t g st here less end
   unfolding closed_in
-  closed_refused a x h f = f ∙ ap (closed_by st here less end) (sym h ∙ e)
+  closed_refused a h = ap (closed_by st here less end) (sym h ∙ e)
 
-  module _ (h : v ≡ Fine) where
-    well : closed_by st here less end Fine ≡ closed_in t g st here less end
+  module _ (h : v ≡ Ok tt) where
+    well : closed_by st here less end (Ok tt) ≡ closed_in t g st here less end
     unfolding closed_in
     well = ap (closed_by st here less end) (sym h ∙ e)
 
-    pub closed_root : here.depth ≡ 0 → record { met = Closed; here = here; less = less } ≡ closed_in t g st here less end
+    pub closed_root : here.depth ≡ 0 → Ok Ended ≡ closed_in t g st here less end
     closed_root f = rw (eq-eqb here.depth 0 f) at well
 
     module _ (f : here.depth ≡ 0 → ⊥) where
-      pub closed_deep : (x : Turn) → 16 < here.depth → x ≡ lost_at here less → x ≡ closed_in t g st here less end
-      closed_deep x i j = j ∙ rw (ne_eqb here.depth 0 f, lt-ltb 16 here.depth i) at well
-
-      pub closed_outer : (o : Here) → here.depth ≤ 16 → o ≡ outer st (here.depth - 1) end → record { met = Closed; here = o; less = less } ≡ closed_in t g st here less end
-      closed_outer o i j =
-          ap (λ (z : Here). record { met = Closed; here = z; less = less }) j ∙ rw (ne_eqb here.depth 0 f, le-ltb 16 here.depth i) at well
+      pub closed_outer : (o : Here) → here.depth ≤ 16 → o ≡ outer st (here.depth - 1) end → Ok (Closed o less) ≡ closed_in t g st here less end
+      closed_outer o i j = ap (λ (z : Here). Ok (Closed z less)) j ∙ rw (ne_eqb here.depth 0 f, le-ltb 16 here.depth i) at well
 
 -- ---- an opening tag
 
-module _ (t pool s : List ℕ) (lv : Level) (less stop : ℕ) where
-  pub row_inside : (r : ℕ) → less < length s → r ≡ child_along t pool lv.row lv.last (slice (less + 1) stop s) → r ≡ row_in t pool s lv less stop
-  unfolding row_in
-  row_inside r h e = rw (lt-ltb less (length s) h) e
-
-  pub row_outside : length s ≤ less → 0 ≡ row_in t pool s lv less stop
-  unfolding row_in
-  row_outside h = rw (le-ltb less (length s) h)
-
 module _ (t : List ℕ) (here : Here) (r : ℕ) (ok : Bool) (less : ℕ) (v : Found) (e : v ≡ opening_in t here.level r ok less) where
-  pub vacant_refused : (b : Answer) (x : Turn) → v ≡ Violation b → x ≡ refused_at here b → x ≡ vacant_in t here r ok less
+  pub vacant_refused : (b : Answer) → v ≡ Err b → b ≡ vacant_in t here r ok less
   unfolding vacant_in
-  vacant_refused b x h f = f ∙ ap (vacant_by here r less) (sym h ∙ e)
+  vacant_refused b h = ap (vacant_by r less) (sym h ∙ e)
 
-  pub vacant_on : (b : Answer) (x : Turn) → v ≡ Fine → b ≡ table.empty r less → x ≡ refused_at here b → x ≡ vacant_in t here r ok less
+  pub vacant_on : (b : Answer) → v ≡ Ok tt → b ≡ table.empty r less → b ≡ vacant_in t here r ok less
   unfolding vacant_in
-  vacant_on b x h g f = f ∙ ap (refused_at here) g ∙ ap (vacant_by here r less) (sym h ∙ e)
+  vacant_on b h g = g ∙ ap (vacant_by r less) (sym h ∙ e)
 
-  module _ (st : List ℕ) (end : ℕ) (a : Attribute) where
-    abbrev Enters : Turn → List ℕ → Type 0
+  module _ (st : List Level) (end : ℕ) (a : Attribute) where
+    abbrev Enters : Stepped → List Level → Type 0
     Enters x below = (x ≡ entered_in t here r ok less end a) × (below ≡ below_in t st here r ok less)
 
     -- by what was found
@@ -198,34 +112,31 @@ module _ (t : List ℕ) (here : Here) (r : ℕ) (ok : Bool) (less : ℕ) (v : Fo
     unfolding entered_in below_in
     entered w h = (ap (entered_by t here r less end a) (sym h ∙ e), ap (below_by t st here r) (sym h ∙ e))
 
-    pub entered_refused : (b : Answer) (x : Turn) → v ≡ Violation b → x ≡ refused_at here b → Enters x st
-    entered_refused b x h f = let w = entered (Violation b) h in (f ∙ w.0, w.1)
+    pub entered_refused : (b : Answer) → v ≡ Err b → Enters (Err b) st
+    entered_refused b h = entered (Err b) h
 
-    module _ (h : v ≡ Fine) where
-      pub entered_deep : (x : Turn) → 15 < here.depth → x ≡ lost_at here less → Enters x st
-      entered_deep x g f = let w = rw (lt-ltb 15 here.depth g) at (entered Fine h) in (f ∙ w.0, w.1)
+    module _ (h : v ≡ Ok tt) where
+      goes_in : here.depth ≤ 15 → Enters (Ok (Opened (inner t here r less end a))) (pushed st here.depth (advance_in t here.level r))
+      goes_in g = rw (le-ltb 15 here.depth g) at (entered (Ok tt) h)
 
-      goes_in : here.depth ≤ 15 → Enters (record { met = Opened; here = inner t here r less end a; less = less }) (pushed st here.depth (advance_in t here.level r))
-      goes_in g = rw (le-ltb 15 here.depth g) at (entered Fine h)
-
-      pub entered_on : (lv around : Level) (below : List ℕ) → here.depth ≤ 15 → lv ≡ fresh_in t r less → around ≡ advance_in t here.level r → below ≡ pushed st here.depth around
-          → Enters (record { met = Opened; here = record { level = lv; depth = here.depth + 1; at = end; value = a.value; quote = a.quote }; less = less }) below
+      pub entered_on : (lv around : Level) (below : List Level) → here.depth ≤ 15 → lv ≡ fresh_in t r less → around ≡ advance_in t here.level r → below ≡ pushed st here.depth around
+          → Enters (Ok (Opened (record { level = lv; depth = here.depth + 1; at = end; value = a.value; quote = a.quote }))) below
       entered_on lv around below g f i j =
           let w = goes_in g in (
-            ap (λ (x : Level). record { met = Opened; here = record { level = x; depth = here.depth + 1; at = end; value = a.value; quote = a.quote }; less = less }) f ∙ w.0,
+            ap (λ (x : Level). Ok (Opened (record { level = x; depth = here.depth + 1; at = end; value = a.value; quote = a.quote }))) f ∙ w.0,
             j ∙ ap (pushed st here.depth) i ∙ w.1,
           )
 
 -- ---- one step
 
-module _ (t pool s st : List ℕ) (here : Here) (k : Token) (i : ℕ) (e : i ≡ ink_ahead t pool s st here k) where
-  pub by_ink : (a : Answer) (x : Turn) → i < k.less → a ≡ table.text_in_group here.level.row i → x ≡ refused_at here a → (x ≡ step_by t pool s st here k) × (st ≡ stack_by t pool s st here k)
+module _ (t pool s : List ℕ) (st : List Level) (here : Here) (k : Token) (i : ℕ) (e : i ≡ ink_ahead t pool s st here k) where
+  pub by_ink : (a : Answer) → i < k.less → a ≡ table.text_in_group here.level.row i → (Err a ≡ step_by t pool s st here k) × (st ≡ stack_by t pool s st here k)
   unfolding step_by stack_by
-  by_ink a x h g f =
+  by_ink a h g =
       let z : ltb (ink_ahead t pool s st here k) k.less ≡ true = ap (λ n. ltb n k.less) (sym e) ∙ lt-ltb i k.less h in
-      (rw z (f ∙ ap (refused_at here) (g ∙ ap (table.text_in_group here.level.row) e)), rw z)
+      (rw z (ap Err (g ∙ ap (table.text_in_group here.level.row) e)), rw z)
 
-  pub by_kind : (kind : Kind) → k.less ≤ i → k.kind ≡ kind → (x : Turn) (below : List ℕ) → x ≡ met_in t pool s st here kind k → below ≡ left_in t pool s st here kind k
+  pub by_kind : (kind : Kind) → k.less ≤ i → k.kind ≡ kind → (x : Stepped) (below : List Level) → x ≡ met_in t pool s st here kind k → below ≡ left_in t pool s st here kind k
       → (x ≡ step_by t pool s st here k) × (below ≡ stack_by t pool s st here k)
   unfolding step_by stack_by
   by_kind kind h f x below g j =
@@ -233,30 +144,30 @@ module _ (t pool s st : List ℕ) (here : Here) (k : Token) (i : ℕ) (e : i ≡
       (rw z (g ∙ ap (λ y. met_in t pool s st here y k) (sym f)), rw z (j ∙ ap (λ y. left_in t pool s st here y k) (sym f)))
 
 -- the token is the one after here
-module _ (t pool s st : List ℕ) (here : Here) (k : Token) (is : k ≡ token_in s here.at) (i : ℕ) (e : i ≡ ink_before t s here.level.row here.at k.less) where
-  abbrev pub Steps : Turn → List ℕ → Type 0
+module _ (t pool s : List ℕ) (st : List Level) (here : Here) (k : Token) (is : k ≡ token_in s here.at) (i : ℕ) (e : i ≡ ink_before t s here.level.row here.at k.less) where
+  abbrev pub Steps : Stepped → List Level → Type 0
   Steps x below = (x ≡ step_in t pool s st here) × (below ≡ stack_in t pool s st here)
 
-  told : (x : Turn) (below : List ℕ) → (x ≡ step_by t pool s st here k) × (below ≡ stack_by t pool s st here k) → Steps x below
+  told : (x : Stepped) (below : List Level) → (x ≡ step_by t pool s st here k) × (below ≡ stack_by t pool s st here k) → Steps x below
   told x below w = (w.0 ∙ ap (step_by t pool s st here) is, w.1 ∙ ap (stack_by t pool s st here) is)
 
-  pub step_ink : (a : Answer) (x : Turn) → i < k.less → a ≡ table.text_in_group here.level.row i → x ≡ refused_at here a → Steps x st
-  step_ink a x h g f = told x st (by_ink t pool s st here k i e a x h g f)
+  pub step_ink : (a : Answer) → i < k.less → a ≡ table.text_in_group here.level.row i → Steps (Err a) st
+  step_ink a h g = told (Err a) st (by_ink t pool s st here k i e a h g)
 
   module _ (h : k.less ≤ i) where
-    pub step_close : (x : Turn) (g : Bool) → k.kind ≡ Close → g ≡ is_group_in (cell t here.level.row 2) → x ≡ closed_in t g st here k.less k.end → Steps x st
+    pub step_close : (x : Stepped) (g : Bool) → k.kind ≡ Close → g ≡ is_group_in (cell t here.level.row 2) → x ≡ closed_in t g st here k.less k.end → Steps x st
     step_close x g f j c = told x st (by_kind t pool s st here k i e Close h f x st (c ∙ ap (λ (b : Bool). closed_in t b st here k.less k.end) j) refl)
 
-    pub step_end : (x : Turn) → k.kind ≡ End → x ≡ lost_at here k.less → Steps x st
-    step_end x f g = told x st (by_kind t pool s st here k i e End h f x st g refl)
+    pub step_end : (a : Answer) → k.kind ≡ End → a ≡ table.not_house_xml k.less → Steps (Err a) st
+    step_end a f g = told (Err a) st (by_kind t pool s st here k i e End h f (Err a) st (ap Err g) refl)
 
     module _ (r : ℕ) (ok : Bool) (row : r ≡ row_in t pool s here.level k.less k.stop) (own : ok ≡ own_in t s r k.attributes k.first) where
       own_row : ok ≡ own_in t s (row_in t pool s here.level k.less k.stop) k.attributes k.first
       own_row = own ∙ ap (λ q. own_in t s q k.attributes k.first) row
 
-      pub step_open : (x : Turn) (below : List ℕ) → k.kind ≡ Open → x ≡ entered_in t here r ok k.less k.end k.first → below ≡ below_in t st here r ok k.less → Steps x below
+      pub step_open : (x : Stepped) (below : List Level) → k.kind ≡ Open → x ≡ entered_in t here r ok k.less k.end k.first → below ≡ below_in t st here r ok k.less → Steps x below
       step_open x below f g j = told x below (by_kind t pool s st here k i e Open h f x below
           (g ∙ ap₂ (λ q b. entered_in t here q b k.less k.end k.first) row own_row) (j ∙ ap₂ (λ q b. below_in t st here q b k.less) row own_row))
 
-      pub step_empty : (x : Turn) → k.kind ≡ Empty → x ≡ vacant_in t here r ok k.less → Steps x st
-      step_empty x f g = told x st (by_kind t pool s st here k i e Empty h f x st (g ∙ ap₂ (λ q b. vacant_in t here q b k.less) row own_row) refl)
+      pub step_empty : (a : Answer) → k.kind ≡ Empty → a ≡ vacant_in t here r ok k.less → Steps (Err a) st
+      step_empty a f g = told (Err a) st (by_kind t pool s st here k i e Empty h f (Err a) st (ap Err (g ∙ ap₂ (λ q b. vacant_in t here q b k.less) row own_row)) refl)

@@ -1,4 +1,5 @@
 -- The walk over a whole text at once, and over an element without content. Assumes nothing.
+use Rattle.std.specs.Prelude.{Err}
 use mathlib.Core.Path.{◌≡◌, refl, ◌∙◌, ap}
 use mathlib.Core.Bool.{Bool, true, false, cond, ◌&&◌, not}
 use mathlib.Core.List.{List, [], ◌∷◌, ◌++◌, append_assoc, append-nil}
@@ -15,7 +16,6 @@ use Rattle.list.specs.Listing.{Kind, group, choice, leaf, Listing, is_group}
 use Rattle.xml.specs.Message.{Attrs}
 use Rattle.xml_tags.specs.Story.{Event, chars, ink_of}
 use Rattle.file_walk.specs.declared.level.Level.{Level}
-use Rattle.file_walk.specs.declared.found.Found.TheVariants.{Violation}
 use Rattle.file_walk.specs.First.{refuse, or_else, kind_of}
 use Rattle.file_walk.specs.mirror.Machine.{Speller, at, fresh, close_test, run, emits}
 
@@ -40,16 +40,16 @@ module _ (T : Speller) (l : Listing) (lv : Level) (below : List Level) (ats : At
   -- in a group the first that is no blank is found
   pub group_chars : (ps : List Piece) (o : ℕ) (cs : List ℕ) (more : List Event) → is_group (kind_of l lv.row) ≡ true
       → run T l (at lv below ats cs) (chars o ps more)
-      ≡ cond (ltb (ink_of o ps) (o + length (spells ps))) (Violation (table.text_in_group lv.row (ink_of o ps))) (run T l (at lv below ats cs) more)
+      ≡ cond (ltb (ink_of o ps) (o + length (spells ps))) (Err (table.text_in_group lv.row (ink_of o ps))) (run T l (at lv below ats cs) more)
   unfolding run
   group_chars [] o cs more g = rw (le-ltb o (o + 0) (omega arith))
   group_chars (p ∷ ps) o cs more g = go (is_blank (resolved p)) refl (group_chars ps (o + length (spell p)) cs more g)
     where
       go : (b : Bool) → is_blank (resolved p) ≡ b
           → run T l (at lv below ats cs) (chars (o + length (spell p)) ps more)
-          ≡ cond (ltb (ink_of (o + length (spell p)) ps) (o + length (spell p) + length (spells ps))) (Violation (table.text_in_group lv.row (ink_of (o + length (spell p)) ps))) (run T l (at lv below ats cs) more)
+          ≡ cond (ltb (ink_of (o + length (spell p)) ps) (o + length (spell p) + length (spells ps))) (Err (table.text_in_group lv.row (ink_of (o + length (spell p)) ps))) (run T l (at lv below ats cs) more)
           → or_else (refuse (is_group (kind_of l lv.row) && not (is_blank (resolved p))) (table.text_in_group lv.row o)) (run T l (at lv below ats (cond (is_group (kind_of l lv.row)) cs (cs ++ (resolved p ∷ [])))) (chars (o + length (spell p)) ps more))
-          ≡ cond (ltb (cond (is_blank (resolved p)) (ink_of (o + length (spell p)) ps) o) (o + length (spell p ++ spells ps))) (Violation (table.text_in_group lv.row (cond (is_blank (resolved p)) (ink_of (o + length (spell p)) ps) o))) (run T l (at lv below ats cs) more)
+          ≡ cond (ltb (cond (is_blank (resolved p)) (ink_of (o + length (spell p)) ps) o) (o + length (spell p ++ spells ps))) (Err (table.text_in_group lv.row (cond (is_blank (resolved p)) (ink_of (o + length (spell p)) ps) o))) (run T l (at lv below ats cs) more)
       go true e ih =
           let z : o + length (spell p ++ spells ps) ≡ o + length (spell p) + length (spells ps) = omega (arith, length-append (spell p) (spells ps)) in
           rw (g, e, z) ih
@@ -64,7 +64,7 @@ module _ (T : Speller) (l : Listing) (lv : Level) (below : List Level) (ats : At
   group_hands (p ∷ ps) o cs more g = rw g (group_hands ps (o + length (spell p)) cs more g)
 
 -- an element that closes at once has no child or no character
-pub closes_empty : (T : Speller) (l : Listing) (k : Kind) (r o : ℕ) (ats : Attrs) → close_test T l k (fresh l r o) ats [] ≡ Violation (table.empty r o)
+pub closes_empty : (T : Speller) (l : Listing) (k : Kind) (r o : ℕ) (ats : Attrs) → close_test T l k (fresh l r o) ats [] ≡ Err (table.empty r o)
 unfolding fresh
 closes_empty T l group r o ats = refl
 closes_empty T l choice r o ats = refl

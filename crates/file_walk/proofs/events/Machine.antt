@@ -1,4 +1,5 @@
--- The walk with five numbers for each open element finds the first violation. Assumes nothing.
+-- The walk with a level for each open element finds the first violation. Assumes nothing.
+use Rattle.std.specs.Prelude.{Ok}
 use mathlib.Core.Path.{◌≡◌, refl, sym, ◌∙◌, ap, subst}
 use mathlib.Core.Logic.{inl, inr}
 use mathlib.Core.Bool.{Bool, true, false, cond, ◌&&◌, ◌||◌, not, true≢false, false≢true}
@@ -19,10 +20,8 @@ use Rattle.list.proofs.rows.Words.{first_from_ext, times_hit, times_miss, has_of
 use Rattle.xml.specs.Message.{Attrs, Inside, nothing_inside, character, element}
 use Rattle.xml_tags.specs.Story.{Event, leave, events}
 use Rattle.file_walk.specs.declared.level.Level.{Level}
-use Rattle.file_walk.specs.declared.found.Found.{Found}
-use Rattle.file_walk.specs.declared.found.Found.TheVariants.{Fine}
 use Rattle.file_walk.specs.Types.{Judge}
-use Rattle.file_walk.specs.First.{refuse, or_else, first_of, is_empty, passed, breaks, text_of, attrs_ok, kind_of, is_root, absent_row, child_rows, opening, closing, inside, first_violation}
+use Rattle.file_walk.specs.First.{Found, refuse, or_else, first_of, is_empty, passed, breaks, text_of, attrs_ok, kind_of, is_root, absent_row, child_rows, opening, closing, inside, first_violation}
 use Rattle.file_walk.specs.Denotes.{OneElement}
 use Rattle.file_walk.specs.mirror.Machine.{Speller, judge_of, at, pop, fresh, advance, again, open_test, close_test, run, walk, misses}
 use Rattle.file_walk.proofs.violation.Answers.{or_right, or_when, or_assoc, refuse_no, passed_no, no_passed, group_attrs, kinds}
@@ -37,8 +36,8 @@ use Rattle.file_walk.proofs.violation.Due.{due_start, due_step}
 -- four answers in a row, then another
 regroup : (a b c d x : Found) → or_else (first_of (a ∷ b ∷ c ∷ d ∷ [])) x ≡ or_else a (or_else b (or_else c (or_else d x)))
 regroup a b c d x =
-    or_assoc a (or_else b (or_else c (or_else d Fine))) x
-    ∙ ap (or_else a) (or_assoc b (or_else c (or_else d Fine)) x ∙ ap (or_else b) (or_assoc c (or_else d Fine) x ∙ ap (or_else c) (or_assoc d Fine x)))
+    or_assoc a (or_else b (or_else c (or_else d (Ok tt)))) x
+    ∙ ap (or_else a) (or_assoc b (or_else c (or_else d (Ok tt))) x ∙ ap (or_else b) (or_assoc c (or_else d (Ok tt)) x ∙ ap (or_else c) (or_assoc d (Ok tt) x)))
 
 -- ---- the closing tests ask how often, not in which order
 
@@ -116,7 +115,7 @@ module _ (T : Speller) (l : Listing) where
   open_same kp kr p last r o seen ats c a e =
       rw (e, passed_latest r seen a)
       (or_when (refuse (eqb r 0) (table.not_a_child p o)) _ _ (λ z. or_when (refuse (not (is_choice kp) && passed r seen) (table.out_of_order r o)) _ _ (λ y.
-      ap (λ b. or_else (refuse b (table.too_many r o)) (or_else (refuse (not (attrs_ok j kr ats)) (table.wrong_attributes r o)) Fine)) (over_latest kp p r seen (pos (refuse_no (eqb r 0) (table.not_a_child p o) z)) c a (refuse_no (not (is_choice kp) && passed r seen) (table.out_of_order r o) y)))))
+      ap (λ b. or_else (refuse b (table.too_many r o)) (or_else (refuse (not (attrs_ok j kr ats)) (table.wrong_attributes r o)) (Ok tt))) (over_latest kp p r seen (pos (refuse_no (eqb r 0) (table.not_a_child p o) z)) c a (refuse_no (not (is_choice kp) && passed r seen) (table.out_of_order r o) y)))))
     where
       pos : eqb r 0 ≡ false → 0 < r
       pos z = elim (dec_lt 0 r) [ yes h ↦ h | no h ↦ absurd (eqb-false r 0 z (omega arith)) ]
@@ -240,7 +239,7 @@ module _ (T : Speller) (l : Listing) where
         let u = inside j l lv.row seen k in
         let v = or_else (closing j l (kind_of l lv.row) lv.row lv.place [] (child_rows l lv.row k ++ seen) []) (run T l (pop below) rest) in
         ap (λ b. or_else f (run T l (at lv below [] (cond b [] (x ∷ []))) (events k (leave ∷ rest)))) g
-        ∙ ap (or_else f) ih ∙ sym (or_assoc f (or_else u Fine) v ∙ ap (or_else f) (or_assoc u Fine v))
+        ∙ ap (or_else f) ih ∙ sym (or_assoc f (or_else u (Ok tt)) v ∙ ap (or_else f) (or_assoc u (Ok tt) v))
     group_run (element o n ats i k) lv below seen rest s g =
         let p = lv.row in
         let r = child l p n in
@@ -270,4 +269,4 @@ module _ (T : Speller) (l : Listing) where
         let e : closing j l (kind_of l 1) 1 o [] (c ++ []) [] ≡ closing j l (kind_of l 1) 1 o ats c (text_of i) =
         ap (λ z. closing j l (kind_of l 1) 1 o [] z []) (append-nil c) ∙ closing_group (kind_of l 1) 1 o [] ats c [] (text_of i) g in
         ap (λ x. or_else (refuse (not (is_root l n ats)) (table.wrong_root o)) (run T l (at (fresh l 1 o) [] [] []) (events i (leave ∷ events x [])))) one
-        ∙ ap (or_else (refuse (not (is_root l n ats)) (table.wrong_root o))) (group_run i (fresh l 1 o) [] [] [] (stands_fresh 1 o) g ∙ ap (λ x. or_else (inside j l 1 [] i) (or_else x Fine)) e)
+        ∙ ap (or_else (refuse (not (is_root l n ats)) (table.wrong_root o))) (group_run i (fresh l 1 o) [] [] [] (stands_fresh 1 o) g ∙ ap (λ x. or_else (inside j l 1 [] i) (or_else x (Ok tt))) e)

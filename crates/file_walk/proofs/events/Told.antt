@@ -1,4 +1,5 @@
 -- What is told after a place of a text, by the token there, and how events run on. Assumes nothing.
+use Rattle.std.specs.Prelude.{Ok}
 use mathlib.Core.Path.{◌≡◌, refl, sym, ◌∙◌, ap}
 use mathlib.Core.Logic.{◌≢◌}
 use mathlib.Core.List.{List, [], ◌∷◌}
@@ -11,7 +12,6 @@ use Rattle.xml.specs.Message.{Attrs, Inside, nothing_inside, character, element}
 use Rattle.xml_tags.specs.declared.token.Kind.{Kind as Mark}
 use Rattle.xml_tags.specs.declared.token.Kind.TheVariants.{Open, Empty, Close, End}
 use Rattle.xml_tags.specs.Story.{Event, enter, leave, events, chars, Text, token_in, Tagged, Tells, enters, passes, leaves, ends}
-use Rattle.file_walk.specs.declared.found.Found.TheVariants.{Fine}
 use Rattle.file_walk.specs.mirror.Machine.{Speller, before, after, run, emits}
 use Rattle.file_walk.proofs.bytes.Stands.{Closing}
 
@@ -56,7 +56,7 @@ closing_events (element o m ats i k) n more h = closing_events i (suc n) (leave 
 
 module _ (T : Speller) (l : Listing) where
   -- after the root nothing is found or handed out
-  pub run_after : (es : List Event) → run T l after es ≡ Fine
+  pub run_after : (es : List Event) → run T l after es ≡ Ok tt
   unfolding run
   run_after [] = refl
   run_after (e ∷ es) = run_after es

@@ -1,4 +1,5 @@
 -- A message has no violation exactly when it has a content that meets the list; and it has one content. Assumes nothing.
+use Rattle.std.specs.Prelude.{Ok}
 use mathlib.Core.Path.{◌≡◌, refl, sym, ◌∙◌, ap, ap₂, subst}
 use mathlib.Core.Bool.{true, false, ◌&&◌, not, and-false, true≢false, false≢true}
 use mathlib.Core.List.{List, [], ◌∷◌}
@@ -13,10 +14,8 @@ use Rattle.list.specs.Listing.{Leaf, Kind, group, choice, leaf, Listing, row_at,
 use Rattle.list.specs.WellFormed.{LeafOk, KindOk, WellFormed}
 use Rattle.list.specs.Content.{Content, end, value, node, rows, ValueOf, Good, Meets}
 use Rattle.xml.specs.Message.{Attrs, Inside, nothing_inside, character, element}
-use Rattle.file_walk.specs.declared.found.Found.{Found}
-use Rattle.file_walk.specs.declared.found.Found.TheVariants.{Fine}
 use Rattle.file_walk.specs.Types.{Types, Judge, Decides, Spelling}
-use Rattle.file_walk.specs.First.{First, refuse, first_of, is_empty, text_of, currency_given, attrs_ok, kind_of, is_root, child_rows, opening, leaf_end, closing, inside, first_violation}
+use Rattle.file_walk.specs.First.{Found, First, refuse, first_of, is_empty, text_of, currency_given, attrs_ok, kind_of, is_root, child_rows, opening, leaf_end, closing, inside, first_violation}
 use Rattle.file_walk.specs.Denotes.{OneElement, Denotes, Has}
 use Rattle.list.proofs.sound.Tests.{clash}
 use Rattle.file_walk.proofs.violation.Answers.{or_fine, refuse_no, group_attrs, attrs_group, kinds}
@@ -27,18 +26,18 @@ use Rattle.file_walk.proofs.violation.Tests.{no_child}
 use Rattle.file_walk.proofs.violation.Steps.{Fits, Steps}
 use Rattle.file_walk.proofs.violation.Tests.{Opened, opened, opens, closed, closes}
 
-first_of4 : (a b c d : Found) → a ≡ Fine → b ≡ Fine → c ≡ Fine → d ≡ Fine → first_of (a ∷ b ∷ c ∷ d ∷ []) ≡ Fine
+first_of4 : (a b c d : Found) → a ≡ Ok tt → b ≡ Ok tt → c ≡ Ok tt → d ≡ Ok tt → first_of (a ∷ b ∷ c ∷ d ∷ []) ≡ Ok tt
 first_of4 a b c d ha hb hc hd = rw (ha, hb, hc, hd)
 
 module _ (t : Types) (y : Spelling t) (j : Judge) (d : Decides t j) (l : Listing) (w : WellFormed l) where
   -- ---- from no violation to a content
 
   -- in a leaf there are characters only
-  leaf_plain : (i : Inside) (p : ℕ) (seen : List ℕ) (f : Leaf) → 0 < p → kind_of l p ≡ leaf f → inside j l p seen i ≡ Fine → plain i ≡ true
+  leaf_plain : (i : Inside) (p : ℕ) (seen : List ℕ) (f : Leaf) → 0 < p → kind_of l p ≡ leaf f → inside j l p seen i ≡ Ok tt → plain i ≡ true
   unfolding inside
   leaf_plain nothing_inside p seen f h e z = refl
   leaf_plain (character o x k) p seen f h e z =
-      leaf_plain k p seen f h e (or_fine (inside j l p seen k) Fine (or_fine (refuse (is_group (kind_of l p) && not (is_blank x)) (table.text_in_group p o)) _ z).1).0
+      leaf_plain k p seen f h e (or_fine (inside j l p seen k) (Ok tt) (or_fine (refuse (is_group (kind_of l p) && not (is_blank x)) (table.text_in_group p o)) _ z).1).0
   leaf_plain (element o n ats i k) p seen f h e z =
       let a = or_fine (refuse (eqb (child l p n) 0) (table.not_a_child p o)) _ (or_fine (opening j l p seen (child l p n) ats o) _ z).0 in
       clash (eqb (child l p n) 0) (eq-eqb (child l p n) 0 (no_child l p n w f h e)) (refuse_no (eqb (child l p n) 0) (table.not_a_child p o) a.0)
@@ -67,11 +66,11 @@ module _ (t : Types) (y : Spelling t) (j : Judge) (d : Decides t j) (l : Listing
     abbrev shut : Found
     shut = closing j l (kind_of l (child l p n)) (child l p n) o ats (child_rows l (child l p n) i) (text_of i)
 
-    as_node : is_group (kind_of l (child l p n)) ≡ true → Clean (child l p n) [] i → shut ≡ Fine → Clean p seen (element o n ats i k)
+    as_node : is_group (kind_of l (child l p n)) ≡ true → Clean (child l p n) [] i → shut ≡ Ok tt → Clean p seen (element o n ats i k)
     unfolding child_rows
     as_node g f z =
         let r = child l p n in
-        let y = closed j l w (kind_of l r) r o ats (rows f.content) (text_of i) g refl f.steps f.theirs (subst (λ rs. closing j l (kind_of l r) r o ats rs (text_of i) ≡ Fine) f.rowed z) in
+        let y = closed j l w (kind_of l r) r o ats (rows f.content) (text_of i) g refl f.steps f.theirs (subst (λ rs. closing j l (kind_of l r) r o ats rs (text_of i) ≡ Ok tt) f.rowed z) in
         record {
           content = node (child l p n) f.content after.content;
           denotes = ((c, nm), (g, group_attrs j (kind_of l (child l p n)) ats g op.attrs), f.denotes, after.denotes);
@@ -81,13 +80,13 @@ module _ (t : Types) (y : Spelling t) (j : Judge) (d : Decides t j) (l : Listing
           rowed = ap (λ rs. child l p n ∷ rs) after.rowed;
         }
 
-    as_value : (f : Leaf) → kind_of l (child l p n) ≡ leaf f → plain i ≡ true → shut ≡ Fine → Clean p seen (element o n ats i k)
+    as_value : (f : Leaf) → kind_of l (child l p n) ≡ leaf f → plain i ≡ true → shut ≡ Ok tt → Clean p seen (element o n ats i k)
     unfolding child_rows
     as_value f e y z =
         let r = child l p n in
-        let z' : leaf_end j l f r o ats (text_of i) ≡ Fine = subst (λ q. closing j l q r o ats (child_rows l r i) (text_of i) ≡ Fine) e z in
+        let z' : leaf_end j l f r o ats (text_of i) ≡ Ok tt = subst (λ q. closing j l q r o ats (child_rows l r i) (text_of i) ≡ Ok tt) e z in
         let b = j.value f (currency_given ats) (text_of i) in
-        let a = or_fine (refuse (not b) (table.bad_value r o)) Fine (or_fine (refuse (is_empty (text_of i)) (table.empty r o)) _ z').1 in
+        let a = or_fine (refuse (not b) (table.bad_value r o)) (Ok tt) (or_fine (refuse (is_empty (text_of i)) (table.empty r o)) _ z').1 in
         let v = (d.value f (currency_given ats) (text_of i)).0 (not-false b (refuse_no (not b) (table.bad_value r o) a.0)) in
         let s = spells (kind_of l r) f ats i v.0 e y op.attrs v.1 in
         record {
@@ -99,12 +98,12 @@ module _ (t : Types) (y : Spelling t) (j : Judge) (d : Decides t j) (l : Listing
           rowed = ap (λ rs. child l p n ∷ rs) after.rowed;
         }
 
-  accepts : (i : Inside) (p : ℕ) (seen : List ℕ) → 0 < p → is_group (kind_of l p) ≡ true → inside j l p seen i ≡ Fine → Clean p seen i
+  accepts : (i : Inside) (p : ℕ) (seen : List ℕ) → 0 < p → is_group (kind_of l p) ≡ true → inside j l p seen i ≡ Ok tt → Clean p seen i
   unfolding inside child_rows
   accepts nothing_inside p seen h g z = record { content = end; denotes = tt; good = tt; steps = tt; theirs = tt; rowed = refl }
   accepts (character o x k) p seen h g z =
       let a = or_fine (refuse (is_group (kind_of l p) && not (is_blank x)) (table.text_in_group p o)) _ z in
-      let f = accepts k p seen h g (or_fine (inside j l p seen k) Fine a.1).0 in
+      let f = accepts k p seen h g (or_fine (inside j l p seen k) (Ok tt) a.1).0 in
       let b : (is_group (kind_of l p) && not (is_blank x)) ≡ false = refuse_no (is_group (kind_of l p) && not (is_blank x)) (table.text_in_group p o) a.0 in
       let d : not (is_blank x) ≡ false = sym (ap (λ y. y && not (is_blank x)) g) ∙ b in
       record { content = f.content; denotes = (not-false (is_blank x) d, f.denotes); good = f.good; steps = f.steps; theirs = f.theirs; rowed = f.rowed }
@@ -113,7 +112,7 @@ module _ (t : Types) (y : Spelling t) (j : Judge) (d : Decides t j) (l : Listing
       let a = or_fine (opening j l p seen r ats o) _ z in
       let b = or_fine (inside j l r [] i) _ a.1 in
       let c = or_fine (closing j l (kind_of l r) r o ats (child_rows l r i) (text_of i)) _ b.1 in
-      let d = or_fine (inside j l p (r ∷ seen) k) Fine c.1 in
+      let d = or_fine (inside j l p (r ∷ seen) k) (Ok tt) c.1 in
       let op = opened j l (kind_of l p) (kind_of l r) p seen r ats o g (sym (opening_is j l p seen r ats o) ∙ a.0) in
       let f = child_found l p n r refl op.row in
       let after = accepts k p (r ∷ seen) h g d.0 in
@@ -123,7 +122,7 @@ module _ (t : Types) (y : Spelling t) (j : Judge) (d : Decides t j) (l : Listing
 
   -- ---- back: from a content to no violation
 
-  plain_leaf : (i : Inside) (p : ℕ) (seen : List ℕ) → is_group (kind_of l p) ≡ false → plain i ≡ true → inside j l p seen i ≡ Fine
+  plain_leaf : (i : Inside) (p : ℕ) (seen : List ℕ) → is_group (kind_of l p) ≡ false → plain i ≡ true → inside j l p seen i ≡ Ok tt
   unfolding inside
   plain_leaf nothing_inside p seen e z = refl
   plain_leaf (character o x k) p seen e z = rw (e, plain_leaf k p seen e z)
@@ -137,7 +136,7 @@ module _ (t : Types) (y : Spelling t) (j : Judge) (d : Decides t j) (l : Listing
     attrs : attrs_ok j k ats ≡ true
     plainly : plain i ≡ true
     no_group : is_group k ≡ false
-    shuts : closing j l k r o ats rs (text_of i) ≡ Fine
+    shuts : closing j l k r o ats rs (text_of i) ≡ Ok tt
 
   leafy : (k : Kind) (r o : ℕ) (ats : Attrs) (rs : List ℕ) (i : Inside) (v : t.A) → KindOk k → Spells t l k ats i v → Leafy k r o ats rs i
   leafy group r o ats rs i v h s = absurd s
@@ -146,16 +145,16 @@ module _ (t : Types) (y : Spelling t) (j : Judge) (d : Decides t j) (l : Listing
       record { attrs = (d.attrs f ats).1 s.1; plainly = s.0; no_group = refl; shuts = rw (some_text f (currency_given ats) (text_of i) v h s.2, (d.value f (currency_given ats) (text_of i)).1 (v, s.2)) }
 
   record Back (p : ℕ) (seen : List ℕ) (i : Inside) (rs : List ℕ) : Type 0 where
-    passes : inside j l p seen i ≡ Fine
+    passes : inside j l p seen i ≡ Ok tt
     rowed : child_rows l p i ≡ rs
 
   -- one element of row r, its parts and what follows it found good
   module _ (p : ℕ) (seen : List ℕ) (o : ℕ) (n : List ℕ) (ats : Attrs) (i k : Inside) (r : ℕ) (rs : List ℕ) (is : child l p n ≡ r) (pos : 0 < r) (fits : Fits l (kind_of l p) seen r)
-      (attrs : attrs_ok j (kind_of l r) ats ≡ true) (within : inside j l r [] i ≡ Fine) (close : closing j l (kind_of l r) r o ats (child_rows l r i) (text_of i) ≡ Fine) (after : Back p (r ∷ seen) k rs) where
+      (attrs : attrs_ok j (kind_of l r) ats ≡ true) (within : inside j l r [] i ≡ Ok tt) (close : closing j l (kind_of l r) r o ats (child_rows l r i) (text_of i) ≡ Ok tt) (after : Back p (r ∷ seen) k rs) where
     back_element : Back p seen (element o n ats i k) (r ∷ rs)
     unfolding inside child_rows
     back_element = record {
-      passes = subst (λ q. first_of (opening j l p seen q ats o ∷ inside j l q [] i ∷ closing j l (kind_of l q) q o ats (child_rows l q i) (text_of i) ∷ inside j l p (q ∷ seen) k ∷ []) ≡ Fine) (sym is)
+      passes = subst (λ q. first_of (opening j l p seen q ats o ∷ inside j l q [] i ∷ closing j l (kind_of l q) q o ats (child_rows l q i) (text_of i) ∷ inside j l p (q ∷ seen) k ∷ []) ≡ Ok tt) (sym is)
           (first_of4 (opening j l p seen r ats o) (inside j l r [] i) (closing j l (kind_of l r) r o ats (child_rows l r i) (text_of i)) (inside j l p (r ∷ seen) k)
           (opening_is j l p seen r ats o ∙ opens j l (kind_of l p) (kind_of l r) p seen r ats o (record { row = pos; fits = fits; attrs = attrs })) within close after.passes);
       rowed = ap₂ ◌∷◌ is after.rowed;
@@ -179,7 +178,7 @@ module _ (t : Types) (y : Spelling t) (j : Judge) (d : Decides t j) (l : Listing
       let z = closes j l w (kind_of l r) r o ats (rows e) (text_of i) d.1.0 refl g.0.1 in
       let b = back i r [] e d.2 g.1 z.1 in
       back_element p seen o n ats i k r (rows c) (child_is l p n w r (record { its = d.0.0; name = d.0.1 })) d.0.0.first s.0 (attrs_group j (kind_of l r) ats d.1.0 d.1.1) b.passes
-      (subst (λ rs. closing j l (kind_of l r) r o ats rs (text_of i) ≡ Fine) (sym b.rowed) z.0) (back k p (r ∷ seen) c d.3 g.2 s.1)
+      (subst (λ rs. closing j l (kind_of l r) r o ats rs (text_of i) ≡ Ok tt) (sym b.rowed) z.0) (back k p (r ∷ seen) c d.3 g.2 s.1)
 
   -- ---- the message
 
@@ -187,24 +186,24 @@ module _ (t : Types) (y : Spelling t) (j : Judge) (d : Decides t j) (l : Listing
   root_group = ap is_group w.root.1
 
   -- no violation: a content that meets the list, and is the message's
-  accept_by : (m : Inside) → OneElement m → first_violation j l m ≡ Fine → (c : Content t.A) × Meets t.Is l c × Has t l m c
+  accept_by : (m : Inside) → OneElement m → first_violation j l m ≡ Ok tt → (c : Content t.A) × Meets t.Is l c × Has t l m c
   unfolding first_violation
   accept_by nothing_inside one z = absurd one
   accept_by (character o x k) one z = absurd one
   accept_by (element o n ats i k) one z =
       let a = or_fine (refuse (not (is_root l n ats)) (table.wrong_root o)) _ z in
       let b = or_fine (inside j l 1 [] i) _ a.1 in
-      let c = or_fine (closing j l (kind_of l 1) 1 o ats (child_rows l 1 i) (text_of i)) Fine b.1 in
+      let c = or_fine (closing j l (kind_of l 1) 1 o ats (child_rows l 1 i) (text_of i)) (Ok tt) b.1 in
       let f = accepts i 1 [] (omega arith) root_group b.0 in
       let k = closed j l w (kind_of l 1) 1 o ats (rows f.content) (text_of i) root_group refl f.steps f.theirs
-      (subst (λ rs. closing j l (kind_of l 1) 1 o ats rs (text_of i) ≡ Fine) f.rowed c.0) in (
+      (subst (λ rs. closing j l (kind_of l 1) 1 o ats rs (text_of i) ≡ Ok tt) f.rowed c.0) in (
         node 1 f.content end,
         record { root = refl; good = ((root_group, k), f.good, tt) },
         record { root = not-false (is_root l n ats) (refuse_no (not (is_root l n ats)) (table.wrong_root o) a.0); alone = one; kids = f.content; is = refl; parts = f.denotes },
       )
 
   -- a content that meets the list, and is the message's: no violation
-  accepted_by : (m : Inside) (c : Content t.A) → Meets t.Is l c → Has t l m c → first_violation j l m ≡ Fine
+  accepted_by : (m : Inside) (c : Content t.A) → Meets t.Is l c → Has t l m c → first_violation j l m ≡ Ok tt
   unfolding first_violation
   accepted_by nothing_inside c k h = absurd h
   accepted_by (character o x k') c k h = absurd h
@@ -212,16 +211,16 @@ module _ (t : Types) (y : Spelling t) (j : Judge) (d : Decides t j) (l : Listing
       let g : Good t.Is l (node 1 h.kids end) = subst (λ x. Good t.Is l x) h.is k.good in
       let z = closes j l w (kind_of l 1) 1 o ats (rows h.kids) (text_of i) root_group refl g.0.1 in
       let b = back i 1 [] h.kids h.parts g.1 z.1 in
-      let y = subst (λ rs. closing j l (kind_of l 1) 1 o ats rs (text_of i) ≡ Fine) (sym b.rowed) z.0 in
+      let y = subst (λ rs. closing j l (kind_of l 1) 1 o ats rs (text_of i) ≡ Ok tt) (sym b.rowed) z.0 in
       rw (h.root, b.passes, y)
 
 module _ (t : Types) (y : Spelling t) (l : Listing) (w : WellFormed l) where
   -- nothing is found: a content that meets the list, and is the message's
-  pub accept : (m : Inside) → OneElement m → First t l m Fine → (c : Content t.A) × Meets t.Is l c × Has t l m c
+  pub accept : (m : Inside) → OneElement m → First t l m (Ok tt) → (c : Content t.A) × Meets t.Is l c × Has t l m c
   accept m one f = accept_by t y f.judge f.decides l w m one f.is
 
   -- a content that meets the list, and is the message's: nothing is found
-  pub accepted : (m : Inside) (c : Content t.A) → Meets t.Is l c → Has t l m c → (f : Found) → First t l m f → f ≡ Fine
+  pub accepted : (m : Inside) (c : Content t.A) → Meets t.Is l c → Has t l m c → (f : Found) → First t l m f → f ≡ Ok tt
   accepted m c k h f x = sym x.is ∙ accepted_by t y x.judge x.decides l w m c k h
 
   -- ---- one content

@@ -1,4 +1,5 @@
 -- First answers, and the small tests that they are made of. Assumes nothing.
+use Rattle.std.specs.Prelude.{Ok, Err}
 use mathlib.Core.Path.{◌≡◌, refl, sym}
 use mathlib.Core.Bool.{Bool, true, false, ◌&&◌, not, true≢false, false≢true}
 use mathlib.Core.List.{List, [], ◌∷◌}
@@ -12,33 +13,31 @@ use Rattle.answer.specs.declared.Answer.{Answer}
 use Rattle.text.specs.Lists.{Each, same}
 use Rattle.list.specs.Listing.{Leaf, Kind, group, choice, leaf, is_group}
 use Rattle.xml.specs.Message.{Attrs}
-use Rattle.file_walk.specs.declared.found.Found.{Found}
-use Rattle.file_walk.specs.declared.found.Found.TheVariants.{Fine, Violation}
 use Rattle.file_walk.specs.Types.{Judge}
 use Rattle.file_walk.specs.mirror.Machine.{is_none}
-use Rattle.file_walk.specs.First.{refuse, or_else, is_empty, passed, only, attrs_ok}
+use Rattle.file_walk.specs.First.{Found, refuse, or_else, is_empty, passed, only, attrs_ok}
 use Rattle.text.proofs.Classes.{and_is, or_not}
 use Rattle.list.proofs.rows.Words.{same_eq, same_refl}
 
 -- ---- the first of some answers
 
-pub or_fine : (f g : Found) → or_else f g ≡ Fine → (f ≡ Fine) × (g ≡ Fine)
-or_fine Fine g e = (refl, e)
-or_fine (Violation a) g e = let z : ◌≡◌ {A = ℕ} 0 1 = cc in absurd (omega arith)
+pub or_fine : (f g : Found) → or_else f g ≡ Ok tt → (f ≡ Ok tt) × (g ≡ Ok tt)
+or_fine (Ok tt) g e = (refl, e)
+or_fine (Err a) g e = let z : ◌≡◌ {A = ℕ} 0 1 = cc in absurd (omega arith)
 
-pub or_right : (a : Found) → or_else a Fine ≡ a
-or_right Fine = refl
-or_right (Violation x) = refl
+pub or_right : (a : Found) → or_else a (Ok tt) ≡ a
+or_right (Ok tt) = refl
+or_right (Err x) = refl
 
-pub or_when : (a x y : Found) → (a ≡ Fine → x ≡ y) → or_else a x ≡ or_else a y
-or_when Fine x y f = f refl
-or_when (Violation v) x y f = refl
+pub or_when : (a x y : Found) → (a ≡ Ok tt → x ≡ y) → or_else a x ≡ or_else a y
+or_when (Ok tt) x y f = f refl
+or_when (Err v) x y f = refl
 
 pub or_assoc : (a b c : Found) → or_else (or_else a b) c ≡ or_else a (or_else b c)
-or_assoc Fine b c = refl
-or_assoc (Violation v) b c = refl
+or_assoc (Ok tt) b c = refl
+or_assoc (Err v) b c = refl
 
-pub refuse_no : (b : Bool) (a : Answer) → refuse b a ≡ Fine → b ≡ false
+pub refuse_no : (b : Bool) (a : Answer) → refuse b a ≡ Ok tt → b ≡ false
 refuse_no true a e = let z : ◌≡◌ {A = ℕ} 0 1 = cc in absurd (omega arith)
 refuse_no false a e = refl
 

@@ -7,9 +7,8 @@ use mathlib.Core.Option.{Option}
 use Prim.Native.Nat.{ℕ}
 use Rattle.list.specs.Listing.{Leaf, ccy, Listing}
 use Rattle.xml.specs.Message.{Attrs, Inside}
-use Rattle.file_walk.specs.declared.found.Found.{Found}
 use Rattle.file_walk.specs.Types.{Types, Judge, Decides}
-use Rattle.file_walk.specs.First.{First, first_violation}
+use Rattle.file_walk.specs.First.{Found, First, first_violation}
 use Rattle.file_walk.specs.mirror.Machine.{Verdict, verdict_of, judge_of, speller_of, Computes}
 use Rattle.file_walk.proofs.violation.Answers.{iff_same, not_none, some_of}
 use Rattle.file_walk.proofs.violation.Attrs.{leaf_mean}

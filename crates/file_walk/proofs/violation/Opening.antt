@@ -1,4 +1,5 @@
 -- The tests of an opening tag, one after the other, whatever the kind of the parent's row. Assumes nothing.
+use Rattle.std.specs.Prelude.{Ok}
 use mathlib.Core.Path.{◌≡◌, refl, ◌∙◌, ap}
 use mathlib.Core.Bool.{Bool, false, ◌&&◌, not}
 use mathlib.Core.List.{List, [], ◌∷◌}
@@ -8,10 +9,8 @@ use Rattle.answer.specs.Table as table
 use Rattle.list.specs.Words.{has}
 use Rattle.list.specs.Listing.{Kind, group, choice, leaf, Listing, row_at, is_choice, at_most_once}
 use Rattle.xml.specs.Message.{Attrs}
-use Rattle.file_walk.specs.declared.found.Found.{Found}
-use Rattle.file_walk.specs.declared.found.Found.TheVariants.{Fine}
 use Rattle.file_walk.specs.Types.{Judge}
-use Rattle.file_walk.specs.First.{refuse, or_else, first_of, is_empty, passed, attrs_ok, kind_of, among_siblings, opening}
+use Rattle.file_walk.specs.First.{Found, refuse, or_else, first_of, is_empty, passed, attrs_ok, kind_of, among_siblings, opening}
 use Rattle.file_walk.proofs.violation.Answers.{or_assoc}
 
 module _ (l : Listing) where
@@ -26,7 +25,7 @@ module _ (l : Listing) where
   siblings group seen r o f =
       let a = refuse (passed r seen) (table.out_of_order r o) in
       let b = refuse (at_most_once (row_at l r).count && has r seen) (table.too_many r o) in
-      or_assoc a (or_else b Fine) f ∙ ap (or_else a) (or_assoc b Fine f)
+      or_assoc a (or_else b (Ok tt)) f ∙ ap (or_else a) (or_assoc b (Ok tt) f)
   siblings choice seen r o f = refl
   siblings (leaf k) seen r o f = refl
 
@@ -40,4 +39,4 @@ module _ (j : Judge) (l : Listing) where
       refuse (not (attrs_ok j kr ats)) (table.wrong_attributes r o) ∷ [])
 
   pub opening_is : (p : ℕ) (seen : List ℕ) (r : ℕ) (ats : Attrs) (o : ℕ) → opening j l p seen r ats o ≡ open_tests (kind_of l p) (kind_of l r) p seen r ats o
-  opening_is p seen r ats o = ap (or_else (refuse (eqb r 0) (table.not_a_child p o))) (siblings l (kind_of l p) seen r o (or_else (refuse (not (attrs_ok j (kind_of l r) ats)) (table.wrong_attributes r o)) Fine))
+  opening_is p seen r ats o = ap (or_else (refuse (eqb r 0) (table.not_a_child p o))) (siblings l (kind_of l p) seen r o (or_else (refuse (not (attrs_ok j (kind_of l r) ats)) (table.wrong_attributes r o)) (Ok tt)))

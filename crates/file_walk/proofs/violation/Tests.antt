@@ -1,4 +1,5 @@
 -- What it means that the tests of an opening and of a closing tag find nothing. Assumes nothing.
+use Rattle.std.specs.Prelude.{Ok}
 use mathlib.Core.Path.{◌≡◌, refl, sym, ◌∙◌, ap, subst}
 use mathlib.Core.Logic.{◌↔◌, ◌≢◌}
 use mathlib.Core.Bool.{Bool, true, false, ◌&&◌, not, xor, true≢false, false≢true}
@@ -16,7 +17,6 @@ use Rattle.list.specs.Listing.{Leaf, Kind, group, choice, leaf, Count, alternati
 use Rattle.list.specs.WellFormed.{WellFormed}
 use Rattle.list.specs.Content.{CountOk, Keeps, Children}
 use Rattle.xml.specs.Message.{Attrs}
-use Rattle.file_walk.specs.declared.found.Found.TheVariants.{Fine}
 use Rattle.file_walk.specs.Types.{Judge}
 use Rattle.file_walk.specs.First.{refuse, is_empty, passed, breaks, attrs_ok, absent_row, group_end, closing}
 use Rattle.text.proofs.Classes.{or_not}
@@ -49,7 +49,7 @@ module _ (j : Judge) (l : Listing) where
   of_fits (leaf k) seen r f = absurd f
 
   module _ (kp kr : Kind) (p : ℕ) (seen : List ℕ) (r : ℕ) (ats : Attrs) (o : ℕ) where
-    pub opened : is_group kp ≡ true → open_tests j l kp kr p seen r ats o ≡ Fine → Opened j l kp kr seen r ats
+    pub opened : is_group kp ≡ true → open_tests j l kp kr p seen r ats o ≡ Ok tt → Opened j l kp kr seen r ats
     opened g e =
         let a = or_fine (refuse (eqb r 0) (table.not_a_child p o)) _ e in
         let b = or_fine (refuse (not (is_choice kp) && passed r seen) (table.out_of_order r o)) _ a.1 in
@@ -62,7 +62,7 @@ module _ (j : Judge) (l : Listing) where
           attrs = not-false (attrs_ok j kr ats) (refuse_no (not (attrs_ok j kr ats)) (table.wrong_attributes r o) d.0);
         }
 
-    pub opens : Opened j l kp kr seen r ats → open_tests j l kp kr p seen r ats o ≡ Fine
+    pub opens : Opened j l kp kr seen r ats → open_tests j l kp kr p seen r ats o ≡ Ok tt
     opens w =
         let f = of_fits kp seen r w.fits in
         let z : r ≢ 0 = omega (arith, w.row) in
@@ -119,7 +119,7 @@ module _ (l : Listing) where
     full : (q : ℕ) → Child l r q → required (row_at l q).count ≡ true → 0 < times q rs
     rules : Each (Keeps r rs) l.rules
 
-  ended : (j : Judge) (r o : ℕ) (rs : List ℕ) → group_end j l r o rs ≡ Fine → Ended r rs
+  ended : (j : Judge) (r o : ℕ) (rs : List ℕ) → group_end j l r o rs ≡ Ok tt → Ended r rs
   ended j r o rs e =
       let a = or_fine (refuse (is_empty rs) (table.empty r o)) _ e in
       let b = or_fine (refuse (ltb 0 (absent_row l r rs)) (table.absent (absent_row l r rs) o)) _ a.1 in
@@ -127,7 +127,7 @@ module _ (l : Listing) where
       let z = ltb-false 0 (absent_row l r rs) (refuse_no (ltb 0 (absent_row l r rs)) (table.absent (absent_row l r rs) o) b.0) in
       record { some = empty_no rs (refuse_no (is_empty rs) (table.empty r o) a.0); full = none_absent r rs (omega arith); rules = kept r rs l.rules (refuse_no (breaks r rs l.rules) (table.rule_broken r o) c.0) }
 
-  ends : (j : Judge) (r o : ℕ) (rs : List ℕ) → Ended r rs → group_end j l r o rs ≡ Fine
+  ends : (j : Judge) (r o : ℕ) (rs : List ℕ) → Ended r rs → group_end j l r o rs ≡ Ok tt
   ends j r o rs w =
       let z : ltb 0 (absent_row l r rs) ≡ false = le-ltb 0 (absent_row l r rs) (omega (arith, absent_none r rs w.full)) in
       rw (no_empty rs w.some, z, keeps r rs l.rules w.rules)
@@ -148,7 +148,7 @@ no_choice k e f = let z : group ≡ choice = sym e ∙ f in let y : ◌≡◌ {A
 
 module _ (j : Judge) (l : Listing) (w : WellFormed l) where
   pub closed : (k : Kind) (r o : ℕ) (ats : Attrs) (rs cs : List ℕ) → is_group k ≡ true → (row_at l r).kind ≡ k → Steps l k [] rs → Each (Child l r) rs
-      → closing j l k r o ats rs cs ≡ Fine → Children l r rs
+      → closing j l k r o ats rs cs ≡ Ok tt → Children l r rs
   closed group r o ats rs cs g e s c f =
       let z = ended l j r o rs f in
       record {
@@ -175,7 +175,7 @@ module _ (j : Judge) (l : Listing) (w : WellFormed l) where
   not_required : (c : Count) → c ≡ alternative → required c ≡ true → ⊥
   not_required c e h = false≢true (sym (ap required e) ∙ h)
 
-  pub closes : (k : Kind) (r o : ℕ) (ats : Attrs) (rs cs : List ℕ) → is_group k ≡ true → (row_at l r).kind ≡ k → Children l r rs → (closing j l k r o ats rs cs ≡ Fine) × Steps l k [] rs
+  pub closes : (k : Kind) (r o : ℕ) (ats : Attrs) (rs cs : List ℕ) → is_group k ≡ true → (row_at l r).kind ≡ k → Children l r rs → (closing j l k r o ats rs cs ≡ Ok tt) × Steps l k [] rs
   closes group r o ats rs cs g e c = (
     ends l j r o rs (record { some = c.nonempty; full = λ q d. need (row_at l q).count (times q rs) (c.counts q d); rules = c.rules }),
     steps l r [] rs c.theirs c.order (λ q z. absurd (omega arith)) (λ q d z. omega (arith, limit (row_at l q).count (times q rs) (c.counts q d) z)),

@@ -1,6 +1,7 @@
 -- A mirror: the root's tag over bytes and tables. Assumes nothing.
-use Rattle.std.specs.Prelude.{Bool, true, false, cond, not, ◌&&◌, ◌||◌, List, ℕ, zero, suc, ◌+◌, eqb, ltb, length, drop}
+use Rattle.std.specs.Prelude.{Bool, true, false, cond, not, ◌&&◌, ◌||◌, List, ℕ, zero, suc, ◌+◌, eqb, ltb, length, drop, Result, Ok, Err}
 use Rattle.std.proofs.Math.Seq.{slice}
+use Rattle.answer.specs.declared.Answer.{Answer}
 use Rattle.answer.specs.Table as table
 use Rattle.text.specs.Bytes.{ascii}
 use Rattle.text.specs.Lists.{same}
@@ -13,11 +14,8 @@ use Rattle.xml_tags.specs.Story.{attribute_in}
 use Rattle.xml_tags.specs.mirror.Tokens.{open_at, start_of}
 use Rattle.file_walk.specs.declared.hints.Carried.{Carried}
 use Rattle.file_walk.specs.declared.step.Here.{Here}
-use Rattle.file_walk.specs.declared.step.Turn.{Turn}
-use Rattle.file_walk.specs.declared.step.Met.{Met}
-use Rattle.file_walk.specs.declared.step.Met.TheVariants.{Opened, Closed, Refused, Lost}
 use Rattle.file_walk.specs.mirror.Tables.{fresh_in}
-use Rattle.file_walk.specs.mirror.Stride.{named, refused_at, lost_at}
+use Rattle.file_walk.specs.mirror.Stride.{named}
 
 -- ---- its attributes
 
@@ -63,31 +61,33 @@ is_root_in t pool s less stop count = ltb less (length s) && (is_first_in t pool
 abbrev pub root_at : List ℕ → ℕ → ℕ → Here
 root_at t less end = record { level = fresh_in t 1 less; depth = 0; at = end; value = 0; quote = 0 }
 
--- by whether it is the root: an element that goes on, an element without content
-unfoldable pub rooted_in : Bool → Here → ℕ → Turn
-rooted_in b here less = cond b (record { met = Opened; here = here; less = less }) (refused_at here (table.wrong_root less))
+-- where the walk stands then, or the first violation
+abbrev pub Rooted : Type 0
+Rooted = Result Here Answer
 
-unfoldable pub hollow_in : Bool → Here → ℕ → Turn
-hollow_in b here less = refused_at here (cond b (table.empty 1 less) (table.wrong_root less))
+-- by whether it is the root: an element that goes on, an element without content
+unfoldable pub rooted_in : Bool → Here → ℕ → Rooted
+rooted_in b here less = cond b (Ok here) (Err (table.wrong_root less))
+
+unfoldable pub hollow_in : Bool → ℕ → Answer
+hollow_in b less = cond b (table.empty 1 less) (table.wrong_root less)
 
 module _ (t pool s : List ℕ) where
-  -- by what stands where the root begins
-  abbrev pub found_in : Kind → Token → Turn
+  -- by what stands where the root begins; where no tag opens there, it is no house XML
+  abbrev pub found_in : Kind → Token → Rooted
   found_in Open k = rooted_in (is_root_in t pool s k.less k.stop k.attributes) (root_at t k.less k.end) k.less
-  found_in Empty k = hollow_in (is_root_in t pool s k.less k.stop k.attributes) (root_at t k.less k.end) k.less
-  found_in Close k = lost_at (root_at t k.less k.end) k.less
-  found_in End k = lost_at (root_at t k.less k.end) k.less
+  found_in Empty k = Err (hollow_in (is_root_in t pool s k.less k.stop k.attributes) k.less)
+  found_in Close k = Err (table.not_house_xml k.less)
+  found_in End k = Err (table.not_house_xml k.less)
 
   -- by the tag there
-  unfoldable pub begin_by : Token → Turn
+  unfoldable pub begin_by : Token → Rooted
   begin_by k = found_in k.kind k
 
-  abbrev pub begin_in : Turn
+  abbrev pub begin_in : Rooted
   begin_in = begin_by (open_at (start_of s) (drop (start_of s) s))
 
--- by what was met: the tag is not the root's, which code 4 says
-abbrev pub unrooted : Met → Bool
-unrooted Opened = false
-unrooted Closed = false
-unrooted (Refused a) = eqb a.code 4
-unrooted Lost = false
+-- the tag is not the root's, which code 4 says
+abbrev pub unrooted : Rooted → Bool
+unrooted (Ok here) = false
+unrooted (Err a) = eqb a.code 4

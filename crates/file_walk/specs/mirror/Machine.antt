@@ -1,5 +1,5 @@
--- A mirror: the walk over a message's tags and characters, with five numbers for each open element. Assumes nothing.
-use Rattle.std.specs.Prelude.{◌≡◌, Bool, true, false, cond, ◌&&◌, ◌||◌, not, List, [], ◌∷◌, ◌++◌, ℕ, eqb, ltb}
+-- A mirror: the walk over a message's tags and characters, with a level for each open element. Assumes nothing.
+use Rattle.std.specs.Prelude.{◌≡◌, Bool, true, false, cond, ◌&&◌, ◌||◌, not, List, [], ◌∷◌, ◌++◌, ℕ, eqb, ltb, Ok}
 use Rattle.std.proofs.Math.Option.{Option}
 use Rattle.answer.specs.Table as table
 use Rattle.text.specs.Bytes.{ascii, is_blank}
@@ -10,10 +10,8 @@ use Rattle.list.specs.tables.Sound.{first_of as mate, second_of as pair}
 use Rattle.xml.specs.Message.{Attrs, Inside}
 use Rattle.xml_tags.specs.Story.{Event, char as text, enter, leave, events}
 use Rattle.file_walk.specs.declared.level.Level.{Level}
-use Rattle.file_walk.specs.declared.found.Found.{Found}
-use Rattle.file_walk.specs.declared.found.Found.TheVariants.{Fine}
 use Rattle.file_walk.specs.Types.{Types, Judge}
-use Rattle.file_walk.specs.First.{refuse, or_else, first_of, is_empty, currency_given, attrs_ok, kind_of, is_root, leaf_end}
+use Rattle.file_walk.specs.First.{Found, refuse, or_else, first_of, is_empty, currency_given, attrs_ok, kind_of, is_root, leaf_end}
 
 -- values, and a way to compute which of them is spelt
 pub record Speller : Type 1 where
@@ -126,12 +124,12 @@ module _ (T : Speller) (l : Listing) where
   -- what an event finds, and what it leads to
   abbrev pub test : State → Event → Found
   test before (enter o n ats) = refuse (not (is_root l n ats)) (table.wrong_root o)
-  test before (text o x) = Fine
-  test before leave = Fine
+  test before (text o x) = Ok tt
+  test before leave = Ok tt
   test (at lv below ats cs) (enter o n new) = open_test lv (child l lv.row n) new o
   test (at lv below ats cs) (text o x) = refuse (is_group (kind_of l lv.row) && not (is_blank x)) (table.text_in_group lv.row o)
   test (at lv below ats cs) leave = close_test (kind_of l lv.row) lv ats cs
-  test after e = Fine
+  test after e = Ok tt
 
   abbrev pub next : State → Event → State
   next before (enter o n ats) = at (fresh l 1 o) [] [] []
@@ -143,7 +141,7 @@ module _ (T : Speller) (l : Listing) where
   next after e = after
 
   unfoldable pub run : State → List Event → Found
-  run s [] = Fine
+  run s [] = Ok tt
   run s (e ∷ es) = or_else (test s e) (run (next s e) es)
 
   unfoldable pub walk : Inside → Found

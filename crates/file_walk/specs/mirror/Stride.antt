@@ -1,5 +1,5 @@
 -- A mirror: one step of the walk over bytes and tables, a text and the tag after it. Assumes nothing.
-use Rattle.std.specs.Prelude.{Bool, cond, ◌&&◌, List, ℕ, ◌+◌, ◌-◌, eqb, ltb, length, drop}
+use Rattle.std.specs.Prelude.{Bool, cond, ◌&&◌, List, ℕ, ◌+◌, ◌-◌, eqb, ltb, length, drop, Result, Ok, Err}
 use Rattle.std.proofs.Math.Seq.{slice}
 use Rattle.answer.specs.declared.Answer.{Answer}
 use Rattle.answer.specs.Table as table
@@ -16,12 +16,10 @@ use Rattle.xml_tags.specs.declared.token.Token.{Token}
 use Rattle.xml_tags.specs.Story.{token_in}
 use Rattle.xml_tags.specs.mirror.Tokens.{ink_in}
 use Rattle.file_walk.specs.declared.level.Level.{Level}
-use Rattle.file_walk.specs.declared.found.Found.{Found}
-use Rattle.file_walk.specs.declared.found.Found.TheVariants.{Fine, Violation}
 use Rattle.file_walk.specs.declared.step.Here.{Here}
 use Rattle.file_walk.specs.declared.step.Turn.{Turn}
-use Rattle.file_walk.specs.declared.step.Met.TheVariants.{Opened, Closed, Refused, Lost}
-use Rattle.file_walk.specs.First.{refuse}
+use Rattle.file_walk.specs.declared.step.Turn.TheVariants.{Opened, Closed, Ended}
+use Rattle.file_walk.specs.First.{Found, refuse}
 use Rattle.list.specs.tables.Numbers.{is_group_in}
 use Rattle.file_walk.specs.mirror.Tables.{fresh_in, advance_in, opening_in, group_end_in, level_at, pushed}
 
@@ -55,27 +53,20 @@ ink_from g o less = cond g o less
 unfoldable pub end_in : List ℕ → Bool → Level → ℕ → ℕ → Found
 end_in t g lv at less = cond g (group_end_in t lv) (refuse (eqb less at) (table.empty lv.row lv.place))
 
-abbrev pub refused_at : Here → Answer → Turn
-refused_at here a = record { met = Refused a; here = here; less = a.place }
+-- a step: what it met, or the first violation
+abbrev pub Stepped : Type 0
+Stepped = Result Turn Answer
 
--- no house XML
-abbrev pub lost_at : Here → ℕ → Turn
-lost_at here less = record { met = Lost; here = here; less = less }
-
-abbrev pub outer : List ℕ → ℕ → ℕ → Here
+abbrev pub outer : List Level → ℕ → ℕ → Here
 outer a n end = record { level = level_at a n; depth = n; at = end; value = 0; quote = 0 }
 
--- by what its tests found
-abbrev pub closed_by : List ℕ → Here → ℕ → ℕ → Found → Turn
-closed_by a here less end (Violation v) = refused_at here v
-closed_by a here less end Fine =
-    cond (eqb here.depth 0)
-    (record { met = Closed; here = here; less = less })
-    (cond (ltb 16 here.depth)
-    (lost_at here less)
-    (record { met = Closed; here = outer a (here.depth - 1) end; less = less }))
+-- by what its tests found; more levels than there are is no house XML
+abbrev pub closed_by : List Level → Here → ℕ → ℕ → Found → Stepped
+closed_by a here less end (Err v) = Err v
+closed_by a here less end (Ok tt) =
+    cond (eqb here.depth 0) (Ok Ended) (cond (ltb 16 here.depth) (Err (table.not_house_xml less)) (Ok (Closed (outer a (here.depth - 1) end) less)))
 
-unfoldable pub closed_in : List ℕ → Bool → List ℕ → Here → ℕ → ℕ → Turn
+unfoldable pub closed_in : List ℕ → Bool → List Level → Here → ℕ → ℕ → Stepped
 closed_in t g a here less end = closed_by a here less end (end_in t g here.level here.at less)
 
 -- ---- an opening tag
@@ -91,49 +82,41 @@ abbrev pub inner : List ℕ → Here → ℕ → ℕ → ℕ → Attribute → H
 inner t here r less end a = record { level = fresh_in t r less; depth = here.depth + 1; at = end; value = a.value; quote = a.quote }
 
 -- by what the tests of an opening tag found: what an element that goes on leads to, and the stack after it; an element without content
-abbrev pub entered_by : List ℕ → Here → ℕ → ℕ → ℕ → Attribute → Found → Turn
-entered_by t here r less end a (Violation v) = refused_at here v
-entered_by t here r less end a Fine =
-    cond (ltb deepest here.depth) (lost_at here less) (record { met = Opened; here = inner t here r less end a; less = less })
+abbrev pub entered_by : List ℕ → Here → ℕ → ℕ → ℕ → Attribute → Found → Stepped
+entered_by t here r less end a (Err v) = Err v
+entered_by t here r less end a (Ok tt) = cond (ltb deepest here.depth) (Err (table.not_house_xml less)) (Ok (Opened (inner t here r less end a)))
 
-abbrev pub below_by : List ℕ → List ℕ → Here → ℕ → Found → List ℕ
-below_by t st here r (Violation v) = st
-below_by t st here r Fine = cond (ltb deepest here.depth) st (pushed st here.depth (advance_in t here.level r))
+abbrev pub below_by : List ℕ → List Level → Here → ℕ → Found → List Level
+below_by t st here r (Err v) = st
+below_by t st here r (Ok tt) = cond (ltb deepest here.depth) st (pushed st here.depth (advance_in t here.level r))
 
-abbrev pub vacant_by : Here → ℕ → ℕ → Found → Turn
-vacant_by here r less (Violation v) = refused_at here v
-vacant_by here r less Fine = refused_at here (table.empty r less)
+abbrev pub vacant_by : ℕ → ℕ → Found → Answer
+vacant_by r less (Err v) = v
+vacant_by r less (Ok tt) = table.empty r less
 
-unfoldable pub entered_in : List ℕ → Here → ℕ → Bool → ℕ → ℕ → Attribute → Turn
+unfoldable pub entered_in : List ℕ → Here → ℕ → Bool → ℕ → ℕ → Attribute → Stepped
 entered_in t here r ok less end a = entered_by t here r less end a (opening_in t here.level r ok less)
 
-unfoldable pub below_in : List ℕ → List ℕ → Here → ℕ → Bool → ℕ → List ℕ
+unfoldable pub below_in : List ℕ → List Level → Here → ℕ → Bool → ℕ → List Level
 below_in t st here r ok less = below_by t st here r (opening_in t here.level r ok less)
 
-unfoldable pub vacant_in : List ℕ → Here → ℕ → Bool → ℕ → Turn
-vacant_in t here r ok less = vacant_by here r less (opening_in t here.level r ok less)
+unfoldable pub vacant_in : List ℕ → Here → ℕ → Bool → ℕ → Answer
+vacant_in t here r ok less = vacant_by r less (opening_in t here.level r ok less)
 
 -- ---- one step
 
--- a kind as a number
-unfoldable pub number_of : Kind → ℕ
-number_of Open = 0
-number_of Empty = 1
-number_of Close = 2
-number_of End = 3
-
-module _ (t pool s st : List ℕ) (here : Here) where
-  -- by what stands after the text
-  abbrev pub met_in : Kind → Token → Turn
+module _ (t pool s : List ℕ) (st : List Level) (here : Here) where
+  -- by what stands after the text; where the bytes end, they are no house XML
+  abbrev pub met_in : Kind → Token → Stepped
   met_in Close k = closed_in t (is_group_in (cell t here.level.row KIND)) st here k.less k.end
-  met_in End k = lost_at here k.less
+  met_in End k = Err (table.not_house_xml k.less)
   met_in Open k =
       entered_in t here (row_in t pool s here.level k.less k.stop) (own_in t s (row_in t pool s here.level k.less k.stop) k.attributes k.first)
       k.less k.end k.first
   met_in Empty k =
-      vacant_in t here (row_in t pool s here.level k.less k.stop) (own_in t s (row_in t pool s here.level k.less k.stop) k.attributes k.first) k.less
+      Err (vacant_in t here (row_in t pool s here.level k.less k.stop) (own_in t s (row_in t pool s here.level k.less k.stop) k.attributes k.first) k.less)
 
-  abbrev pub left_in : Kind → Token → List ℕ
+  abbrev pub left_in : Kind → Token → List Level
   left_in Close k = st
   left_in End k = st
   left_in Open k =
@@ -144,15 +127,15 @@ module _ (t pool s st : List ℕ) (here : Here) where
   abbrev pub ink_ahead : Token → ℕ
   ink_ahead k = ink_before t s here.level.row here.at k.less
 
-  unfoldable pub step_by : Token → Turn
-  step_by k = cond (ltb (ink_ahead k) k.less) (refused_at here (table.text_in_group here.level.row (ink_ahead k))) (met_in k.kind k)
+  unfoldable pub step_by : Token → Stepped
+  step_by k = cond (ltb (ink_ahead k) k.less) (Err (table.text_in_group here.level.row (ink_ahead k))) (met_in k.kind k)
 
-  unfoldable pub stack_by : Token → List ℕ
+  unfoldable pub stack_by : Token → List Level
   stack_by k = cond (ltb (ink_ahead k) k.less) st (left_in k.kind k)
 
   -- by the token after here
-  abbrev pub step_in : Turn
+  abbrev pub step_in : Stepped
   step_in = step_by (token_in s here.at)
 
-  abbrev pub stack_in : List ℕ
+  abbrev pub stack_in : List Level
   stack_in = stack_by (token_in s here.at)

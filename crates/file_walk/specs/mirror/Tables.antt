@@ -1,12 +1,11 @@
--- A mirror: the walk's numbers and tests over the cells of two tables, and its stack as a list of numbers. Assumes nothing.
-use Rattle.std.specs.Prelude.{Bool, true, false, cond, ◌&&◌, ◌||◌, not, List, [], ◌∷◌, ℕ, zero, suc, ◌+◌, ◌*◌, eqb, ltb, get_or, set}
+-- A mirror: the walk's numbers and tests over the cells of two tables, and its stack as a list of levels. Assumes nothing.
+use Rattle.std.specs.Prelude.{Bool, false, cond, ◌&&◌, ◌||◌, not, List, [], ◌∷◌, ℕ, zero, suc, eqb, ltb, get_or, set}
 use Rattle.answer.specs.Table as table
 use Rattle.list.specs.tables.Columns.{COUNT, KIND, MATE, PAIR, SOME, CHOICE}
 use Rattle.list.specs.tables.Table.{cell}
 use Rattle.list.specs.mirror.Lookup.{due_after}
 use Rattle.file_walk.specs.declared.level.Level.{Level}
-use Rattle.file_walk.specs.declared.found.Found.{Found}
-use Rattle.file_walk.specs.First.{refuse, first_of}
+use Rattle.file_walk.specs.First.{Found, refuse, first_of}
 use Rattle.file_walk.specs.mirror.Machine.{misses}
 
 module _ (t : List ℕ) where
@@ -46,36 +45,19 @@ module _ (t : List ℕ) where
       refuse (ltb 0 lv.due) (table.absent lv.due lv.place) ∷
       refuse (broken_in lv) (table.rule_broken lv.row lv.place) ∷ [])
 
--- ---- the stack: a level's row, place, last child, required child, and whether it is odd
+-- ---- the stack
 
-abbrev pub FIELDS : ℕ
-FIELDS = 5
+-- what stands past its end
+abbrev pub no_level : Level
+no_level = record { row = 0; place = 0; last = 0; due = 0; odd = false }
 
-abbrev pub due_cell : ℕ
-due_cell = 3
+abbrev pub level_at : List Level → ℕ → Level
+level_at a n = get_or a n no_level
 
-abbrev pub odd_cell : ℕ
-odd_cell = 4
-
-abbrev pub bit : Bool → ℕ
-bit true = 1
-bit false = 0
-
-abbrev pub level_at : List ℕ → ℕ → Level
-level_at a n =
-    record {
-      row = get_or a (FIELDS * n) 0;
-      place = get_or a (FIELDS * n + 1) 0;
-      last = get_or a (FIELDS * n + 2) 0;
-      due = get_or a (FIELDS * n + due_cell) 0;
-      odd = not (eqb (get_or a (FIELDS * n + odd_cell) 0) 0);
-    }
-
-unfoldable pub pushed : List ℕ → ℕ → Level → List ℕ
-pushed a n lv =
-    set (set (set (set (set a (FIELDS * n) lv.row) (FIELDS * n + 1) lv.place) (FIELDS * n + 2) lv.last) (FIELDS * n + due_cell) lv.due) (FIELDS * n + odd_cell) (bit lv.odd)
+abbrev pub pushed : List Level → ℕ → Level → List Level
+pushed a n lv = set a n lv
 
 -- the n first levels, the last first
-unfoldable pub levels : List ℕ → ℕ → List Level
+unfoldable pub levels : List Level → ℕ → List Level
 levels a zero = []
 levels a (suc n) = level_at a n ∷ levels a n

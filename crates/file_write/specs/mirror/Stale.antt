@@ -1,5 +1,5 @@
 -- A mirror: how the first item is found that no file may say any more. Assumes nothing.
-use Rattle.std.specs.Prelude.{◌≡◌, Bool, ◌&&◌, not, cond, List, ◌∷◌, ◌++◌, ℕ, ◌+◌, ◌%◌, ◌^◌, ◌≤◌, ◌<◌, eqb, length, get_or, take, drop}
+use Rattle.std.specs.Prelude.{◌≡◌, Bool, ◌&&◌, not, cond, List, ◌∷◌, ◌++◌, ℕ, ◌+◌, ◌%◌, ◌^◌, ◌≤◌, ◌<◌, eqb, length, get_or, take, drop, Option, None, Some}
 use Rattle.std.proofs.Math.Option.{none}
 use Rattle.answer.specs.Table.{limit}
 use Rattle.text.specs.Lists.{Each}
@@ -13,6 +13,11 @@ use Rattle.image.specs.mirror.Follow.{ItemOk}
 use Rattle.file_letter.specs.Stale.{NoneOf, FirstAt, Withdrawn, Finer}
 use Rattle.list.specs.tables.Columns.{DTM}
 use Rattle.value.specs.Places.{stored_micros}
+
+-- a place that is found; 0 where there is none
+abbrev pub place_in : Option ℕ → ℕ
+place_in None = 0
+place_in (Some p) = p
 
 -- of the kind with the number k, from the bytes of its value on: a DTM, whose microseconds are no thousandths
 unfoldable pub finer_by : ℕ → List ℕ → Bool

@@ -1,15 +1,20 @@
 -- `image_reader::body` meets its contract. Assumes nothing.
-use mathlib.Core.Logic.{inl, inr}
-use native.Mathlib.Omega.{arith}
-use Rattle.image.specs.mirror.Run.{rootless, rooted}
+use borrow.Author.Rules.{rules}
+use Rattle.answer.specs.Table.{broken_image}
+use Rattle.image.specs.mirror.Ends.{item_end}
+use Rattle.image.specs.mirror.Run.{Behind}
 use Rattle.image.proofs.Meaning.{read_means}
+use Rattle.image_reader.specs.Taken.{answer_of, count_of}
 use Rattle.image_reader.proofs.body.Goals as goal
 
-pub returns-then-run-from : goal.returns-then-run-from
-returns-then-run-from c = let w = read_means _ _ _ _ _ (rootless (inl c.if-run-from.true) c.broken.ensures.0 c.broken.ensures.1) in record { is = w.0; means = w.1 }
+pub returns-then-ne-clause-means : goal.returns-then-ne-clause-means
+returns-then-ne-clause-means c =
+    let g = c.args in
+    let b : Behind g.rows.now (item_end g.rows.now g.run.now) g.run.now g.from (broken_image g.from) 0 = search rules in
+    (read_means _ _ _ _ _ b).1
 
-pub returns-then-run-from-ne1 : goal.returns-then-run-from-ne1
-returns-then-run-from-ne1 c = let w = read_means _ _ _ _ _ (rootless (inr c.if-run-from-ne1.true) c.broken-then-run-from-ne1.ensures.0 c.broken-then-run-from-ne1.ensures.1) in record { is = w.0; means = w.1 }
-
-pub returns : goal.returns
-returns c = let w = read_means _ _ _ _ _ (rooted (omega (arith, c.if-run-from.false)) (omega (arith, c.if-run-from-ne1.false)) c.items.ensures) in record { is = w.0; means = w.1 }
+pub returns-clause-means : goal.returns-clause-means
+returns-clause-means c =
+    let g = c.args in
+    let b : Behind g.rows.now (item_end g.rows.now g.run.now) g.run.now g.from (answer_of c.read_items.result) (count_of c.read_items.result) = search rules in
+    (read_means _ _ _ _ _ b).1

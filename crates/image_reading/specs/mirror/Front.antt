@@ -1,10 +1,9 @@
 -- A mirror: how the reader finds where the items begin. Assumes nothing.
-use Rattle.std.specs.Prelude.{◌≡◌, ◌≢◌, ◌⊎◌, Bool, true, false, List, ℕ, ◌+◌, ◌*◌, ◌≤◌, ◌<◌, length, get_or, take}
+use Rattle.std.specs.Prelude.{◌≡◌, ◌≢◌, ◌⊎◌, Bool, true, false, List, ℕ, ◌+◌, ◌*◌, ◌≤◌, ◌<◌, length, get_or, take, Option, None, Some}
 use Rattle.answer.specs.Table.{limit, accepted}
 use Rattle.text.specs.Bytes.{ascii}
 use Rattle.image_reading.specs.Reads.{HouseReads, HouseCounts}
-use Rattle.image_reading.specs.Forms.{Headed}
-use Rattle.image_reading.specs.declared.front.Reading.{Reading}
+use Rattle.image_reading.specs.Forms.{Headed, Reading}
 
 -- five bytes or more, of which the first three are `KTO`
 abbrev pub Kto : List ℕ → Type 0
@@ -18,10 +17,10 @@ pub record Named (s : List ℕ) (b : Bool) : Type 0 where
 abbrev pub version_of : List ℕ → ℕ
 version_of s = 256 * get_or s 3 0 + get_or s 4 0
 
--- the byte after it, of a list; or 0, where it is missing or no list's
-pub record KindByte (s : List ℕ) (k : ℕ) : Type 0 where
-  pub its : k ≢ 0 → (k ≤ 2) × (k ≡ get_or s 5 0)
-  pub none : k ≡ 0 → (get_or s 5 0 ≡ 0) ⊎ (2 < get_or s 5 0)
+-- the byte after it, of a list; or none, where it is missing or no list's
+abbrev pub KindByte : List ℕ → Option ℕ → Type 0
+KindByte s (Some k) = (k ≢ 0) × (k ≤ 2) × (k ≡ get_or s 5 0)
+KindByte s None = (get_or s 5 0 ≡ 0) ⊎ (2 < get_or s 5 0)
 
 -- how a run of any length begins; where as an image does, the answer so far is the header's length; where as none, what a reader answers and counts
 pub record Starts (run : List ℕ) (r : Reading) : Type 0 where

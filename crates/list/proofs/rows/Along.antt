@@ -7,7 +7,9 @@ use Prim.Native.Nat.{ℕ, zero, suc, ◌+◌, ◌-◌, ◌≤◌, ◌<◌}
 use native.Mathlib.Omega.{arith}
 use native.Mathlib.Decide.{ℕ_discrete, dec_lt}
 use lib.Dec.{ltb}
-use borrow.Author.Tests.{eq-eqb, ne_eqb, ltb-true, lt-ltb, le-ltb}
+use Rattle.std.proofs.Common.{Option, Some, None, IfSome, MatchOption}
+use Rattle.std.specs.Option.{unwrap_or}
+use borrow.Author.Tests.{eq-eqb, ne_eqb, ltb-true, lt-ltb}
 use Rattle.text.specs.Lists.{same}
 use Rattle.list.specs.Listing.{Listing, row_at, size, Child, child, next_due}
 use Rattle.list.specs.tables.Table.{cell, name_in, list_of}
@@ -35,7 +37,7 @@ module _ (t pool n : List ℕ) (k r : ℕ) where
   unfolding along
   along_on h e = rw (ne_eqb r 0 h, e) refl
 
--- the same for a loop that counts down
+-- the same for a loop that has looked at i rows of 255
 module _ (t pool n : List ℕ) (k r : ℕ) (some : 0 < k) where
   one_more : k ≡ suc (k - 1)
   one_more = omega arith
@@ -49,22 +51,23 @@ module _ (t pool n : List ℕ) (k r : ℕ) (some : 0 < k) where
   pub stop_here : (r ≡ 0 → ⊥) → same (name_in t pool r) n ≡ true → r ≡ along t pool n k r
   stop_here h e = sym (count ∙ along_here t pool n (k - 1) r h e)
 
-  pub go_on : (r ≡ 0 → ⊥) → same (name_in t pool r) n ≡ false → along t pool n (k - 1) (cell t r 10) ≡ along t pool n k r
-  go_on h e = sym (count ∙ along_on t pool n (k - 1) r h e)
+module _ (t pool n : List ℕ) (r i : ℕ) (some : i < 255) where
+  pub go_on : (r ≡ 0 → ⊥) → same (name_in t pool r) n ≡ false → along t pool n (255 - (i + 1)) (cell t r 10) ≡ along t pool n (255 - i) r
+  go_on h e =
+      let one_less : 255 - i ≡ suc (255 - (i + 1)) = omega arith in
+      sym (ap (λ m. along t pool n m r) one_less ∙ along_on t pool n (255 - (i + 1)) r h e)
 
 pub stop_end : (t pool n : List ℕ) (k r : ℕ) → k ≡ 0 → 0 ≡ along t pool n k r
 unfolding along
 stop_end t pool n k r e = rw e refl
 
--- and for the two searches of `child`
-module _ (t pool n : List ℕ) (p last r : ℕ) (e : r ≡ along t pool n 255 last) where
-  pub from_last : 0 < r → r ≡ child_along t pool p last n
+-- and for the two searches of `child`: a is what the first finds, o what either does
+module _ (t pool n : List ℕ) (p last : ℕ) where
+  pub child_by : (a o : Option ℕ) (r : ℕ) → unwrap_or a 0 ≡ along t pool n 255 last → IfSome a (λ x. 0 < x)
+      → MatchOption a (unwrap_or o 0 ≡ along t pool n 255 (cell t p 9)) (λ x. o ≡ Some x) → r ≡ unwrap_or o 0 → r ≡ child_along t pool p last n
   unfolding child_along
-  from_last h = rw (lt-ltb 0 (along t pool n 255 last) (omega arith)) e
-
-  pub from_first : r ≤ 0 → along t pool n 255 (cell t p 9) ≡ child_along t pool p last n
-  unfolding child_along
-  from_first h = rw (le-ltb 0 (along t pool n 255 last) (omega arith)) refl
+  child_by None o r e h m f = rw (← e) (f ∙ m)
+  child_by (Some x) o r e h m f = rw (← e, lt-ltb 0 x h) (f ∙ ap (λ (y : Option ℕ). unwrap_or y 0) m)
 
 -- ---- under soundness
 

@@ -1,6 +1,5 @@
 -- A mirror: how the lookups go over the two tables. Assumes nothing.
-use Rattle.std.specs.Prelude.{Bool, cond, not, List, ℕ, zero, suc, eqb, ltb}
-use Prim.Native.Char.{code}
+use Rattle.std.specs.Prelude.{cond, List, ℕ, zero, suc, eqb, ltb}
 use Rattle.text.specs.Lists.{same}
 use Rattle.list.specs.tables.Columns.{CHILD, SIBLING, DUE-CHILD, DUE-SIBLING}
 use Rattle.list.specs.tables.Table.{cell, name_in}
@@ -8,10 +7,6 @@ use Rattle.list.specs.tables.Table.{cell, name_in}
 -- the lowest required child of p above q, which is 0 or a child of p
 unfoldable pub due_after : List ℕ → ℕ → ℕ → ℕ
 due_after t p q = cond (eqb q 0) (cell t p DUE-CHILD) (cell t q DUE-SIBLING)
-
--- what a word of an ENUM goes on with
-unfoldable pub not_space : ℕ → Bool
-not_space x = not (eqb x (code " "))
 
 -- the first row called n among r and the siblings after it, of which at most k are looked at; 0 where there is none
 unfoldable pub along : List ℕ → List ℕ → List ℕ → ℕ → ℕ → ℕ

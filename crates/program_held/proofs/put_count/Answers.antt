@@ -2,9 +2,8 @@
 use Rattle.program_held.proofs.Holding.{counted, counted_most}
 use Rattle.program_held.proofs.put_count.Goals as goal
 
-pub returns : goal.returns
-returns c =
-    let p = c.put_answer in
-    let f = c.put64.ensures in
-    let q = c.part_of.ensures in
-    record { put = counted c.args.a c.args.count _ f _ q _ _ _ p.ensures.put; most = counted_most c.args.a c.args.count _ f _ q p.ensures.most }
+pub returns-clause-put : goal.returns-clause-put
+returns-clause-put c = counted c.args.a c.args.count c.to_be_bytes-bytes.ensures c.put_answer.ensures.put
+
+pub returns-clause-most : goal.returns-clause-most
+returns-clause-most c = counted_most c.args.a c.args.count c.to_be_bytes-bytes.ensures c.put_answer.ensures.most

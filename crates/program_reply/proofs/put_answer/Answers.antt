@@ -1,23 +1,24 @@
 -- `program_reply::put_answer` meets its contract: the line whole, or nothing. Assumes nothing.
 use native.Mathlib.Omega.{arith}
-use Rattle.program_reply.specs.Reply.{answer_line}
 use Rattle.program_reply.proofs.Replies.{length_answer, answer_most, put_whole, put_none}
 use Rattle.program_reply.proofs.put_answer.Goals as goal
+use Rattle.program_reply.proofs.put_answer.Goals.{then-out-n-via-then-out-n, then-out-n-via-else-out-n+then-out-n-2}
 
-pub returns-then-out-n : goal.returns-then-out-n
-returns-then-out-n c =
-    let p = c.args.s.now in
-    record { put = put_none (answer_line c.args.a p) c.args.out.now (omega (arith, c.put_numbers-n.ensures.0, length_answer c.args.a p)); most = answer_most c.args.a p (omega (arith, c.put_numbers-n.ensures.0, c.put_numbers-n.ensures.1.0)) }
+pub returns-then-out-n-clause-put : goal.returns-then-out-n-clause-put
+returns-then-out-n-clause-put c =
+    let l = length_answer c.args.a c.args.s.now in
+    put_none _ _
+    (elim c.then-out-n.branch [ then-out-n-via-then-out-n w ↦ omega (arith, l, c.put_numbers-n.ensures.0) | then-out-n-via-else-out-n+then-out-n-2 w ↦ omega (arith, l, c.put_numbers-n.ensures.0) ])
 
-pub returns-then-out-n-2 : goal.returns-then-out-n-2
-returns-then-out-n-2 c =
-    let p = c.args.s.now in
-    record { put = put_none (answer_line c.args.a p) c.args.out.now (omega (arith, c.put_numbers-n.ensures.0, length_answer c.args.a p)); most = answer_most c.args.a p (omega (arith, c.put_numbers-n.ensures.0, c.put_numbers-n.ensures.1.0)) }
+pub returns-then-out-n-clause-most : goal.returns-then-out-n-clause-most
+returns-then-out-n-clause-most c = answer_most c.args.a c.args.s.now (omega (arith, c.put_numbers-n.ensures.0, c.put_numbers-n.ensures.1.0))
 
 pub spread_answer-requires : goal.spread_answer-requires
-spread_answer-requires c =
-    omega (arith, c.put_numbers-n.ensures.0, length_answer c.args.a c.args.s.now)
+spread_answer-requires c = omega (arith, length_answer c.args.a c.args.s.now, c.put_numbers-n.ensures.0)
 
-pub returns : goal.returns
-returns c =
-    let p = c.args.s.now in record { put = put_whole (answer_line c.args.a p) c.args.out.now c.spread_answer.result _ (omega (arith, c.put_numbers-n.ensures.0, length_answer c.args.a p)) c.spread_answer.ensures.0 c.spread_answer.ensures.1; most = answer_most c.args.a p (omega (arith, c.put_numbers-n.ensures.0, c.put_numbers-n.ensures.1.0)) }
+pub returns-clause-put : goal.returns-clause-put
+returns-clause-put c =
+    put_whole _ _ _ _ (omega (arith, length_answer c.args.a c.args.s.now, c.put_numbers-n.ensures.0)) c.spread_answer.ensures.0 c.spread_answer.ensures.1
+
+pub returns-clause-most : goal.returns-clause-most
+returns-clause-most c = answer_most c.args.a c.args.s.now (omega (arith, c.put_numbers-n.ensures.0, c.put_numbers-n.ensures.1.0))

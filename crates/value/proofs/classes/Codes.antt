@@ -1,5 +1,5 @@
 -- Account numbers and currencies, byte by byte. Assumes nothing.
-use mathlib.Core.Path.{◌≡◌, refl, sym, ◌∙◌, ap, subst}
+use mathlib.Core.Path.{◌≡◌, sym, ◌∙◌, ap, subst}
 use mathlib.Core.Bool.{Bool, true}
 use mathlib.Core.List.{List, [], ◌∷◌, ◌++◌}
 use Prim.Native.Nat.{ℕ, suc, ◌+◌, ◌≤◌, ◌<◌}
@@ -9,10 +9,11 @@ use lib.Seq.{take_at, drop_at, drop-drop, length-take-le}
 use borrow.Author.Tests.{lt-ltb, le-ltb}
 use Rattle.text.specs.Bytes.{is_capital, is_digit}
 use Rattle.text.specs.Lists.{Each, All}
-use Rattle.value.specs.types.Code.{Iban, Ccy, is_letter_or_digit}
+use Rattle.value.specs.types.Code.{Iban, is_letter_or_digit}
 use Rattle.value.specs.mirror.Layout.{iban_at}
 use Rattle.value.specs.Judged.{Exactly}
-use Rattle.value.proofs.classes.Loops.{From}
+use Rattle.std.specs.Prelude.{EachIndex}
+use Rattle.value.proofs.classes.Loops.{From, places_from, from_places}
 use Rattle.value.proofs.classes.Classes.{each_all, each_append}
 
 -- ---- the places of an account number
@@ -34,12 +35,6 @@ iban_least t w = w.lengths.0
 
 pub iban_most : (t : List ℕ) → Iban t → length t ≤ 34
 iban_most t w = w.lengths.1
-
-pub iban_short : (t : List ℕ) → Iban t → length t < 5 → ⊥
-iban_short t w h = omega (arith, iban_least t w)
-
-pub iban_long : (t : List ℕ) → Iban t → 34 < length t → ⊥
-iban_long t w h = omega (arith, iban_most t w)
 
 -- from the place i on, all of one class
 tail_from : (i : ℕ) (t : List ℕ) → 4 ≤ i → All is_letter_or_digit t → From iban_at i t
@@ -78,6 +73,9 @@ iban_to (a ∷ b ∷ c ∷ d ∷ t) h k f =
       digits = (sym (iban_check 2 c (omega arith) (omega arith)) ∙ f.1.1.0, (sym (iban_check 3 d (omega arith) (omega arith)) ∙ f.1.1.1.0, tt));
       class = tail_to 4 t (omega arith) f.1.1.1.1;
     }
+
+pub iban_exactly : (t : List ℕ) (r : Bool) → 5 ≤ length t → length t ≤ 34 → Exactly r (EachIndex t (λ i. iban_at i (get_or t i 0) ≡ true)) → Exactly r (Iban t)
+iban_exactly t r h k e = (λ y. iban_to t h k (places_from iban_at t (e.0 y)), λ w. e.1 (from_places iban_at t (iban_from t w)))
 
 -- ---- an account number by its three parts: the same, both ways
 pub record Account (cs : List ℕ) : Type 0 where
@@ -120,29 +118,3 @@ module _ (t : List ℕ) (i : Account t) where
     digits = subst (All is_digit) (sym (ap (take 2) behind ∙ take_at i.check i.rest 2 i.digits.0)) i.digits.1;
     class = subst (All is_letter_or_digit) (sym tail) i.class;
   }
-
--- ---- the three letters of a currency
-pub ccy_first : (t : List ℕ) → Ccy t → is_capital (get_or t 0 0) ≡ true
-ccy_first [] w = absurd (omega (arith, w.three))
-ccy_first (a ∷ t) w = w.capitals.0
-
-pub ccy_second : (t : List ℕ) → Ccy t → is_capital (get_or t 1 0) ≡ true
-ccy_second [] w = absurd (omega (arith, w.three))
-ccy_second (a ∷ []) w = absurd (omega (arith, w.three))
-ccy_second (a ∷ b ∷ t) w = w.capitals.1.0
-
-ccy_third : (t : List ℕ) → Ccy t → is_capital (get_or t 2 0) ≡ true
-ccy_third [] w = absurd (omega (arith, w.three))
-ccy_third (a ∷ []) w = absurd (omega (arith, w.three))
-ccy_third (a ∷ b ∷ []) w = absurd (omega (arith, w.three))
-ccy_third (a ∷ b ∷ c ∷ t) w = w.capitals.1.1.0
-
-pub ccy_make : (t : List ℕ) → length t ≡ 3 → is_capital (get_or t 0 0) ≡ true → is_capital (get_or t 1 0) ≡ true → is_capital (get_or t 2 0) ≡ true → Ccy t
-ccy_make (a ∷ b ∷ c ∷ []) h p q r = record { three = refl; capitals = (p, (q, (r, tt))) }
-ccy_make [] h p q r = absurd (omega arith)
-ccy_make (a ∷ []) h p q r = absurd (omega arith)
-ccy_make (a ∷ b ∷ []) h p q r = absurd (omega arith)
-ccy_make (a ∷ b ∷ c ∷ d ∷ t) h p q r = absurd (omega arith)
-
-pub ccy_last : (t : List ℕ) (r : Bool) → length t ≡ 3 → is_capital (get_or t 0 0) ≡ true → is_capital (get_or t 1 0) ≡ true → r ≡ is_capital (get_or t 2 0) → Exactly r (Ccy t)
-ccy_last t r h p q e = (λ y. ccy_make t h p q (sym e ∙ y), λ w. e ∙ ccy_third t w)

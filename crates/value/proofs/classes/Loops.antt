@@ -1,8 +1,10 @@
 -- A loop that tests every byte, by a class that may depend on its place. Assumes nothing.
-use mathlib.Core.Path.{◌≡◌, refl, sym, ◌∙◌, subst}
+use mathlib.Core.Path.{◌≡◌, refl, sym, ◌∙◌, ap, subst}
 use mathlib.Core.Bool.{Bool, true, false, true≢false}
 use mathlib.Core.List.{List, [], ◌∷◌}
-use Prim.Native.Nat.{ℕ, suc, ◌+◌, ◌≤◌, ◌<◌, zero-le}
+use Prim.Native.Nat.{ℕ, zero, suc, ◌+◌, ◌≤◌, ◌<◌, zero-le, suc-le-suc}
+use native.Mathlib.Omega.{arith}
+use Rattle.std.specs.Prelude.{EachIndex}
 use native.Mathlib.Numerals.{add-one}
 use lib.ListN.{length, drop, get_or, drop_of_length-le}
 use lib.Seq.{drop-cons}
@@ -39,6 +41,25 @@ module _ (p : ℕ → ℕ → Bool) where
 
     pub run_end : length t ≤ i → From 0 t
     run_end h = w.to (subst (From i) (sym (drop_of_length-le t h)) tt)
+
+  -- the same by the places
+  from_each : (i : ℕ) (t : List ℕ) → EachIndex t (λ j. p (i + j) (get_or t j 0) ≡ true) → From i t
+  from_each i [] f = tt
+  from_each i (x ∷ t) f = (
+    ap (λ (k : ℕ). p k x) (let e : i ≡ i + 0 = omega arith in e) ∙ f 0 (omega arith),
+    from_each (suc i) t (λ j h. ap (λ (k : ℕ). p k (get_or t j 0)) (let e : suc i + j ≡ i + suc j = omega arith in e) ∙ f (suc j) (suc-le-suc h)),
+  )
+
+  each_from : (i : ℕ) (t : List ℕ) → From i t → EachIndex t (λ j. p (i + j) (get_or t j 0) ≡ true)
+  each_from i [] f j h = absurd (omega arith)
+  each_from i (x ∷ t) f zero h = ap (λ (k : ℕ). p k x) (let e : i + 0 ≡ i = omega arith in e) ∙ f.0
+  each_from i (x ∷ t) f (suc j) h = ap (λ (k : ℕ). p k (get_or t j 0)) (let e : i + suc j ≡ suc i + j = omega arith in e) ∙ each_from (suc i) t f.1 j (omega arith)
+
+  pub places_from : (t : List ℕ) → EachIndex t (λ j. p j (get_or t j 0) ≡ true) → From 0 t
+  places_from t f = from_each 0 t (λ j h. ap (λ (k : ℕ). p k (get_or t j 0)) (let e : 0 + j ≡ j = omega arith in e) ∙ f j h)
+
+  pub from_places : (t : List ℕ) → From 0 t → EachIndex t (λ j. p j (get_or t j 0) ≡ true)
+  from_places t f j h = ap (λ (k : ℕ). p k (get_or t j 0)) (let e : j ≡ 0 + j = omega arith in e) ∙ each_from 0 t f j h
 
 -- one class for every place
 pub to_all : (p : ℕ → Bool) (i : ℕ) (t : List ℕ) → From (λ _ x. p x) i t → All p t

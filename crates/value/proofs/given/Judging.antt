@@ -18,9 +18,11 @@ use Rattle.text_characters.proofs.Spelling.{one_text}
 use Rattle.list.specs.Listing.{Leaf, ref, iban, ccy, bool, num, amt, date, dtm, txt, enum}
 use Rattle.value.specs.types.Code.{Ccy}
 use Rattle.value.specs.Kind.{code, Given}
-use Rattle.value.specs.Judged.{Means, Right, Checked, moment_value}
-use Rattle.value.specs.Value.{Value, text, truth, natural, amount, day, bytes}
+use Rattle.value.specs.Judged.{Means, Right, Checked, day_value, moment_value}
+use Rattle.value.specs.Value.{Value, text, truth, natural, amount, bytes}
+use Rattle.std.specs.Prelude.{Option, Some, None, is_some}
 use Rattle.value.specs.declared.judged.Judged.{Judged}
+use Rattle.value.specs.declared.judged.Day as D
 use Rattle.value.specs.declared.judged.Moment as M
 use Rattle.value.specs.declared.judged.Judged.TheVariants as J
 use Rattle.value.specs.given.Giving.{Counted, Told, Gives, some, none, Long, Sized, Written}
@@ -77,64 +79,55 @@ module _ (kind k : ℕ) where
 
 -- ---- what was judged to be a value is one
 
-abbrev pub is_refused : Judged → Bool
-is_refused J.Refused = true
-is_refused (J.Text n) = false
-is_refused (J.Truth b) = false
-is_refused (J.Natural n) = false
-is_refused (J.Amount c k) = false
-is_refused (J.Day y m d) = false
-is_refused (J.Moment m) = false
-
-record Seen (kind k : ℕ) (w s : List ℕ) (r : Judged) : Type 0 where
+record Seen (kind k : ℕ) (w s : List ℕ) (r : Option Judged) : Type 0 where
   value : Value
   told : Told kind k w s value
   means : Means w told.chars r value
 
-module _ (kind k : ℕ) (s : List ℕ) (r : Judged) (c : Checked kind k s r) where
-  seen : is_refused r ≡ false → (w : List ℕ) → Ccy w → Seen kind k w s r
+module _ (kind k : ℕ) (s : List ℕ) (r : Option Judged) (c : Checked kind k s r) where
+  seen : is_some r ≡ true → (w : List ℕ) → Ccy w → Seen kind k w s r
   seen ne w cw = go (known kind k)
     where
       of : (n : Known kind k) → Right n.leaf w s r → Seen kind k w s r
       of n (Right.accepted cs v sp st m) = record { value = v; told = record { leaf = n.leaf; number = n.number; other = n.other; given = n.given; chars = cs; spells = sp; spelt = st }; means = m }
-      of n (Right.refused e f) = absurd (true≢false (sym (ap is_refused e) ∙ ne))
+      of n (Right.refused e f) = absurd (true≢false (sym ne ∙ ap is_some e))
 
       go : Known kind k ⊎ ((l : Leaf) → code l ≡ kind → kind ≢ 6 → ⊥) → Seen kind k w s r
       go (inl n) = of n (c.known n.leaf n.number n.other n.given w cw)
-      go (inr f) = absurd (true≢false (sym (ap is_refused (c.unknown f)) ∙ ne))
+      go (inr f) = absurd (true≢false (sym ne ∙ ap is_some (c.unknown f)))
 
   retold : (w u : List ℕ) (v : Value) → is_amount v ≡ false → Told kind k w s v → Told kind k u s v
   retold w u v a t = record { leaf = t.leaf; number = t.number; other = t.other; given = t.given; chars = t.chars; spells = t.spells; spelt = spelt_any t.leaf w u t.chars v (other_code t.leaf w t.chars v t.spelt a) t.spelt }
 
   -- a value that is neither text nor amount
-  pub gives_of : is_refused r ≡ false → (v : Value) → is_amount v ≡ false → Counted v → ((w cs : List ℕ) (x : Value) → Means w cs r x → x ≡ v)
+  pub gives_of : is_some r ≡ true → (v : Value) → is_amount v ≡ false → Counted v → ((w cs : List ℕ) (x : Value) → Means w cs r x → x ≡ v)
       → (cur : List ℕ) → Gives kind k cur s (bytes v)
   gives_of ne v a n f cur =
       let x = seen ne euro euro_is in
       some v (retold euro cur v a (subst (Told kind k euro s) (f euro x.told.chars x.value x.means) x.told)) n refl
 
 module _ (kind k : ℕ) (s : List ℕ) where
-  no_value : Checked kind k s J.Refused → (w : List ℕ) → Ccy w → (v : Value) → Told kind k w s v → ⊥
+  no_value : Checked kind k s None → (w : List ℕ) → Ccy w → (v : Value) → Told kind k w s v → ⊥
   no_value c w cw v t = go (c.known t.leaf t.number t.other t.given w cw)
     where
-      go : Right t.leaf w s J.Refused → ⊥
+      go : Right t.leaf w s None → ⊥
       go (Right.accepted cs x sp st m) = m
       go (Right.refused e f) = f t.chars v t.spells t.spelt
 
-  pub gives_none : (r : Judged) → Checked kind k s r → r ≡ J.Refused → (cur : List ℕ) → Gives kind k cur s []
+  pub gives_none : (r : Option Judged) → Checked kind k s r → r ≡ None → (cur : List ℕ) → Gives kind k cur s []
   gives_none r c e cur = none (λ v t n. go v t (is_amount v) refl) refl
     where
-      q : Checked kind k s J.Refused
+      q : Checked kind k s None
       q = subst (Checked kind k s) e c
 
       go : (v : Value) → Told kind k cur s v → (b : Bool) → is_amount v ≡ b → ⊥
       go v t true a = no_value q cur (spelt_money t.leaf cur t.chars v (amount_code t.leaf cur t.chars v t.spelt a) t.spelt) v t
-      go v t false a = no_value q euro euro_is v (retold kind k s J.Refused q cur euro v a t)
+      go v t false a = no_value q euro euro_is v (retold kind k s None q cur euro v a t)
 
   -- a text
-  module _ (n : ℕ) (r : Judged) (c : Checked kind k s r) (e : r ≡ J.Text n) where
-    see : Seen kind k euro s (J.Text n)
-    see = seen kind k s (J.Text n) (subst (Checked kind k s) e c) refl euro euro_is
+  module _ (n : ℕ) (r : Option Judged) (c : Checked kind k s r) (e : r ≡ Some (J.Text n)) where
+    see : Seen kind k euro s (Some (J.Text n))
+    see = seen kind k s (Some (J.Text n)) (subst (Checked kind k s) e c) refl euro euro_is
 
     pub counts_of : Counts s n
     counts_of = record { chars = see.told.chars; spells = see.told.spells; count = see.means.1 }
@@ -187,10 +180,10 @@ module _ (kind k : ℕ) (s : List ℕ) where
             record { found = []; gives = text_over (omega arith) cur; count = x.count ∙ ap length y; is = x.is ∙ ap (pasted d at) y }
 
   -- an amount
-  module _ (coefficient scale : ℕ) (r : Judged) (c : Checked kind k s r) (e : r ≡ J.Amount coefficient scale) where
+  module _ (coefficient scale : ℕ) (r : Option Judged) (c : Checked kind k s r) (e : r ≡ Some (J.Amount coefficient scale)) where
     money : (w : List ℕ) → Ccy w → Told kind k w s (amount w scale coefficient)
     money w cw =
-        let x = seen kind k s (J.Amount coefficient scale) (subst (Checked kind k s) e c) refl w cw in
+        let x = seen kind k s (Some (J.Amount coefficient scale)) (subst (Checked kind k s) e c) refl w cw in
         subst (Told kind k w s) x.means x.told
 
     amount_rich : (cur : List ℕ) → Ccy cur → Gives kind k cur s (bytes (amount cur scale coefficient))
@@ -212,22 +205,22 @@ module _ (kind k : ℕ) (s : List ℕ) where
     amount_written cur d at q d' (poor f x) = record { found = []; gives = amount_poor cur f; count = x.count; is = x.is }
 
   -- the others
-  module _ (r : Judged) (c : Checked kind k s r) where
-    of_value : (x : Judged) → r ≡ x → is_refused x ≡ false → (v : Value) → is_amount v ≡ false → Counted v → ((w cs : List ℕ) (y : Value) → Means w cs x y → y ≡ v)
+  module _ (r : Option Judged) (c : Checked kind k s r) where
+    of_value : (x : Option Judged) → r ≡ x → is_some x ≡ true → (v : Value) → is_amount v ≡ false → Counted v → ((w cs : List ℕ) (y : Value) → Means w cs x y → y ≡ v)
         → (cur : List ℕ) → Gives kind k cur s (bytes v)
     of_value x e = gives_of kind k s x (subst (Checked kind k s) e c)
 
-    pub truth_gives : (b : Bool) → r ≡ J.Truth b → (cur : List ℕ) → Gives kind k cur s (bytes (truth b))
-    truth_gives b e = of_value (J.Truth b) e refl (truth b) refl tt (λ w cs y m. m)
+    pub truth_gives : (b : Bool) → r ≡ Some (J.Truth b) → (cur : List ℕ) → Gives kind k cur s (bytes (truth b))
+    truth_gives b e = of_value (Some (J.Truth b)) e refl (truth b) refl tt (λ w cs y m. m)
 
-    pub natural_gives : (n : ℕ) → r ≡ J.Natural n → (cur : List ℕ) → Gives kind k cur s (bytes (natural n))
-    natural_gives n e = of_value (J.Natural n) e refl (natural n) refl tt (λ w cs y m. m)
+    pub natural_gives : (n : ℕ) → r ≡ Some (J.Natural n) → (cur : List ℕ) → Gives kind k cur s (bytes (natural n))
+    natural_gives n e = of_value (Some (J.Natural n)) e refl (natural n) refl tt (λ w cs y m. m)
 
-    pub day_gives : (y m d : ℕ) → r ≡ J.Day y m d → (cur : List ℕ) → Gives kind k cur s (bytes (day y m d))
-    day_gives y m d e = of_value (J.Day y m d) e refl (day y m d) refl tt (λ w cs x q. q)
+    pub day_gives : (d : D.Day) → r ≡ Some (J.Day d) → (cur : List ℕ) → Gives kind k cur s (bytes (day_value d))
+    day_gives d e = of_value (Some (J.Day d)) e refl (day_value d) refl tt (λ w cs x q. q)
 
-    pub moment_gives : (m : M.Moment) → r ≡ J.Moment m → (cur : List ℕ) → Gives kind k cur s (bytes (moment_value m))
-    moment_gives m e = of_value (J.Moment m) e refl (moment_value m) refl tt (λ w cs x q. q)
+    pub moment_gives : (m : M.Moment) → r ≡ Some (J.Moment m) → (cur : List ℕ) → Gives kind k cur s (bytes (moment_value m))
+    moment_gives m e = of_value (Some (J.Moment m)) e refl (moment_value m) refl tt (λ w cs x q. q)
 
   pub sized : (bs : List ℕ) (r : ℕ) → ((cur : List ℕ) → Gives kind k cur s bs) → r ≡ length bs → Sized kind k s r
   sized bs r g e w cw = record { found = bs; gives = g w; count = e }

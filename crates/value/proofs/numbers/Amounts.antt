@@ -13,6 +13,7 @@ use lib.Seq.{drop-cons}
 use borrow.Author.Tests.{le-leb, lt-leb, lt-ltb, le-ltb, eq-eqb, ne_eqb, eqb-true, eqb-false, leb-true, leb-false, ltb-true, ltb-false}
 use Rattle.text.specs.Bytes.{is_digit}
 use Rattle.list.specs.Listing.{amt}
+use Rattle.std.specs.Prelude.{Option, Some, None}
 use Rattle.value.specs.declared.judged.Judged.{Judged}
 use Rattle.value.specs.declared.judged.Judged.TheVariants as J
 use Rattle.value.specs.parts.Numeral.{Sign, unsigned, plus, minus, Price}
@@ -23,23 +24,23 @@ use Rattle.value.specs.mirror.Reading.{Found, bad, found, frac_of, whole_of, poi
 use Rattle.value.proofs.numbers.Decimals.{is_minus, complete, sound}
 
 -- ---- what is answered
-pub answer_bad : answer bad ≡ J.Refused
+pub answer_bad : answer bad ≡ None
 unfolding answer
 answer_bad = refl
 
-pub answer_good : (n : Bool) (c k : ℕ) → c < 10 ^ 18 → k ≤ 5 → answer (found n c k) ≡ cond (n && not (eqb c 0)) J.Refused (J.Amount c k)
+pub answer_good : (n : Bool) (c k : ℕ) → c < 10 ^ 18 → k ≤ 5 → answer (found n c k) ≡ cond (n && not (eqb c 0)) None (Some (J.Amount c k))
 unfolding answer
 answer_good n c k h j = rw (le-leb k 5 j, lt-ltb c (10 ^ 18) h)
 
 abbrev pub Over : ℕ → ℕ → Type 0
 Over c k = (10 ^ 18 ≤ c) ⊎ (5 < k)
 
-answer_over : (n : Bool) (c k : ℕ) → Over c k → answer (found n c k) ≡ J.Refused
+answer_over : (n : Bool) (c k : ℕ) → Over c k → answer (found n c k) ≡ None
 unfolding answer
 answer_over n c k (inr h) = rw (lt-leb k 5 h)
 answer_over n c k (inl h) = go (leb k 5)
   where
-    go : (u : Bool) → cond u (cond (ltb c (10 ^ 18)) (cond (n && not (eqb c 0)) J.Refused (J.Amount c k)) J.Refused) J.Refused ≡ J.Refused
+    go : (u : Bool) → cond u (cond (ltb c (10 ^ 18)) (cond (n && not (eqb c 0)) None (Some (J.Amount c k))) None) None ≡ None
     go true = rw (le-ltb c (10 ^ 18) h)
     go false = refl
 
@@ -47,25 +48,25 @@ grown : (c k c' k' : ℕ) → Over c k → c ≤ c' → k ≤ k' → Over c' k'
 grown c k c' k' (inl h) p q = inl (omega arith)
 grown c k c' k' (inr h) p q = inr (omega arith)
 
-frac_over : (n : Bool) (a f c k : ℕ) (t : List ℕ) → Over c k → c ≤ a → k ≤ f → answer (frac_of n a f c k t) ≡ J.Refused
+frac_over : (n : Bool) (a f c k : ℕ) (t : List ℕ) → Over c k → c ≤ a → k ≤ f → answer (frac_of n a f c k t) ≡ None
 unfolding frac_of
 frac_over n a f c k [] h p q = answer_over n c k h
 frac_over n a f c k (x ∷ t) h p q =
     go (is_digit x) (eqb x 48) (frac_over n (a * 10) (suc f) c k t h (omega arith) (omega arith))
     (frac_over n (a * 10 + (x - 48)) (suc f) (a * 10 + (x - 48)) (suc f) t (grown c k (a * 10 + (x - 48)) (suc f) h (omega arith) (omega arith)) (omega arith) (omega arith))
   where
-    go : (u v : Bool) → answer (frac_of n (a * 10) (suc f) c k t) ≡ J.Refused → answer (frac_of n (a * 10 + (x - 48)) (suc f) (a * 10 + (x - 48)) (suc f) t) ≡ J.Refused
-        → answer (cond u (cond v (frac_of n (a * 10) (suc f) c k t) (frac_of n (a * 10 + (x - 48)) (suc f) (a * 10 + (x - 48)) (suc f) t)) bad) ≡ J.Refused
+    go : (u v : Bool) → answer (frac_of n (a * 10) (suc f) c k t) ≡ None → answer (frac_of n (a * 10 + (x - 48)) (suc f) (a * 10 + (x - 48)) (suc f) t) ≡ None
+        → answer (cond u (cond v (frac_of n (a * 10) (suc f) c k t) (frac_of n (a * 10 + (x - 48)) (suc f) (a * 10 + (x - 48)) (suc f) t)) bad) ≡ None
     go true true i j = i
     go true false i j = j
     go false v i j = answer_bad
 
-whole_over : (n : Bool) (a : ℕ) (t : List ℕ) → 10 ^ 18 ≤ a → answer (whole_of n a t) ≡ J.Refused
+whole_over : (n : Bool) (a : ℕ) (t : List ℕ) → 10 ^ 18 ≤ a → answer (whole_of n a t) ≡ None
 unfolding whole_of
 whole_over n a [] h = answer_over n a 0 (inl h)
 whole_over n a (x ∷ t) h = go (is_digit x) (eqb x 46) (whole_over n (a * 10 + (x - 48)) t (omega arith))
   where
-    go : (u v : Bool) → answer (whole_of n (a * 10 + (x - 48)) t) ≡ J.Refused → answer (cond u (whole_of n (a * 10 + (x - 48)) t) (cond v (frac_of n a 0 a 0 t) bad)) ≡ J.Refused
+    go : (u v : Bool) → answer (whole_of n (a * 10 + (x - 48)) t) ≡ None → answer (cond u (whole_of n (a * 10 + (x - 48)) t) (cond v (frac_of n a 0 a 0 t) bad)) ≡ None
     go true v i = i
     go false true i = frac_over n a 0 a 0 t (inl h) (omega arith) (omega arith)
     go false false i = answer_bad
@@ -115,46 +116,66 @@ module _ (s : List ℕ) (i : ℕ) (n : Bool) where
   unfolding whole_of
   whole_go a d h e q = rw (q, add-one i, drop-cons s i 0, e)
 
-  pub signed_end : length s ≤ i → signed_of n (drop i s) ≡ bad
+-- ---- by the first byte of a text
+pub signed_end : (n : Bool) (t : List ℕ) → length t ≡ 0 → signed_of n t ≡ bad
+unfolding signed_of
+signed_end n [] h = refl
+signed_end n (x ∷ t) h = absurd (omega arith)
+
+pub point_end : (n : Bool) (t : List ℕ) → length t ≡ 0 → point_of n t ≡ bad
+unfolding point_of
+point_end n [] h = refl
+point_end n (x ∷ t) h = absurd (omega arith)
+
+pub point_frac : (n : Bool) (t : List ℕ) → length t ≢ 0 → point_of n t ≡ frac_of n 0 0 0 0 t
+unfolding point_of
+point_frac n [] h = absurd (h refl)
+point_frac n (x ∷ t) h = refl
+
+module _ (n : Bool) (x : ℕ) (u : List ℕ) where
+  whole_first : is_digit x ≡ true → signed_of n (x ∷ u) ≡ whole_of n 0 (x ∷ u)
   unfolding signed_of
-  signed_end h = rw (drop_of_length-le s h)
+  whole_first h = rw h
 
-  pub signed_whole : i < length s → is_digit (get_or s i 0) ≡ true → signed_of n (drop i s) ≡ whole_of n 0 (drop i s)
+  stop_first : is_digit x ≡ false → x ≢ 46 → signed_of n (x ∷ u) ≡ bad
   unfolding signed_of
-  signed_whole h e = rw (drop-cons s i 0, e)
+  stop_first h q = rw (h, ne_eqb x 46 q)
 
-  pub signed_stop : i < length s → is_digit (get_or s i 0) ≡ false → get_or s i 0 ≢ 46 → signed_of n (drop i s) ≡ bad
+  point_first : is_digit x ≡ false → x ≡ 46 → signed_of n (x ∷ u) ≡ point_of n u
   unfolding signed_of
-  signed_stop h e q = rw (drop-cons s i 0, e, ne_eqb (get_or s i 0) 46 q)
+  point_first h q = rw (h, eq-eqb x 46 q)
 
-  pub signed_point : i < length s → is_digit (get_or s i 0) ≡ false → get_or s i 0 ≡ 46 → signed_of n (drop i s) ≡ point_of n (drop (i + 1) s)
-  unfolding signed_of
-  signed_point h e q = rw (add-one i, drop-cons s i 0, e, eq-eqb (get_or s i 0) 46 q)
-
-  pub point_end : length s ≤ i → point_of n (drop i s) ≡ bad
-  unfolding point_of
-  point_end h = rw (drop_of_length-le s h)
-
-  pub point_frac : i < length s → point_of n (drop i s) ≡ frac_of n 0 0 0 0 (drop i s)
-  unfolding point_of
-  point_frac h = rw (drop-cons s i 0)
-
-module _ (s : List ℕ) where
-  pub read_end : length s ≤ 0 → read_of s ≡ bad
+  plus_first : x ≡ 43 → read_of (x ∷ u) ≡ signed_of false u
   unfolding read_of
-  read_end h = ap read_of (drop_of_length-le s {i = 0} h)
+  plus_first h = rw h
 
-  pub read_plus : 0 < length s → get_or s 0 0 ≡ 43 → read_of s ≡ signed_of false (drop 1 s)
+  minus_first : x ≡ 45 → read_of (x ∷ u) ≡ signed_of true u
   unfolding read_of
-  read_plus h e = ap read_of (drop-cons s 0 0 h) ∙ rw e
+  minus_first h = rw h
 
-  pub read_minus : 0 < length s → get_or s 0 0 ≡ 45 → read_of s ≡ signed_of true (drop 1 s)
+  bare_first : x ≢ 43 → x ≢ 45 → read_of (x ∷ u) ≡ signed_of false (x ∷ u)
   unfolding read_of
-  read_minus h e = ap read_of (drop-cons s 0 0 h) ∙ rw e
+  bare_first p q = rw (ne_eqb x 43 p, ne_eqb x 45 q)
 
-  pub read_bare : 0 < length s → get_or s 0 0 ≢ 43 → get_or s 0 0 ≢ 45 → read_of s ≡ signed_of false s
-  unfolding read_of
-  read_bare h p q = ap read_of (drop-cons s 0 0 h) ∙ rw (ne_eqb (get_or s 0 0) 43 p, ne_eqb (get_or s 0 0) 45 q) (ap (signed_of false) (sym (drop-cons s 0 0 h)))
+  module _ (t : List ℕ) (e : t ≡ x ∷ u) where
+    pub signed_whole : is_digit x ≡ true → signed_of n t ≡ whole_of n 0 t
+    signed_whole h = subst (λ (l : List ℕ). signed_of n l ≡ whole_of n 0 l) (sym e) (whole_first h)
+
+    pub signed_stop : is_digit x ≡ false → x ≢ 46 → signed_of n t ≡ bad
+    signed_stop h q = ap (signed_of n) e ∙ stop_first h q
+
+    pub signed_point : is_digit x ≡ false → x ≡ 46 → signed_of n t ≡ point_of n u
+    signed_point h q = ap (signed_of n) e ∙ point_first h q
+
+module _ (x : ℕ) (u t : List ℕ) (e : t ≡ x ∷ u) where
+  pub read_plus : x ≡ 43 → read_of t ≡ signed_of false u
+  read_plus h = ap read_of e ∙ plus_first false x u h
+
+  pub read_minus : x ≡ 45 → read_of t ≡ signed_of true u
+  read_minus h = ap read_of e ∙ minus_first false x u h
+
+  pub read_bare : x ≢ 43 → x ≢ 45 → read_of t ≡ signed_of false t
+  read_bare p q = subst (λ (l : List ℕ). read_of l ≡ signed_of false l) (sym e) (bare_first false x u p q)
 
 -- ---- an answer so read is right
 is_minus_lem : (g : Sign) → is_minus g ≡ true → g ≡ minus
@@ -183,14 +204,14 @@ module _ (t : List ℕ) (n : Bool) (c k : ℕ) (e : read_of t ≡ found n c k) w
   unfolding answer
   right_found w cw = by (leb k 5) (ltb c (10 ^ 18)) n (eqb c 0) refl refl refl refl
     where
-      no : ((n' : Bool) → n ≡ n' → k ≤ 5 → c < 10 ^ 18 → (n' ≡ true → c ≡ 0) → ⊥) → Formed amt w t J.Refused
+      no : ((n' : Bool) → n ≡ n' → k ≤ 5 → c < 10 ^ 18 → (n' ≡ true → c ≡ 0) → ⊥) → Formed amt w t None
       no f = formless refl (refuse w t (other f))
 
-      ok : Price t c k → Formed amt w t (J.Amount c k)
+      ok : Price t c k → Formed amt w t (Some (J.Amount c k))
       ok a = formed _ (Form.money cw a) refl
 
       by : (u v m z : Bool) → leb k 5 ≡ u → ltb c (10 ^ 18) ≡ v → n ≡ m → eqb c 0 ≡ z
-          → Formed amt w t (cond u (cond v (cond (m && not z) J.Refused (J.Amount c k)) J.Refused) J.Refused)
+          → Formed amt w t (cond u (cond v (cond (m && not z) None (Some (J.Amount c k))) None) None)
       by false v m z p q r y = no (λ n' o h j f. let x = leb-false k 5 p in omega arith)
       by true false m z p q r y = no (λ n' o h j f. let x = ltb-false c (10 ^ 18) q in omega arith)
       by true true false z p q r y = ok (good (leb-true k 5 p) (ltb-true c (10 ^ 18) q) (λ m. absurd (true≢false (sym m ∙ r))))
@@ -210,13 +231,13 @@ sign_fits unsigned c f = refl
 sign_fits plus c f = refl
 sign_fits minus c f = rw (eq-eqb c 0 (f refl))
 
-pub answer_of : (t : List ℕ) (c k : ℕ) → Price t c k → answer (read_of t) ≡ J.Amount c k
+pub answer_of : (t : List ℕ) (c k : ℕ) → Price t c k → answer (read_of t) ≡ Some (J.Amount c k)
 answer_of t c k a =
     ap answer (complete t c k a.spells) ∙ answer_good (is_minus a.spells.text.sign) c k a.bounds.coefficient a.bounds.scale
-    ∙ ap (λ (b : Bool). cond b J.Refused (J.Amount c k)) (sign_fits a.spells.text.sign c a.sign)
+    ∙ ap (λ (b : Bool). cond b None (Some (J.Amount c k))) (sign_fits a.spells.text.sign c a.sign)
 
 -- a is what is read from a place on
-pub answered : (t : List ℕ) {a : Found} (r : Judged) → read_of t ≡ a → r ≡ answer a → FormedAny amt t r
+pub answered : (t : List ℕ) {a : Found} (r : Option Judged) → read_of t ≡ a → r ≡ answer a → FormedAny amt t r
 answered t r p e w cw = subst (Formed amt w t) (sym (e ∙ ap answer (sym p))) (right t w cw)
 
 -- ---- a product that stays below the limit, and one that does not
@@ -246,7 +267,7 @@ module _ (s : List ℕ) (at : ℕ) (n : Bool) (whole i c k z : ℕ) (w : Places 
   pub places_end : length s ≤ i → answer (found n c k) ≡ answer (frac_of n whole 0 whole 0 (drop at s))
   places_end h = sym (ap answer (frac_end s i n (c * 10 ^ z) (k + z) c k h)) ∙ w.same
 
-  pub places_stop : i < length s → is_digit (get_or s i 0) ≡ false → J.Refused ≡ answer (frac_of n whole 0 whole 0 (drop at s))
+  pub places_stop : i < length s → is_digit (get_or s i 0) ≡ false → None ≡ answer (frac_of n whole 0 whole 0 (drop at s))
   places_stop h e = sym answer_bad ∙ sym (ap answer (frac_stop s i n (c * 10 ^ z) (k + z) c k h e)) ∙ w.same
 
   pub places_zero : i < length s → is_digit (get_or s i 0) ≡ true → get_or s i 0 ≡ 48 → Places s at n whole (i + 1) c k (z + 1)
@@ -255,7 +276,7 @@ module _ (s : List ℕ) (at : ℕ) (n : Bool) (whole i c k z : ℕ) (w : Places 
   pub places_one : (p d : ℕ) → i < length s → is_digit (get_or s i 0) ≡ true → get_or s i 0 ≢ 48 → p ≡ 10 ^ (z + 1) → d ≡ get_or s i 0 - 48 → c * p + d < 10 ^ 18 → k + z ≤ 4 → Places s at n whole (i + 1) (c * p + d) (k + z + 1) 0
   places_one p d h e q pe de b f = record { within = omega arith; zeros = omega arith; small = b; places = omega arith; same = sym (ap answer (frac_one s i n c k z p d h e q pe de)) ∙ w.same }
 
-  pub places_over : (p : ℕ) → i < length s → is_digit (get_or s i 0) ≡ true → get_or s i 0 ≢ 48 → p ≡ 10 ^ (z + 1) → Over (c * p + (get_or s i 0 - 48)) (k + z + 1) → J.Refused ≡ answer (frac_of n whole 0 whole 0 (drop at s))
+  pub places_over : (p : ℕ) → i < length s → is_digit (get_or s i 0) ≡ true → get_or s i 0 ≢ 48 → p ≡ 10 ^ (z + 1) → Over (c * p + (get_or s i 0 - 48)) (k + z + 1) → None ≡ answer (frac_of n whole 0 whole 0 (drop at s))
   places_over p h e q pe o =
       sym (frac_over n ((c * p + (get_or s i 0 - 48)) * 10 ^ 0) (k + z + 1 + 0) (c * p + (get_or s i 0 - 48)) (k + z + 1) (drop (i + 1) s) o (omega arith) (omega arith))
       ∙ sym (ap answer (frac_one s i n c k z p (get_or s i 0 - 48) h e q pe refl)) ∙ w.same
@@ -270,7 +291,7 @@ module _ (s : List ℕ) (at : ℕ) (n : Bool) (i c : ℕ) (w : Digits s at n i c
   pub digits_end : length s ≤ i → answer (found n c 0) ≡ answer (whole_of n 0 (drop at s))
   digits_end h = sym (ap answer (whole_end s i n c h)) ∙ w.same
 
-  pub digits_stop : i < length s → is_digit (get_or s i 0) ≡ false → get_or s i 0 ≢ 46 → J.Refused ≡ answer (whole_of n 0 (drop at s))
+  pub digits_stop : i < length s → is_digit (get_or s i 0) ≡ false → get_or s i 0 ≢ 46 → None ≡ answer (whole_of n 0 (drop at s))
   digits_stop h e q = sym answer_bad ∙ sym (ap answer (whole_stop s i n c h e q)) ∙ w.same
 
   pub digits_point : i < length s → is_digit (get_or s i 0) ≡ false → get_or s i 0 ≡ 46 → answer (frac_of n c 0 c 0 (drop (i + 1) s)) ≡ answer (whole_of n 0 (drop at s))
@@ -279,6 +300,6 @@ module _ (s : List ℕ) (at : ℕ) (n : Bool) (i c : ℕ) (w : Digits s at n i c
   pub digits_more : (d : ℕ) → i < length s → is_digit (get_or s i 0) ≡ true → d ≡ get_or s i 0 - 48 → c * 10 + d < 10 ^ 18 → Digits s at n (i + 1) (c * 10 + d)
   digits_more d h e q b = record { within = omega arith; small = b; same = sym (ap answer (whole_go s i n c d h e q)) ∙ w.same }
 
-  pub digits_over : i < length s → is_digit (get_or s i 0) ≡ true → 10 ^ 18 / 10 ≤ c → J.Refused ≡ answer (whole_of n 0 (drop at s))
+  pub digits_over : i < length s → is_digit (get_or s i 0) ≡ true → 10 ^ 18 / 10 ≤ c → None ≡ answer (whole_of n 0 (drop at s))
   digits_over h e o =
       sym (whole_over n (c * 10 + (get_or s i 0 - 48)) (drop (i + 1) s) (omega arith)) ∙ sym (ap answer (whole_go s i n c (get_or s i 0 - 48) h e refl)) ∙ w.same

@@ -1,16 +1,17 @@
 -- Parts of a list, and the part that is left without the blanks at both ends. Assumes nothing.
 use mathlib.Core.Path.{◌≡◌, refl, sym, ◌∙◌, ap, subst}
-use mathlib.Core.Bool.{true}
+use mathlib.Core.Bool.{true, false}
 use mathlib.Core.List.{List, [], ◌∷◌, ◌++◌}
-use Prim.Native.Nat.{ℕ, suc, ◌+◌, ◌-◌, ◌≤◌, ◌<◌}
+use Prim.Native.Nat.{ℕ, suc, ◌+◌, ◌-◌, ◌≤◌, ◌<◌, suc-le-suc}
+use Rattle.std.specs.Prelude.{Some, None, EachIndex}
 use native.Mathlib.Omega.{arith}
 use lib.ListN.{length, take, drop, get_or, drop_of_length-le, take-append-drop, length-take, length-drop, length-append}
-use lib.Seq.{slice, take_all, drop_at, length-take-le, take-add, drop-drop, get_or-take, get_or-drop, get_or-append_seam, drop-cons}
+use lib.Seq.{slice, take_all, drop_at, length-take-le, take-add, drop-drop, get_or-take, get_or-drop, get_or-append_seam}
 use Rattle.text.specs.Bytes.{is_blank}
 use Rattle.text.specs.Lists.{Each, All, span}
-use Rattle.text.proofs.Spans.{span_all, span_next}
+use Rattle.text.proofs.Spans.{span_all, span_next, span_le}
 use Rattle.value.specs.types.Plain.{Trimmed}
-use Rattle.value.specs.decided.Trim.{Trim, InkEnd}
+use Rattle.value.specs.decided.Trim.{Trim, LastInk}
 use Rattle.value.proofs.classes.Classes.{Solid, solid_ink}
 use Rattle.value.proofs.raw.Trim.{Dense, clash, front, back, solid_last}
 
@@ -29,14 +30,17 @@ part_within a b s h k =
     let e : a + (b - a) ≡ b = omega arith in
     sym (drop_at (take a s) (take (b - a) (drop a s)) a (length-take-le a s (omega arith))) ∙ ap (drop a) (sym (take-add a (b - a) s)) ∙ ap (λ (n : ℕ). drop a (take n s)) e
 
--- ---- blanks taken from the end
-pub ink_none : (s : List ℕ) (lo : ℕ) → lo ≤ length s → All is_blank (drop (length s) s)
-ink_none s lo h = subst (All is_blank) (sym (drop_of_length-le s {i = length s} (omega arith))) tt
+-- ---- blanks at the end
+all_each : (l : List ℕ) → EachIndex l (λ i. is_blank (get_or l i 0) ≡ true) → All is_blank l
+all_each [] f = tt
+all_each (x ∷ l) f = (f 0 (omega arith), all_each l (λ i h. f (suc i) (suc-le-suc h)))
 
-pub ink_more : (s : List ℕ) (hi : ℕ) → 0 < hi → hi ≤ length s → is_blank (get_or s (hi - 1) 0) ≡ true → All is_blank (drop hi s) → All is_blank (drop (hi - 1) s)
-ink_more s hi h k e b =
-    let n : suc (hi - 1) ≡ hi = omega arith in
-    subst (All is_blank) (sym (drop-cons s (hi - 1) 0 (omega arith))) (e, subst (λ (m : ℕ). All is_blank (drop m s)) (sym n) b)
+-- from hi on there are blanks alone, and none stands just before it, unless it is lo
+record InkEnd (s : List ℕ) (lo hi : ℕ) : Type 0 where
+  order : lo ≤ hi
+  within : hi ≤ length s
+  blanks : All is_blank (drop hi s)
+  last : lo < hi → is_blank (get_or s (hi - 1) 0) ≡ false
 
 -- ---- what is left
 module _ (s : List ℕ) (lo hi : ℕ) (e : lo ≡ 0 + span is_blank s) (w : InkEnd s lo hi) where
@@ -52,7 +56,7 @@ module _ (s : List ℕ) (lo hi : ℕ) (e : lo ≡ 0 + span is_blank s) (w : InkE
   at : (i : ℕ) → i < hi - lo → get_or (take (hi - lo) (drop lo s)) i 0 ≡ get_or s (lo + i) 0
   at i h = get_or-take (hi - lo) (drop lo s) i 0 h ∙ get_or-drop lo s i 0
 
-  pub trim_of : Trim s (take (hi - lo) (drop lo s))
+  trim_of : Trim s (take (hi - lo) (drop lo s))
   trim_of =
       record {
         is = record {
@@ -67,6 +71,35 @@ module _ (s : List ℕ) (lo hi : ℕ) (e : lo ≡ 0 + span is_blank s) (w : InkE
             let g : get_or (take (hi - lo) (drop lo s)) (length u) 0 ≡ x = ap (λ (v : List ℕ). get_or v (length u) 0) f ∙ get_or-append_seam u x [] 0 in
             ap is_blank (sym g ∙ at (length u) (omega arith) ∙ ap (λ (n : ℕ). get_or s n 0) (let k = w.order in let q : lo + length u ≡ hi - 1 = omega arith in q)) ∙ w.last (omega arith);
       }
+
+-- the same by the last character that is no blank
+module _ (s : List ℕ) (lo : ℕ) (e : lo ≡ 0 + span is_blank s) (u : List ℕ) (d : u ≡ drop lo s) where
+  within : lo ≤ length s
+  within = omega (arith, e, span_le is_blank s)
+
+  pub trim_upto : (n : ℕ) → LastInk u (Some n) → Trim s (take (n + 1) u)
+  trim_upto n w =
+      let q : lo + (n + 1) - lo ≡ n + 1 = omega arith in
+      let m : length u ≡ length s - lo = ap length d ∙ length-drop lo s in
+      let l : lo + n ≡ lo + (n + 1) - 1 = omega arith in
+      subst (λ (v : List ℕ). Trim s (take (n + 1) v)) (sym d)
+      (subst (λ (k : ℕ). Trim s (take k (drop lo s))) q
+      (trim_of s lo (lo + (n + 1)) e
+      (record {
+        order = omega arith;
+        within = omega (arith, w.0, m, within);
+        blanks = subst (All is_blank) (ap (drop (n + 1)) d ∙ drop-drop (n + 1) lo s)
+            (all_each (drop (n + 1) u)
+            (λ i h. ap is_blank (get_or-drop (n + 1) u i 0) ∙ w.2 (n + 1 + i) (omega (arith, h, length-drop (n + 1) u)) (omega arith)));
+        last = λ h. ap is_blank (ap (λ (k : ℕ). get_or s k 0) (sym l) ∙ sym (get_or-drop lo s n 0) ∙ ap (λ (v : List ℕ). get_or v n 0) (sym d)) ∙ w.1;
+      })))
+
+  pub trim_empty : LastInk u None → Trim s (take 0 u)
+  trim_empty w =
+      let q : lo - lo ≡ 0 = omega arith in
+      subst (λ (v : List ℕ). Trim s (take 0 v)) (sym d)
+      (subst (λ (k : ℕ). Trim s (take k (drop lo s))) q
+      (trim_of s lo lo e (record { order = omega arith; within = within; blanks = subst (All is_blank) d (all_each u w); last = λ h. absurd (omega arith) })))
 
 -- ---- and it is all that could be left
 all_join : (l m : List ℕ) → All is_blank l → All is_blank m → All is_blank (l ++ m)

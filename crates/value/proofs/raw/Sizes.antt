@@ -16,6 +16,7 @@ use Rattle.text_characters.specs.Chars.{NextChar}
 use Rattle.text_characters.specs.declared.utf8.Char.{Char}
 use Rattle.text_characters.proofs.Spelling as spelling
 use Rattle.value.specs.mirror.Texts.{Spelled, spelled, width_of}
+use Rattle.std.specs.Prelude.{Some}
 use Rattle.value.specs.declared.judged.Judged.TheVariants as J
 use Rattle.text_characters.proofs.Decoding.{encode1}
 
@@ -73,5 +74,5 @@ sized_more s i size w r f z m e =
 pub sized_end : (s : List ℕ) (i size : ℕ) → Sized s i size → length s ≤ i → (cs : List ℕ) → Spells s cs → length (encode_all cs) ≡ size
 sized_end s i size w h cs v = omega (arith, w.count cs [] v (subst (λ (l : List ℕ). Spells l []) (sym (drop_of_length-le s h)) spelling.spells_none))
 
-pub text_of : (g : List ℕ → Bool) (s : List ℕ) (n : ℕ) → ((cs : List ℕ) → Spells s cs → length (encode_all cs) ≡ n) → Passes g s → Spelled g s (J.Text n)
-text_of g s n f p = spelled p (ap J.Text (sym (f p.chars p.spells)))
+pub text_of : (g : List ℕ → Bool) (s : List ℕ) (n : ℕ) → ((cs : List ℕ) → Spells s cs → length (encode_all cs) ≡ n) → Passes g s → Spelled g s (Some (J.Text n))
+text_of g s n f p = spelled p (ap (λ (n : ℕ). Some (J.Text n)) (sym (f p.chars p.spells)))

@@ -10,6 +10,8 @@ use lib.Dec.{eqb}
 use lib.ListN.{length, get_or, take, drop, length-append, length-drop, length-take, drop_of_length-le}
 use lib.Seq.{slice, drop-cons, drop-drop, get_or-drop}
 use borrow.Author.Tests.{ne_eqb}
+use Rattle.std.specs.List.{sum_by}
+use Rattle.std.proofs.lemmas.List.Sums.{sum_by-cons}
 use Rattle.text.specs.Lists.{span}
 use Rattle.text.specs.Pasting.{pasted}
 use Rattle.text.proofs.Classes.{Named, only, ◌or◌, is_in}
@@ -100,25 +102,6 @@ pub escaped_end : (t : List ℕ) (i : ℕ) → length t ≤ i → escaped (drop 
 unfolding escaped
 escaped_end t i h = ap escaped (drop_of_length-le t h)
 
--- ---- a loop that has counted n bytes beyond one for each up to i
-
-pub record Counting (t : List ℕ) (n i : ℕ) : Type 0 where
-  pub upto : i ≤ length t
-  pub most : n ≤ 4 * i
-  pub here : i + n + length (escaped (drop i t)) ≡ length (escaped t)
-
-pub counting_again : (t : List ℕ) (n i w : ℕ) → Counting t n i → i < length t → (1 + w ≡ length (escape (get_or t i 0))) × (w ≤ 4) → Counting t (n + w) (i + 1)
-counting_again t n i w c h e = record {
-  upto = omega arith;
-  most = omega (arith, c.most, e.1);
-  here =
-      omega
-      (arith, c.here, e.0, ap length (escaped_at t i h), length-append (escape (get_or t i 0)) (escaped (drop (i + 1) t)));
-}
-
-pub counting_end : (t : List ℕ) (n i : ℕ) → Counting t n i → length t ≤ i → length t ≤ 65535 → (length t + n ≡ length (escaped t)) × (length t + n ≤ 327675)
-counting_end t n i c h k = (omega (arith, c.here, c.upto, ap length (escaped_end t i h)), omega (arith, c.most, c.upto))
-
 -- no byte is written by more than five
 escape_most : (x : ℕ) → length (escape x) ≤ 5
 unfolding escape
@@ -134,6 +117,25 @@ pub escaped_most : (t : List ℕ) → length (escaped t) ≤ 5 * length t
 unfolding escaped
 escaped_most [] = omega arith
 escaped_most (x ∷ t) = omega (arith, length-append (escape x) (escaped t), escape_most x, escaped_most t)
+
+-- how many bytes more than one are written for a byte, and for all
+abbrev pub more : ℕ → ℕ
+more x = length (escape x) - 1
+
+pub escape_some : (x : ℕ) → 1 ≤ length (escape x)
+unfolding escape
+escape_some x = go (eqb x 38) (eqb x 60) (eqb x 62)
+  where
+    go : (a b c : Bool) → 1 ≤ length (cond a (word amp) (cond b (word lt) (cond c (word gt) (x ∷ []))))
+    go true b c = omega arith
+    go false true c = omega arith
+    go false false true = omega arith
+    go false false false = omega arith
+
+pub escaped_more : (t : List ℕ) → length t + sum_by more t ≡ length (escaped t)
+unfolding escaped
+escaped_more [] = refl
+escaped_more (x ∷ t) = omega (arith, length-append (escape x) (escaped t), escape_some x, sum_by-cons more x t, escaped_more t)
 
 -- ---- a loop that has put all up to i, and is to go on at `to`
 

@@ -1,13 +1,12 @@
 -- Tests of lists, and what they say. Assumes nothing.
-use mathlib.Core.Path.{◌≡◌, refl, sym, ◌∙◌, ap}
+use mathlib.Core.Path.{◌≡◌, refl, sym, ap}
 use mathlib.Core.Bool.{Bool, true, false, ◌||◌, true≢false}
 use mathlib.Core.Logic.{◌⊎◌, inl, inr}
 use mathlib.Core.List.{List, [], ◌∷◌}
-use Prim.Native.Nat.{ℕ, zero, suc, ◌+◌, ◌≤◌, ◌<◌}
-use native.Mathlib.Numerals.{add-one}
-use lib.ListN.{length, get_or, take, drop, drop_of_length-le}
-use lib.Seq.{drop-cons}
+use Prim.Native.Nat.{ℕ, zero, suc, ◌<◌}
+use lib.ListN.{get_or, take, drop}
 use borrow.Author.Tests.{lt-ltb, ltb-true}
+use Rattle.std.specs.List.{list_any}
 use Rattle.text.specs.Lists.{Each, All, Any}
 use Rattle.text.proofs.Classes.{and_is, or_is}
 use Rattle.text.proofs.Numbers.{Byte}
@@ -70,18 +69,9 @@ pub bytes_at : (s : List ℕ) → ((i : ℕ) → get_or s i 0 < 256) → Each By
 bytes_at [] f = tt
 bytes_at (x ∷ s) f = (f zero, bytes_at s (λ i. f (suc i)))
 
--- ---- loops: what is still to come from i on makes up the answer
+-- ---- one at least passes, as a chain finds it
 
-module _ (p : ℕ → Bool) (s : List ℕ) (i : ℕ) where
-  pub some_end : (r : Bool) → some p (drop i s) ≡ r → length s ≤ i → false ≡ r
-  unfolding some
-  some_end r w h = ap (some p) (sym (drop_of_length-le s h)) ∙ w
-
-  module _ (h : i < length s) where
-    pub some_stop : (r : Bool) → some p (drop i s) ≡ r → p (get_or s i 0) ≡ true → true ≡ r
-    unfolding some
-    some_stop r w e = sym (rw (drop-cons s i 0, e)) ∙ w
-
-    pub some_go : (r : Bool) → some p (drop i s) ≡ r → p (get_or s i 0) ≡ false → some p (drop (i + 1) s) ≡ r
-    unfolding some
-    some_go r w e = sym (rw (add-one i, drop-cons s i 0, e)) ∙ w
+pub some_is : (p : ℕ → Bool) (s : List ℕ) → list_any p s ≡ some p s
+unfolding some
+some_is p [] = refl
+some_is p (x ∷ s) = ap (λ (b : Bool). p x || b) (some_is p s)

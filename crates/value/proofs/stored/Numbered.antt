@@ -8,7 +8,7 @@ use native.Mathlib.Decide.{ℕ_discrete}
 use lib.ListN.{take}
 use lib.Seq.{take-take}
 use Rattle.text.specs.Numbers.{number}
-use Rattle.value.specs.mirror.Ends.{head, width, is_value}
+use Rattle.value.specs.mirror.Ends.{width, is_value}
 
 -- each kind by its number, and the numbers that no kind has
 pub by_kind : (P : ℕ → Type 0) → P 0 → P 1 → P 2 → P 3 → P 4 → P 5 → P 6 → P 7 → P 8 → P 9 → P 10 → P 11
@@ -29,11 +29,6 @@ by_kind P a b d e f g h i j k l m o (suc (suc (suc (suc (suc (suc (suc (suc (suc
 
 -- ---- texts, whose length comes first, and the others
 
-pub head_text : (c : ℕ) → 2 ≤ c → c ≤ 5 → 2 ≡ head c
-unfolding head
-head_text =
-    by_kind (λ c. 2 ≤ c → c ≤ 5 → 2 ≡ head c) (λ h k. absurd (omega arith)) (λ h k. absurd (omega arith)) (λ h k. refl) (λ h k. refl) (λ h k. refl) (λ h k. refl) (λ h k. absurd (omega arith)) (λ h k. absurd (omega arith)) (λ h k. absurd (omega arith)) (λ h k. absurd (omega arith)) (λ h k. absurd (omega arith)) (λ h k. absurd (omega arith)) (λ c h k. absurd (omega arith))
-
 module _ (t : List ℕ) where
   pub width_text : (c : ℕ) → 2 ≤ c → c ≤ 5 → 2 + number (take 2 t) ≡ width c t
   unfolding width
@@ -47,11 +42,6 @@ module _ (t : List ℕ) where
     where
       first : 2 + number (take 2 (take (2 + number (take 2 t)) t)) ≡ 2 + number (take 2 t)
       first = ap (λ (l : List ℕ). 2 + number l) (take-take 2 (2 + number (take 2 t)) t (omega arith))
-
-  pub head_width : (c : ℕ) → head c ≤ width c t
-  unfolding head width
-  head_width =
-      by_kind (λ c. head c ≤ width c t) (omega arith) (omega arith) (omega arith) (omega arith) (omega arith) (omega arith) (omega arith) (omega arith) (omega arith) (omega arith) (omega arith) (omega arith) (λ c. omega arith)
 
 pub none_value : (c k n : ℕ) (b : List ℕ) → (2 ≤ c → c ≤ 11 → ⊥) → is_value c k n b ≡ false
 unfolding is_value

@@ -10,6 +10,7 @@ use Rattle.text.specs.Bytes.{ascii, is_capital}
 use Rattle.text_characters.specs.Utf8.{encode_all}
 use Rattle.text_characters.proofs.Spelling.{one_text}
 use Rattle.list.specs.Listing.{Leaf, ref, iban, ccy, bool, num, amt, date, dtm, txt}
+use Rattle.std.specs.Prelude.{Option, Some, None}
 use Rattle.value.specs.declared.judged.Judged.{Judged}
 use Rattle.value.specs.declared.judged.Judged.TheVariants as J
 use Rattle.value.specs.types.Code.{Ccy}
@@ -29,25 +30,25 @@ exactly_one false true a b = a.1 (b.0 refl)
 
 -- ---- judgements
 -- the one that means the value
-abbrev meaning : Value → Judged
-meaning (text cs) = J.Text (length (encode_all cs))
-meaning (place n) = J.Refused
-meaning (truth b) = J.Truth b
-meaning (natural n) = J.Natural n
-meaning (amount w k c) = J.Amount c k
-meaning (day y m d) = J.Day y m d
-meaning (moment y mo d h mi s u z) = J.Moment (record { year = y; month = mo; day = d; hour = h; minute = mi; second = s; micros = u; offset = z })
+abbrev meaning : Value → Option Judged
+meaning (text cs) = Some (J.Text (length (encode_all cs)))
+meaning (place n) = None
+meaning (truth b) = Some (J.Truth b)
+meaning (natural n) = Some (J.Natural n)
+meaning (amount w k c) = Some (J.Amount c k)
+meaning (day y m d) = Some (J.Day (record { year = y; month = m; day = d }))
+meaning (moment y mo d h mi s u z) = Some (J.Moment (record { year = y; month = mo; day = d; hour = h; minute = mi; second = s; micros = u; offset = z }))
 
-means_one : (r : Judged) (w cs : List ℕ) (v : Value) → Means w cs r v → r ≡ meaning v
-means_one J.Refused w cs v m = absurd m
-means_one (J.Text n) w cs v m = ap J.Text m.1 ∙ sym (ap meaning m.0)
-means_one (J.Truth b) w cs v m = sym (ap meaning m)
-means_one (J.Natural n) w cs v m = sym (ap meaning m)
-means_one (J.Amount c k) w cs v m = sym (ap meaning m)
-means_one (J.Day y mo d) w cs v m = sym (ap meaning m)
-means_one (J.Moment p) w cs v m = sym (ap meaning m)
+means_one : (r : Option Judged) (w cs : List ℕ) (v : Value) → Means w cs r v → r ≡ meaning v
+means_one None w cs v m = absurd m
+means_one (Some (J.Text n)) w cs v m = ap (λ (n : ℕ). Some (J.Text n)) m.1 ∙ sym (ap meaning m.0)
+means_one (Some (J.Truth b)) w cs v m = sym (ap meaning m)
+means_one (Some (J.Natural n)) w cs v m = sym (ap meaning m)
+means_one (Some (J.Amount c k)) w cs v m = sym (ap meaning m)
+means_one (Some (J.Day d)) w cs v m = sym (ap meaning m)
+means_one (Some (J.Moment p)) w cs v m = sym (ap meaning m)
 
-pub right_one : (k : Leaf) (w s : List ℕ) (q r : Judged) → Apart k → Right k w s q → Right k w s r → q ≡ r
+pub right_one : (k : Leaf) (w s : List ℕ) (q r : Option Judged) → Apart k → Right k w s q → Right k w s r → q ≡ r
 right_one k w s q r d (accepted cs v sp st m) (accepted cs' v' sp' st' m') =
     let e : v ≡ v' = one_spelt k w cs' v v' d (subst (λ (l : List ℕ). Spelt k w l v) (one_text s cs cs' sp sp') st) st' in
     means_one q w cs v m ∙ ap meaning e ∙ sym (means_one r w cs' v' m')
@@ -80,7 +81,7 @@ unfolding is_capital
 some_ccy = record { three = refl; capitals = (refl, (refl, (refl, tt))) }
 
 -- whatever the number, k and the text
-pub checked_one : (kind k : ℕ) (s : List ℕ) (q r : Judged) → Checked kind k s q → Checked kind k s r → q ≡ r
+pub checked_one : (kind k : ℕ) (s : List ℕ) (q r : Option Judged) → Checked kind k s q → Checked kind k s r → q ≡ r
 checked_one kind k s q r a b = go (kinds kind k)
   where
     go : Kinds kind k → q ≡ r
@@ -88,7 +89,7 @@ checked_one kind k s q r a b = go (kinds kind k)
     go (none f) = a.unknown f ∙ sym (b.unknown f)
 
 -- ---- the checkers of single kinds
-pub formed_one : (k : Leaf) (t : List ℕ) (q r : Judged) → Apart k → FormedAny k t q → FormedAny k t r → q ≡ r
+pub formed_one : (k : Leaf) (t : List ℕ) (q r : Option Judged) → Apart k → FormedAny k t q → FormedAny k t r → q ≡ r
 formed_one k t q r d a b = go (a (ascii "EUR") some_ccy) (b (ascii "EUR") some_ccy)
   where
     go : Formed k (ascii "EUR") t q → Formed k (ascii "EUR") t r → q ≡ r
@@ -97,8 +98,8 @@ formed_one k t q r d a b = go (a (ascii "EUR") some_ccy) (b (ascii "EUR") some_c
     go (formless e n) (formed v f m) = absurd (n v f)
     go (formless e n) (formless e' n') = e ∙ sym e'
 
-pub spelled_one : (g : List ℕ → Bool) (s : List ℕ) (q r : Judged) → Spelled g s q → Spelled g s r → q ≡ r
-spelled_one g s q r (spelled p e) (spelled p' e') = e ∙ ap (λ (cs : List ℕ). J.Text (length (encode_all cs))) (one_text s p.chars p'.chars p.spells p'.spells) ∙ sym e'
+pub spelled_one : (g : List ℕ → Bool) (s : List ℕ) (q r : Option Judged) → Spelled g s q → Spelled g s r → q ≡ r
+spelled_one g s q r (spelled p e) (spelled p' e') = e ∙ ap (λ (cs : List ℕ). Some (J.Text (length (encode_all cs)))) (one_text s p.chars p'.chars p.spells p'.spells) ∙ sym e'
 spelled_one g s q r (spelled p e) (unspelled e' n) = absurd (n p)
 spelled_one g s q r (unspelled e n) (spelled p e') = absurd (n p)
 spelled_one g s q r (unspelled e n) (unspelled e' n') = e ∙ sym e'

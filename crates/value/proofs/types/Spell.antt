@@ -17,6 +17,7 @@ use Rattle.list.specs.Listing.{Leaf, ref, iban, ccy, bool, num, amt, date, dtm, 
 use Rattle.list.specs.WellFormed.{LeafOk, Different}
 use Rattle.list.specs.tables.Table.{place_in}
 use Rattle.list.proofs.words.Places.{place_found, place_none, place_is}
+use Rattle.std.specs.Prelude.{Option, Some, None}
 use Rattle.value.specs.declared.judged.Judged.{Judged}
 use Rattle.value.specs.declared.judged.Judged.TheVariants as J
 use Rattle.value.specs.types.Plain.{Trimmed, SaysTruth, Num}
@@ -112,15 +113,15 @@ truth_of_lem false t (inl e) = ap truth_of e
 truth_of_lem false t (inr e) = ap truth_of e
 
 -- ---- amounts
-money_sound : (w t : List ℕ) (v : Value) (r : Judged) → Formed amt w t r → money_of w r ≡ some v → Form amt w t v
-money_sound w t v J.Refused f e = no_some v e
-money_sound w t v (J.Text n) f e = no_some v e
-money_sound w t v (J.Truth b) f e = no_some v e
-money_sound w t v (J.Natural n) f e = no_some v e
-money_sound w t v (J.Day y m d) f e = no_some v e
-money_sound w t v (J.Moment p) f e = no_some v e
-money_sound w t v (J.Amount c k) (formed v' g m) e = let z : amount w k c ≡ v = cc in subst (Form amt w t) (m ∙ z) g
-money_sound w t v (J.Amount c k) (formless q g) e = absurd (let z : ◌≡◌ {A = ℕ} 0 1 = cc in omega arith)
+money_sound : (w t : List ℕ) (v : Value) (r : Option Judged) → Formed amt w t r → money_of w r ≡ some v → Form amt w t v
+money_sound w t v None f e = no_some v e
+money_sound w t v (Some (J.Text n)) f e = no_some v e
+money_sound w t v (Some (J.Truth b)) f e = no_some v e
+money_sound w t v (Some (J.Natural n)) f e = no_some v e
+money_sound w t v (Some (J.Day d)) f e = no_some v e
+money_sound w t v (Some (J.Moment p)) f e = no_some v e
+money_sound w t v (Some (J.Amount c k)) (formed v' g m) e = let z : amount w k c ≡ v = cc in subst (Form amt w t) (m ∙ z) g
+money_sound w t v (Some (J.Amount c k)) (formless q g) e = absurd (let z : ◌≡◌ {A = ℕ} 0 1 = cc in omega arith)
 
 -- ---- all kinds
 form_sound : (k : Leaf) (w t : List ℕ) (v : Value) → form_of k w t ≡ some v → Form k w t v

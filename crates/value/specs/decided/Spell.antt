@@ -1,5 +1,6 @@
 -- A decision: which value the characters of a leaf spell, computed; `Spelt` says what is right, and proofs/Spell that this is it. Assumes nothing.
-use Rattle.std.specs.Prelude.{Bool, true, false, cond, ◌&&◌, ◌||◌, not, List, [], ◌∷◌, ℕ, zero, suc, ◌+◌, ◌*◌, ◌-◌, ◌%◌, ◌^◌, leb, ltb, eqb, length, drop, get_or}
+use Rattle.std.specs.Prelude.{Bool, true, false, cond, ◌&&◌, ◌||◌, not, List, [], ◌∷◌, ℕ, zero, suc, ◌+◌, ◌*◌, ◌-◌, ◌%◌, ◌^◌, leb, ltb, eqb, length, drop, get_or, Some, None}
+use Rattle.std.specs.Prelude as std
 use Rattle.std.proofs.Math.Option.{Option, some, none}
 use Prim.Native.Char.{code}
 use Rattle.text.specs.Bytes.{ascii, in_range, is_blank, is_capital, is_digit}
@@ -15,7 +16,7 @@ use Rattle.value.specs.mirror.Layout.{iban_at}
 use Rattle.value.specs.mirror.Reading.{read_of, answer}
 use Rattle.value.specs.Value.{Value, text, place, truth, natural, amount, day, moment}
 use Rattle.value.specs.declared.judged.Judged.{Judged}
-use Rattle.value.specs.declared.judged.Judged.TheVariants.{Refused, Text, Truth, Natural, Amount, Day, Moment}
+use Rattle.value.specs.declared.judged.Judged.TheVariants.{Text, Truth, Natural, Amount, Day, Moment}
 use Rattle.value.specs.Places.{written_month, written_day, written_hour, written_minute, written_second, written_fraction, zone_minutes}
 
 -- ---- blanks at both ends
@@ -68,14 +69,14 @@ truth_of t = cond (same t (ascii "true") || same t (ascii "1")) (some (truth tru
 
 -- ---- amounts
 
-abbrev pub money_of : List ℕ → Judged → Option Value
-money_of w Refused = none
-money_of w (Text n) = none
-money_of w (Truth b) = none
-money_of w (Natural n) = none
-money_of w (Amount c k) = some (amount w k c)
-money_of w (Day y m d) = none
-money_of w (Moment m) = none
+abbrev pub money_of : List ℕ → std.Option Judged → Option Value
+money_of w None = none
+money_of w (Some (Text n)) = none
+money_of w (Some (Truth b)) = none
+money_of w (Some (Natural n)) = none
+money_of w (Some (Amount c k)) = some (amount w k c)
+money_of w (Some (Day d)) = none
+money_of w (Some (Moment m)) = none
 
 -- ---- days and moments: the digits as they stand, and whether what they say is written so
 

@@ -1,7 +1,6 @@
 -- What is left of a text without the blanks at both ends. Assumes nothing.
-use Rattle.std.specs.Prelude.{◌≡◌, false, List, [], ◌∷◌, ◌++◌, ℕ, ◌-◌, ◌≤◌, ◌<◌, length, drop, get_or}
+use Rattle.std.specs.Prelude.{◌≡◌, true, false, List, [], ◌∷◌, ◌++◌, ℕ, ◌<◌, length, Option, MatchOption, EachIndex, slice_index}
 use Rattle.text.specs.Bytes.{is_blank}
-use Rattle.text.specs.Lists.{All}
 use Rattle.value.specs.types.Plain.{Trimmed}
 
 -- what is left neither begins nor ends with a blank
@@ -10,9 +9,8 @@ pub record Trim (s t : List ℕ) : Type 0 where
   pub first : (x : ℕ) (u : List ℕ) → t ≡ x ∷ u → is_blank x ≡ false
   pub last : (u : List ℕ) (x : ℕ) → t ≡ u ++ (x ∷ []) → is_blank x ≡ false
 
--- a mirror: from hi on there are blanks alone, and none stands just before it, unless it is lo
-pub record InkEnd (s : List ℕ) (lo hi : ℕ) : Type 0 where
-  pub order : lo ≤ hi
-  pub within : hi ≤ length s
-  pub blanks : All is_blank (drop hi s)
-  pub last : lo < hi → is_blank (get_or s (hi - 1) 0) ≡ false
+-- a mirror: where the last character stands that is no blank; none where each is one
+abbrev pub LastInk : List ℕ → Option ℕ → Type 0
+LastInk s r =
+    MatchOption r (EachIndex s (λ i. is_blank (slice_index s i) ≡ true))
+    (λ n. (n < length s) × (is_blank (slice_index s n) ≡ false) × EachIndex s (λ i. n < i → is_blank (slice_index s i) ≡ true))

@@ -1,9 +1,9 @@
 -- A mirror: where a value ends, by the number of its kind in a table (list's column KIND). Assumes nothing.
-use Rattle.std.specs.Prelude.{◌≡◌, Bool, false, cond, ◌&&◌, List, [], ◌∷◌, ℕ, ◌+◌, ◌≤◌, ◌<◌, leb, length, get_or, take, drop}
+use Rattle.std.specs.Prelude.{Bool, false, cond, ◌&&◌, List, [], ◌∷◌, ℕ, ◌+◌, leb, length, get_or, take, drop}
 use Rattle.text.specs.Numbers.{number}
 use Rattle.value.specs.mirror.Tests.{is_byte, every}
 use Rattle.value.specs.mirror.Judges.{is_reference, is_writing, is_account, is_currency, is_place, is_truth, is_natural, is_amount, is_day, is_moment}
-use Rattle.value.specs.Places.{number_size, amount_size, date_size, moment_size, longest_value}
+use Rattle.value.specs.Places.{number_size, amount_size, date_size, moment_size}
 
 -- how many bytes of a value are its length
 unfoldable pub head : ℕ → ℕ
@@ -15,13 +15,6 @@ width c t =
     get_or
     (0 ∷ 0 ∷ (2 + number (take 2 t)) ∷ (2 + number (take 2 t)) ∷ (2 + number (take 2 t)) ∷ (2 + number (take 2 t)) ∷ 1 ∷ 1 ∷ number_size ∷ amount_size ∷ date_size ∷ moment_size ∷ [])
     c 0
-
--- r is that width for a text, or more than there is where its length is cut off
-pub record Spans (t : List ℕ) (r : ℕ) : Type 0 where
-  pub least : 2 ≤ r
-  pub most : r ≤ longest_value
-  pub cut : length t < r → length t < 2 + number (take 2 t)
-  pub is : r ≤ length t → r ≡ 2 + number (take 2 t)
 
 -- these bytes, without their length, are a value of kind c; k is that of TXTk, n the number of an ENUM's words
 unfoldable pub is_value : ℕ → ℕ → ℕ → List ℕ → Bool

@@ -1,5 +1,5 @@
 -- A mirror: which bytes are those of a value, kind by kind; of a text, the bytes after its length. Assumes nothing.
-use Rattle.std.specs.Prelude.{Bool, true, false, cond, ◌&&◌, ◌||◌, not, List, ℕ, ◌+◌, ◌%◌, ◌^◌, eqb, ltb, leb, length, get_or, take, drop}
+use Rattle.std.specs.Prelude.{Bool, true, false, if◌then◌else◌, Option, Some, None, ◌&&◌, ◌||◌, not, List, ℕ, ◌+◌, ◌%◌, ◌^◌, eqb, ltb, leb, length, get_or, take, drop}
 use Rattle.text.specs.Bytes.{in_range, is_capital, is_digit}
 use Rattle.text.specs.Numbers.{number}
 use Rattle.text_characters.specs.mirror.Decoding.{decoded}
@@ -18,9 +18,9 @@ is_reference b = leb (length b) 35 && (every is_ref b && (some not_space b && ap
 unfoldable pub text_from : ℕ → ℕ → Bool → List ℕ → Bool
 text_from k n ink cs = leb (n + length cs) k && (every is_txt cs && (ink || some not_space cs))
 
--- how many bytes the character of TXTk has that t begins with; 0 where it begins with none
-unfoldable pub txt_len : List ℕ → ℕ
-txt_len t = cond (is_txt (decoded t).code) (decoded t).len 0
+-- how many bytes the character of TXTk has that t begins with; none where it begins with none
+unfoldable pub txt_len : List ℕ → Option ℕ
+txt_len t = if is_txt (decoded t).code then Some (decoded t).len else None
 
 unfoldable pub is_writing : ℕ → List ℕ → Bool
 is_writing k b = text_from k 0 false (chars b)

@@ -1,9 +1,9 @@
 -- A mirror: how an amount without blanks around it is read, character by character. Assumes nothing.
-use Rattle.std.specs.Prelude.{Bool, true, false, cond, ◌&&◌, not, List, [], ◌∷◌, ℕ, suc, ◌+◌, ◌*◌, ◌-◌, ◌^◌, leb, ltb, eqb}
+use Rattle.std.specs.Prelude.{Bool, true, false, cond, ◌&&◌, not, List, [], ◌∷◌, ℕ, suc, ◌+◌, ◌*◌, ◌-◌, ◌^◌, leb, ltb, eqb, Option, Some, None}
 use Prim.Native.Char.{code}
 use Rattle.text.specs.Bytes.{is_digit}
 use Rattle.value.specs.declared.judged.Judged.{Judged}
-use Rattle.value.specs.declared.judged.Judged.TheVariants.{Refused, Amount}
+use Rattle.value.specs.declared.judged.Judged.TheVariants.{Amount}
 
 -- whether there was a minus, the coefficient, the scale
 pub data Found : Type 0 where
@@ -38,6 +38,6 @@ read_of [] = bad
 read_of (x ∷ t) = cond (eqb x (code "+")) (signed_of false t) (cond (eqb x (code "-")) (signed_of true t) (signed_of false (x ∷ t)))
 
 -- what is no amount for its scale, its coefficient or its sign is refused
-unfoldable pub answer : Found → Judged
-answer bad = Refused
-answer (found n c k) = cond (leb k 5) (cond (ltb c (10 ^ 18)) (cond (n && not (eqb c 0)) Refused (Amount c k)) Refused) Refused
+unfoldable pub answer : Found → Option Judged
+answer bad = None
+answer (found n c k) = cond (leb k 5) (cond (ltb c (10 ^ 18)) (cond (n && not (eqb c 0)) None (Some (Amount c k))) None) None

@@ -1,12 +1,12 @@
 -- A mirror: REF and TXTk in one pass over the characters. Assumes nothing.
-use Rattle.std.specs.Prelude.{◌≡◌, Bool, true, false, cond, ◌&&◌, ◌||◌, not, List, [], ◌∷◌, ℕ, suc, ltb, eqb, length}
+use Rattle.std.specs.Prelude.{◌≡◌, Bool, true, false, cond, ◌&&◌, ◌||◌, not, List, [], ◌∷◌, ℕ, suc, ltb, eqb, length, Option, Some, None}
 use Prim.Native.Char.{code}
 use Rattle.text_characters.specs.Utf8.{encode_all}
 use Rattle.text_characters.specs.Passing.{Passes}
 use Rattle.value.specs.types.Text.{is_txt, is_ref}
 use Rattle.value.specs.mirror.Tests.{not_space}
 use Rattle.value.specs.declared.judged.Judged.{Judged}
-use Rattle.value.specs.declared.judged.Judged.TheVariants.{Refused, Text}
+use Rattle.value.specs.declared.judged.Judged.TheVariants.{Text}
 
 -- strict: of a reference, else of a text
 abbrev pub class_of : Bool → ℕ → Bool
@@ -25,9 +25,9 @@ abbrev pub text_of : Bool → ℕ → List ℕ → Bool
 text_of strict k cs = text_from strict k 0 false strict cs
 
 -- the raw text s: the bytes of its characters, or refused
-pub data Spelled (g : List ℕ → Bool) (s : List ℕ) (r : Judged) : Type 0 where
-  spelled : (p : Passes g s) → r ≡ Text (length (encode_all p.chars)) → Spelled g s r
-  unspelled : r ≡ Refused → (Passes g s → ⊥) → Spelled g s r
+pub data Spelled (g : List ℕ → Bool) (s : List ℕ) (r : Option Judged) : Type 0 where
+  spelled : (p : Passes g s) → r ≡ Some (Text (length (encode_all p.chars))) → Spelled g s r
+  unspelled : r ≡ None → (Passes g s → ⊥) → Spelled g s r
 
 -- the bytes of a character that is spelled by len bytes: an entity stands for one byte
 unfoldable pub width_of : ℕ → ℕ → ℕ

@@ -1,5 +1,5 @@
--- A mirror: the bytes of a text that stand for themselves, where nothing is judged. Assumes nothing.
-use Rattle.std.specs.Prelude.{◌≡◌, Bool, not, ◌&&◌, List, ℕ, ◌+◌, eqb, drop}
+-- A mirror: the bytes of a class, and of a text those that stand for themselves, where nothing is judged. Assumes nothing.
+use Rattle.std.specs.Prelude.{◌≡◌, Bool, not, ◌&&◌, List, ℕ, ◌+◌, ◌≤◌, eqb, drop}
 use Rattle.text.specs.Lists.{span}
 use Rattle.text_characters.specs.Pieces.{less, ampersand}
 
@@ -7,6 +7,7 @@ use Rattle.text_characters.specs.Pieces.{less, ampersand}
 unfoldable pub is_plain : ℕ → Bool
 is_plain x = not (eqb x less) && not (eqb x ampersand)
 
--- from i to j there are such bytes alone: it is no matter from where one goes on
-pub record Over (s : List ℕ) (i j : ℕ) : Type 0 where
-  pub is : j + span is_plain (drop j s) ≡ i + span is_plain (drop i s)
+-- from i to j there are bytes of the class p alone: it is no matter from where one goes on
+pub record Over (p : ℕ → Bool) (s : List ℕ) (i j : ℕ) : Type 0 where
+  pub from : i ≤ j
+  pub rest : j + span p (drop j s) ≡ i + span p (drop i s)

@@ -1,11 +1,13 @@
 -- `until` meets its contract: what is still to come from `i` makes up the answer from `at`. Assumes nothing.
 use mathlib.Core.Path.{refl, ◌∙◌}
 use native.Mathlib.Omega.{arith}
+use Rattle.std.proofs.Common.{rules}
+use Rattle.xml_tags.specs.Marks.{but}
 use Rattle.xml_tags.proofs.Passing.{until_found, until_again}
 use Rattle.xml_marks.proofs.until.Goals as goal
 
 pub returns-then-s-lt-TURN : goal.returns-then-s-lt-TURN
-returns-then-s-lt-TURN c = c.until_near.ensures
+returns-then-s-lt-TURN c = c.run_end.ensures (but c.args.b) (λ x r e. search rules)
 
 pub loop-i-init : goal.loop-i-init
 loop-i-init c = (omega (arith, c.if-s-lt-TURN.false), refl)
@@ -65,4 +67,4 @@ loop-i-preserved c = (
 )
 
 pub returns : goal.returns
-returns c = c.until_near-2.ensures ∙ c.loop-i.invariant.1
+returns c = c.run_end-2.ensures (but c.args.b) (λ x r e. search rules) ∙ c.loop-i.invariant.1

@@ -15,11 +15,12 @@ use Rattle.xml.specs.mirror.Auto.{Read, bad, all, more, lead, go_on, tail, equal
 use Rattle.xml_scan.specs.mirror.Goes.{fate, Goes, Marked, GoesValue, GoesEquals}
 use Rattle.xml_pieces.specs.Over.{Over}
 use Rattle.xml_pieces.specs.Kinds.{IsPiece}
-use Rattle.xml_pieces.specs.declared.Went.{Went}
-use Rattle.xml_pieces.specs.declared.Went.TheVariants.{On, Stopped}
 use Rattle.xml_scan.proofs.Fate.{fate_end, fate_dead, fate_byte, run_behind, run_over}
 use Rattle.xml_scan.proofs.Passed.{hosted, Hosts, piece_goes}
 use Rattle.xml_scan.proofs.Goes.{goes_after, goes_byte, goes_stop}
+use Rattle.std.specs.Prelude.{Result, Ok}
+use Rattle.xml_pieces.specs.declared.Stopped.{Stopped}
+use Rattle.xml_pieces.specs.Over.{stop}
 
 -- either quote
 pub a_mark : (x : ℕ) → OneOf (34 ∷ 39 ∷ []) x → Marked x
@@ -83,11 +84,11 @@ pub valuing_none : (s : List ℕ) (i m : ℕ) → i ≤ length s → Valuing s i
 valuing_none s i m h = record { from = omega arith; within = h; so = λ q k ss d n ns e. refl }
 
 module _ (s : List ℕ) (o m i : ℕ) (a : Marked m) (v : Valuing s o m i) where
-  pub value_cut : length s ≤ i → GoesValue s o m (Stopped i)
+  pub value_cut : length s ≤ i → GoesValue s o m (stop i)
   value_cut h = λ q k ss d n ns e. v.so q k ss d n ns e ∙ fate_end s i (value q k ss d n ns) h refl
 
   module _ (h : i < length s) where
-    pub value_quote : get_or s i 0 ≡ m → GoesValue s o m (On (i + 1))
+    pub value_quote : get_or s i 0 ≡ m → GoesValue s o m (Ok (i + 1))
     value_quote f =
         λ q k ss d n ns e. (
           omega (arith, v.from),
@@ -95,28 +96,28 @@ module _ (s : List ℕ) (o m i : ℕ) (a : Marked m) (v : Valuing s o m i) where
           v.so q k ss d n ns e ∙ fate_byte s i (value q k ss d n ns) (tail k ss d n ns) h (value_ends q k ss d n ns (get_or s i 0) (f ∙ sym e)),
         )
 
-    module _ (f : get_or s i 0 ≢ m) (r : Went) (g : Over IsPiece (drop i s) i r) where
+    module _ (f : get_or s i 0 ≢ m) (r : Result ℕ Stopped) (g : Over IsPiece (drop i s) i r) where
       goes : (q : Quote) (k : ℕ) (ss : List (List ℕ)) (d : ℕ) (n : List ℕ) (ns : List (List ℕ)) → mark q ≡ m
           → Goes s i (value q k ss d n ns) (value q k ss d n ns) r
       goes q k ss d n ns e =
           piece_goes s i r h g (value q k ss d n ns) (λ p. within p q k ss d n ns) (value q k ss d n ns) (value_hosts q k ss d n ns)
           (value_piece q k ss d n ns (get_or s i 0) (λ t. f (t ∙ e)))
 
-      pub value_stop : (n : ℕ) → r ≡ Stopped n → GoesValue s o m (Stopped n)
+      pub value_stop : (n : ℕ) → r ≡ stop n → GoesValue s o m (stop n)
       value_stop p t = λ q k ss d n ns e. v.so q k ss d n ns e ∙ goes_stop s i (value q k ss d n ns) (value q k ss d n ns) r p (goes q k ss d n ns e) t
 
-      pub piece_on : (j : ℕ) → r ≡ On j → (i < j) × (j ≤ length s)
+      pub piece_on : (j : ℕ) → r ≡ Ok j → (i < j) × (j ≤ length s)
       piece_on j t =
-          let w = subst (λ (z : Went). Goes s i (value a.quote 0 [] 0 [] []) (value a.quote 0 [] 0 [] []) z) t (goes a.quote 0 [] 0 [] [] a.is) in
+          let w = subst (λ (z : Result ℕ Stopped). Goes s i (value a.quote 0 [] 0 [] []) (value a.quote 0 [] 0 [] []) z) t (goes a.quote 0 [] 0 [] [] a.is) in
           (w.0, w.1)
 
-      pub valuing_on : (j : ℕ) → r ≡ On j → Valuing s o m j
+      pub valuing_on : (j : ℕ) → r ≡ Ok j → Valuing s o m j
       valuing_on j t =
           let w = piece_on j t in
           record {
             from = omega (arith, v.from, w.0);
             within = w.1;
-            so = λ q k ss d n ns e. v.so q k ss d n ns e ∙ (subst (λ (z : Went). Goes s i (value q k ss d n ns) (value q k ss d n ns) z) t (goes q k ss d n ns e)).2;
+            so = λ q k ss d n ns e. v.so q k ss d n ns e ∙ (subst (λ (z : Result ℕ Stopped). Goes s i (value q k ss d n ns) (value q k ss d n ns) z) t (goes q k ss d n ns e)).2;
           }
 
 -- ---- blanks, `=`, blanks, and a quote
@@ -125,11 +126,11 @@ module _ (s : List ℕ) (i b : ℕ) (is : b ≡ i + span is_blank (drop i s)) (h
   sign : (k : ℕ) (ss : List (List ℕ)) (d : ℕ) (n : List ℕ) (ns : List (List ℕ)) → fate s i (equals k ss d n ns) ≡ fate s b (equals k ss d n ns)
   sign k ss d n ns = run_over is_blank s i b is (equals k ss d n ns) (equals_blank k ss d n ns)
 
-  pub equals_cut : length s ≤ b → GoesEquals s i (Stopped b)
+  pub equals_cut : length s ≤ b → GoesEquals s i (stop b)
   equals_cut e = λ k ss d n ns. sign k ss d n ns ∙ fate_end s b (equals k ss d n ns) e refl
 
   module _ (l : b < length s) where
-    pub equals_other : get_or s b 0 ≢ 61 → GoesEquals s i (Stopped b)
+    pub equals_other : get_or s b 0 ≢ 61 → GoesEquals s i (stop b)
     equals_other e =
         λ k ss d n ns. sign k ss d n ns ∙ fate_dead s b (equals k ss d n ns) l (equals_dead k ss d n ns (get_or s b 0) (run_behind is_blank s i b is h l) e)
 
@@ -139,16 +140,16 @@ module _ (s : List ℕ) (i b : ℕ) (is : b ≡ i + span is_blank (drop i s)) (h
           sign k ss d n ns ∙ fate_byte s b (equals k ss d n ns) (quote k ss d n ns) l (equals_sign k ss d n ns (get_or s b 0) f)
           ∙ run_over is_blank s (b + 1) c is' (quote k ss d n ns) (quote_blank k ss d n ns)
 
-      pub quote_cut : length s ≤ c → GoesEquals s i (Stopped c)
+      pub quote_cut : length s ≤ c → GoesEquals s i (stop c)
       quote_cut e = λ k ss d n ns. first k ss d n ns ∙ fate_end s c (quote k ss d n ns) e refl
 
       module _ (m : c < length s) where
-        pub quote_other : get_or s c 0 ≢ 39 → get_or s c 0 ≢ 34 → GoesEquals s i (Stopped c)
+        pub quote_other : get_or s c 0 ≢ 39 → get_or s c 0 ≢ 34 → GoesEquals s i (stop c)
         quote_other e g =
             λ k ss d n ns. first k ss d n ns ∙ fate_dead s c (quote k ss d n ns) m
             (quote_dead k ss d n ns (get_or s c 0) (run_behind is_blank s (b + 1) c is' (omega arith) m) e g)
 
-        pub quoted : (q : Quote) (r : Went) → get_or s c 0 ≡ mark q → GoesValue s (c + 1) (get_or s c 0) r → GoesEquals s i r
+        pub quoted : (q : Quote) (r : Result ℕ Stopped) → get_or s c 0 ≡ mark q → GoesValue s (c + 1) (get_or s c 0) r → GoesEquals s i r
         quoted q r e g =
             λ k ss d n ns. goes_after s i (equals k ss d n ns) c (quote k ss d n ns) (tail k ss d n ns) r (omega arith) (first k ss d n ns)
             (goes_byte s c (quote k ss d n ns) (value q k ss d n ns) (tail k ss d n ns) r m (quote_mark k ss d n ns q (get_or s c 0) e) (g q k ss d n ns (sym e)))

@@ -15,11 +15,12 @@ use Rattle.xml.proofs.Basics.{no_colon}
 use Rattle.xml_scan.specs.mirror.Classes.{above}
 use Rattle.xml_scan.specs.mirror.Goes.{fate}
 use Rattle.xml_scan.specs.mirror.Tags.{Named, GoesName}
-use Rattle.xml_pieces.specs.declared.Went.{Went}
-use Rattle.xml_pieces.specs.declared.Went.TheVariants.{On, Stopped}
 use Rattle.xml_scan.proofs.Classes.{above_name}
 use Rattle.xml_scan.proofs.Fate.{fate_end, fate_dead, run_within, run_behind}
 use Rattle.xml_scan.proofs.names.Grown.{grown_byte, grown_first, grown_run}
+use Rattle.std.specs.Prelude.{Result, Ok}
+use Rattle.xml_pieces.specs.declared.Stopped.{Stopped}
+use Rattle.xml_pieces.specs.Over.{stop}
 
 -- ---- the automaton at a byte of it
 
@@ -81,11 +82,11 @@ module _ (s : List ℕ) (b : ℕ) (h : b < length s) (e : is_name_start (get_or 
           first k ss d n ns
           ∙ grown_byte (λ l. attr colon l k ss d n ns) s b (attr early (slice b c s) k ss d n ns) c (omega (arith, is)) l (early_colon k ss d n ns (slice b c s) (get_or s c 0) f)
 
-      pub colon_cut : length s ≤ c + 1 → GoesName s b (Stopped (c + 1))
+      pub colon_cut : length s ≤ c + 1 → GoesName s b (stop (c + 1))
       colon_cut m = λ k ss d n ns. second k ss d n ns ∙ fate_end s (c + 1) (attr colon (slice b (c + 1) s) k ss d n ns) m refl
 
       module _ (m : c + 1 < length s) where
-        pub colon_bare : is_name_start (get_or s (c + 1) 0) ≡ false → GoesName s b (Stopped (c + 1))
+        pub colon_bare : is_name_start (get_or s (c + 1) 0) ≡ false → GoesName s b (stop (c + 1))
         colon_bare g =
             λ k ss d n ns. second k ss d n ns
             ∙ fate_dead s (c + 1) (attr colon (slice b (c + 1) s) k ss d n ns) m (colon_other k ss d n ns (slice b (c + 1) s) (get_or s (c + 1) 0) g)
@@ -104,5 +105,5 @@ module _ (s : List ℕ) (b : ℕ) (h : b < length s) (e : is_name_start (get_or 
             }
 
 -- a name that was found ends within the text
-pub name_within : (s : List ℕ) (b : ℕ) (r : Went) → GoesName s b r → (c : ℕ) → r ≡ On c → c ≤ length s
+pub name_within : (s : List ℕ) (b : ℕ) (r : Result ℕ Stopped) → GoesName s b r → (c : ℕ) → r ≡ Ok c → c ≤ length s
 name_within s b r o c w = let n : Named s b c = subst (GoesName s b) w o in n.within

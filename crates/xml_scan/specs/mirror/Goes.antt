@@ -1,11 +1,10 @@
 -- A mirror: what the scanner's functions say of the automaton that reads house XML a byte at a time. Each is said for every
 -- automaton's state that the construct can begin in, so that no function needs to know what stands around its construct.
 -- Assumes nothing.
-use Rattle.std.specs.Prelude.{◌≡◌, Bool, true, false, List, ℕ, ◌+◌, ◌≤◌, ◌<◌, length, drop}
+use Rattle.std.specs.Prelude.{Result, Ok, Err, ◌≡◌, Bool, true, false, List, ℕ, ◌+◌, ◌≤◌, ◌<◌, length, drop}
 use Rattle.xml.specs.House.{Quote, mark}
 use Rattle.xml.specs.mirror.Auto.{At, done, start, first, before, root, declare, name, tail, gap, attr, equals, quote, value, within, slash, content, part, less, close, St, dead, at, run, live_len}
-use Rattle.xml_pieces.specs.declared.Went.{Went}
-use Rattle.xml_pieces.specs.declared.Went.TheVariants.{On, Stopped}
+use Rattle.xml_pieces.specs.declared.Stopped.{Stopped}
 
 -- a text may end in this state
 abbrev pub may_end : At → Bool
@@ -42,15 +41,15 @@ abbrev pub fate : List ℕ → ℕ → At → Bool × ℕ
 fate s i a = comes (drop i s) i a
 
 -- from a at i: on to b after at least one byte; or the text stops
-abbrev pub Goes : List ℕ → ℕ → At → At → Went → Type 0
-Goes s i a b (On e) = (i < e) × (e ≤ length s) × (fate s i a ≡ fate s e b)
-Goes s i a b (Stopped n) = fate s i a ≡ (false, n)
+abbrev pub Goes : List ℕ → ℕ → At → At → Result ℕ Stopped → Type 0
+Goes s i a b (Ok e) = (i < e) × (e ≤ length s) × (fate s i a ≡ fate s e b)
+Goes s i a b (Err n) = fate s i a ≡ (false, n.at)
 
 -- ---- text
-abbrev pub GoesOther : List ℕ → ℕ → Went → Type 0
+abbrev pub GoesOther : List ℕ → ℕ → Result ℕ Stopped → Type 0
 GoesOther s i r = (d : ℕ) (n : List ℕ) (ns : List (List ℕ)) → Goes s i (content 0 d n ns) (content 0 d n ns) r
 
-abbrev pub GoesText : List ℕ → ℕ → Went → Type 0
+abbrev pub GoesText : List ℕ → ℕ → Result ℕ Stopped → Type 0
 GoesText s i r = (d : ℕ) (n : List ℕ) (ns : List (List ℕ)) → Goes s i (content 0 d n ns) (less d n ns) r
 
 -- ---- attributes
@@ -58,11 +57,11 @@ pub record Marked (m : ℕ) : Type 0 where
   pub quote : Quote
   pub is : mark quote ≡ m
 
-abbrev pub GoesValue : List ℕ → ℕ → ℕ → Went → Type 0
+abbrev pub GoesValue : List ℕ → ℕ → ℕ → Result ℕ Stopped → Type 0
 GoesValue s i m r =
     (q : Quote) (k : ℕ) (ss : List (List ℕ)) (d : ℕ) (n : List ℕ) (ns : List (List ℕ))
     → mark q ≡ m → Goes s i (value q k ss d n ns) (tail k ss d n ns) r
 
-abbrev pub GoesEquals : List ℕ → ℕ → Went → Type 0
+abbrev pub GoesEquals : List ℕ → ℕ → Result ℕ Stopped → Type 0
 GoesEquals s i r =
     (k : ℕ) (ss : List (List ℕ)) (d : ℕ) (n : List ℕ) (ns : List (List ℕ)) → Goes s i (equals k ss d n ns) (tail k ss d n ns) r

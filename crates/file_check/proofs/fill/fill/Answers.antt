@@ -1,8 +1,8 @@
 -- `fill::fill` meets its contract. Assumes nothing.
 use native.Mathlib.Omega.{arith}
-use mathlib.Core.Path.{refl, ◌∙◌}
+use mathlib.Core.Path.{refl, sym, ◌∙◌}
 use Rattle.value.proofs.given.Putting.{kept}
-use Rattle.file_check.proofs.House.{WritingOn, AtTag, AtOpening, fill_first, name_in, fill_low, fill_room, fill_ends, fill_out_less, fill_out, fill_comes, fill_row, fill_in_less, fill_in, fill_ready, fill_close, fill_past_less, fill_past}
+use Rattle.file_check.proofs.House.{WritingOn, AtTag, AtOpening, fill_begins, fill_first, name_in, fill_low, fill_room, fill_ends, fill_out_less, fill_out, fill_comes, fill_row, fill_in_less, fill_in, fill_ready, fill_close, fill_some, fill_past_less, fill_past}
 use Rattle.std.proofs.Common.{◌≡◌, ◌+◌, Bool, false, List, ℕ, drop}
 use lib.Seq.{slice}
 use Rattle.text.specs.Bytes.{is_blank}
@@ -29,9 +29,12 @@ abbrev opening_at : (turn : AtTag) {c : Bool} {tag : Tag} {r v : ℕ} {g : Bool}
     → r ≡ child (list_of turn.t turn.pool) turn.here.row (slice (turn.o + 1) tag.stop turn.s) → v ≡ cell turn.t r 2 → g ≡ is_group_in v → AtOpening
 opening_at turn {c} {tag} {r} {v} {g} closes opens reads names kind group = record { turn = turn; c = c; closes = closes; opens = opens; tag = tag; reads = reads; r = r; names = names; v = v; kind = kind; g = g; group = group }
 
+pub unwrap-root-requires : goal.unwrap-root-requires
+unwrap-root-requires c = fill_begins _ _ _ _ c.requires _ c.begin.ensures
+
 pub loop-here-init : goal.loop-here-init
 loop-here-init c =
-    fill_first _ _ _ _ c.requires _ c.begin-first.ensures _ c.stand-here.ensures _ _ _ c.put_head-at.ensures.means
+    fill_first _ _ _ _ c.requires _ (sym c.unwrap-root.ensures ∙ c.begin.ensures) _ c.stand-here.ensures _ _ _ c.put_head-at.ensures.means
 
 pub overflow_add-name : goal.overflow_add-name
 overflow_add-name c =
@@ -89,11 +92,17 @@ loop-here-preserved-then-is_group c =
     let told = opening_at turn c.is_close.ensures c.if-is_close.false c.tag_at-tag.ensures (rw c.part_of.ensures at c.row_of-r.ensures) c.cell-else-is_close.ensures c.is_group.ensures in
     fill_in told c.if-is_group.true _ c.stand-here-then-is_group.ensures _ refl _ c.place-then-is_group.ensures
 
-pub put_leaf-at-requires : goal.put_leaf-at-requires
-put_leaf-at-requires c =
+pub put_leaf-requires : goal.put_leaf-requires
+put_leaf-requires c =
     let turn = tag_at c.requires c.loop-here.invariant c.blanks_end-less.ensures in
     let told = opening_at turn c.is_close.ensures c.if-is_close.false c.tag_at-tag.ensures (rw c.part_of.ensures at c.row_of-r.ensures) c.cell-else-is_close.ensures c.is_group.ensures in
     fill_ready told c.if-is_group.false
+
+pub unwrap-at-requires : goal.unwrap-at-requires
+unwrap-at-requires c =
+    let turn = tag_at c.requires c.loop-here.invariant c.blanks_end-less.ensures in
+    let told = opening_at turn c.is_close.ensures c.if-is_close.false c.tag_at-tag.ensures (rw c.part_of.ensures at c.row_of-r.ensures) c.cell-else-is_close.ensures c.is_group.ensures in
+    fill_some told c.if-is_group.false _ c.text_end-end.ensures _ _ c.put_leaf.ensures
 
 pub overflow_add-end : goal.overflow_add-end
 overflow_add-end c =
@@ -113,4 +122,4 @@ loop-here-preserved c =
     let turn = tag_at c.requires c.loop-here.invariant c.blanks_end-less.ensures in
     let told = opening_at turn c.is_close.ensures c.if-is_close.false c.tag_at-tag.ensures (rw c.part_of.ensures at c.row_of-r.ensures) c.cell-else-is_close.ensures c.is_group.ensures in
     fill_past told c.if-is_group.false _ c.text_end-end.ensures _
-    c.close_end-else-is_group.ensures _ c.stand-here-else-is_group.ensures _ _ c.put_leaf-at.ensures
+    c.close_end-else-is_group.ensures _ c.stand-here-else-is_group.ensures _ _ (rw c.unwrap-at.ensures at c.put_leaf.ensures)

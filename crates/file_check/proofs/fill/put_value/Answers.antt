@@ -8,4 +8,4 @@ returns-then-kind-eq-ENUM c =
 
 pub returns : goal.returns
 returns c =
-    valued_written _ _ _ _ c.requires.0 _ _ _ _ c.if-kind-eq-ENUM.false _ _ c.cell-most.ensures _ c.write.ensures
+    valued_written _ _ _ _ c.requires.0 _ _ _ _ c.if-kind-eq-ENUM.false _ _ c.cell-most.ensures _ c.then_some.ensures _ c.write-n.ensures

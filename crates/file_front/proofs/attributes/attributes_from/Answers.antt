@@ -9,16 +9,13 @@ use Rattle.file_front.proofs.attributes.attributes_from.Goals as goal
 pub loop-seen-init : goal.loop-seen-init
 loop-seen-init c = carries_none _ _ _ refl refl refl refl
 
-pub returns-then-seen-eq0 : goal.returns-then-seen-eq0
-returns-then-seen-eq0 c = λ z. absurd (z c.if-seen-eq0.true)
-
 pub loop-seen-smaller : goal.loop-seen-smaller
 loop-seen-smaller c =
-    let w = adds_on _ _ _ (c.with_one-seen.ensures c.if-seen-eq0.false) in
+    let w = adds_on _ _ _ c.in_ok-seen.ensures in
     omega (arith, w.0, w.1)
 
 pub loop-seen-preserved : goal.loop-seen-preserved
-loop-seen-preserved c = carries_more _ _ _ _ c.loop-seen.invariant (c.with_one-seen.ensures c.if-seen-eq0.false)
+loop-seen-preserved c = carries_more _ _ _ _ c.loop-seen.invariant c.in_ok-seen.ensures
 
 pub returns : goal.returns
-returns c = λ z. (c.loop-seen.invariant, shut_by _ _ (sym c.begins.ensures ∙ not-false _ c.loop-seen-test.false-raw))
+returns c = (c.loop-seen.invariant, shut_by _ _ (sym c.begins.ensures ∙ not-false _ c.loop-seen-test.false-raw))

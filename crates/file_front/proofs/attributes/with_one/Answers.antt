@@ -1,13 +1,11 @@
 -- `attributes::with_one` meets its contract. Assumes nothing.
 use mathlib.Core.Path.{refl, sym, ◌∙◌}
 use native.Mathlib.Omega.{arith}
+use Rattle.std.proofs.lemmas.Option.{IfSome_then}
 use Rattle.text.specs.Bytes.{ascii}
 use Rattle.file_front.proofs.Joining.{starts_room}
 use Rattle.file_front.proofs.Bearing.{puts_adds}
 use Rattle.file_front.proofs.attributes.with_one.Goals as goal
-
-pub returns-then-from-seen : goal.returns-then-from-seen
-returns-then-from-seen c = λ z. absurd (z c.lost.ensures)
 
 pub overflow_add-from : goal.overflow_add-from
 overflow_add-from c =
@@ -15,7 +13,8 @@ overflow_add-from c =
 
 pub returns-then-begins : goal.returns-then-begins
 returns-then-begins c =
-    λ z. puts_adds (ascii "xmlns") (ascii "xmlns=") _ _ _ _ c.blanks_end-from.ensures c.if-from-seen.false refl (sym c.begins.ensures ∙ c.if-begins.true) (c.with_space.ensures z)
+    IfSome_then c.with_space.result c.with_space.ensures
+    (λ d g. puts_adds (ascii "xmlns") (ascii "xmlns=") _ _ _ _ c.blanks_end-from.ensures c.if-from-seen.false refl (sym c.begins.ensures ∙ c.if-begins.true) g)
 
 pub overflow_add-from-then-begins-2 : goal.overflow_add-from-then-begins-2
 overflow_add-from-then-begins-2 c =
@@ -23,7 +22,8 @@ overflow_add-from-then-begins-2 c =
 
 pub returns-then-begins-2 : goal.returns-then-begins-2
 returns-then-begins-2 c =
-    λ z. puts_adds (ascii "xmlns:xsi") (ascii "xmlns:xsi=") _ _ _ _ c.blanks_end-from.ensures c.if-from-seen.false refl (sym c.begins-2.ensures ∙ c.if-begins-2.true) (c.with_prefix.ensures z)
+    IfSome_then c.with_prefix.result c.with_prefix.ensures
+    (λ d g. puts_adds (ascii "xmlns:xsi") (ascii "xmlns:xsi=") _ _ _ _ c.blanks_end-from.ensures c.if-from-seen.false refl (sym c.begins-2.ensures ∙ c.if-begins-2.true) g)
 
 pub overflow_add-from-then-begins-3 : goal.overflow_add-from-then-begins-3
 overflow_add-from-then-begins-3 c =
@@ -31,7 +31,5 @@ overflow_add-from-then-begins-3 c =
 
 pub returns-then-begins-3 : goal.returns-then-begins-3
 returns-then-begins-3 c =
-    λ z. puts_adds (ascii "xsi:schemaLocation") (ascii "xsi:schemaLocation=") _ _ _ _ c.blanks_end-from.ensures c.if-from-seen.false refl (sym c.begins-3.ensures ∙ c.if-begins-3.true) (c.with_location.ensures z)
-
-pub returns : goal.returns
-returns c = λ z. absurd (z c.lost-2.ensures)
+    IfSome_then c.with_location.result c.with_location.ensures
+    (λ d g. puts_adds (ascii "xsi:schemaLocation") (ascii "xsi:schemaLocation=") _ _ _ _ c.blanks_end-from.ensures c.if-from-seen.false refl (sym c.begins-3.ensures ∙ c.if-begins-3.true) g)

@@ -1,19 +1,13 @@
 -- `quoted::value_end` meets its contract. Assumes nothing.
-use mathlib.Core.Path.{refl}
-use native.Mathlib.Omega.{arith}
-use borrow.Author.Tests.{not-false}
+use mathlib.Core.Path.{subst}
+use Prim.Native.Nat.{ℕ, ◌+◌}
+use Rattle.std.proofs.lemmas.Option.{IfSome_then}
+use Rattle.file_front.specs.mirror.Values.{Quotes, Valued}
 use Rattle.file_front.proofs.Valuing.{quoted_by}
 use Rattle.file_front.proofs.quoted.value_end.Goals as goal
 
-pub returns-then-s-at : goal.returns-then-s-at
-returns-then-s-at c = λ z. absurd (z refl)
-
-pub returns-then-not-is_quote : goal.returns-then-not-is_quote
-returns-then-not-is_quote c = λ z. absurd (z refl)
-
-pub text_end-requires : goal.text_end-requires
-text_end-requires c = c.is_quote.ensures (not-false _ c.if-not-is_quote.false-raw)
-
 pub returns : goal.returns
 returns c =
-    λ z. quoted_by _ _ _ (omega (arith, c.if-s-at.false)) (c.is_quote.ensures (not-false _ c.if-not-is_quote.false-raw)) (c.text_end.ensures z)
+    let q = c.in_ok-quote.ensures in
+    IfSome_then c.text_end.result c.text_end.ensures
+    (λ r v. quoted_by _ _ r q.0 (subst Quotes q.1 q.2) (subst (λ (m : ℕ). Valued c.args.s.now (c.args.at + 1) m r) q.1 v))

@@ -1,26 +1,13 @@
 -- `quoted::word_end` meets its contract. Assumes nothing.
-use mathlib.Core.Path.{refl, sym, ◌∙◌}
+use mathlib.Core.Path.{refl, sym, ◌∙◌, subst}
 use native.Mathlib.Omega.{arith}
 use borrow.Author.Tests.{not-false}
+use Rattle.file_front.specs.mirror.Values.{Quotes}
 use Rattle.file_front.proofs.Valuing.{worded_by}
 use Rattle.file_front.proofs.quoted.word_end.Goals as goal
 
-pub returns-then-s-at : goal.returns-then-s-at
-returns-then-s-at c = λ z. absurd (z refl)
-
-pub returns-then-not-is_quote : goal.returns-then-not-is_quote
-returns-then-not-is_quote c = λ z. absurd (z refl)
-
-pub returns-then-not-begins : goal.returns-then-not-begins
-returns-then-not-begins c = λ z. absurd (z refl)
-
-pub returns-then-s-end : goal.returns-then-s-end
-returns-then-s-end c = λ z. absurd (z refl)
-
-pub returns-then-s-end-2 : goal.returns-then-s-end-2
-returns-then-s-end-2 c = λ z. absurd (z refl)
-
 pub returns : goal.returns
 returns c =
-    λ z. worded_by _ _ _ _ _ (omega (arith, c.if-s-at.false)) (c.is_quote.ensures (not-false _ c.if-not-is_quote.false-raw)) refl (sym c.begins.ensures ∙ not-false _ c.if-not-begins.false-raw) refl
-    (omega (arith, c.if-s-end.false)) c.if-s-end-2.false
+    let q = c.in_ok-quote.ensures in
+    worded_by _ _ _ _ _ q.0 (subst Quotes q.1 q.2) refl (sym c.begins.ensures ∙ not-false _ c.if-not-begins.false-raw) refl
+    (omega (arith, c.if-s-end.false)) (c.if-s-end-2.false ∙ q.1)

@@ -9,4 +9,4 @@ returns-then-kind-eq-ENUM c =
 
 pub returns : goal.returns
 returns c =
-    λ cur at. valued_counted _ _ _ _ c.requires.0 cur _ _ at c.if-kind-eq-ENUM.false _ _ c.cell.ensures refl c.size.ensures
+    λ cur at. valued_counted _ _ _ _ c.requires.0 cur _ _ at c.if-kind-eq-ENUM.false _ _ c.cell.ensures _ c.then_some.ensures refl c.size-n.ensures

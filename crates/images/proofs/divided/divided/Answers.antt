@@ -1,7 +1,7 @@
 -- `divided::divided` meets its contract: what the loop has written and what comes from its place on are what comes from the start on. Assumes nothing.
 use mathlib.Core.Path.{◌∙◌, sym}
 use native.Mathlib.Omega.{arith}
-use Rattle.images.proofs.Dividing.{dividing_start, dividing_room, dividing_end, dividing_counts, dividing_refused, refused_counts, refused_long, dividing_less, dividing_again, told_counts, rest_told}
+use Rattle.images.proofs.Dividing.{dividing_start, dividing_room, dividing_end, dividing_counts, dividing_refused, refused_counts, refused_long, dividing_less, dividing_again, told_counts, rest_taken}
 use Rattle.images.proofs.divided.divided.Goals as goal
 
 pub loop-at-init : goal.loop-at-init
@@ -34,12 +34,12 @@ loop-at-smaller c =
 pub loop-at-preserved : goal.loop-at-preserved
 loop-at-preserved c =
     let p = c.put_image-n in
-    let g = c.reading-told in
+    let g = c.taken-count in
     let x = c.next_at-step in
     let z = c.if-step-ne-ACCEPTED.false in
     let w = c.loop-at.invariant in
     let h = c.loop-at-test.true in
-    let b = rest_told c.args.run.now c.loop-at.at _ g.ensures in
+    let b = rest_taken c.args.run.now c.loop-at.at _ g.ensures in
     dividing_again _ _ _ _ w h x.result x.ensures z _ (told_counts _ _ _ _ w h x.result x.ensures z g.result b) _ _ p.ensures.0 p.ensures.1
 
 pub shape_of-out : goal.shape_of-out

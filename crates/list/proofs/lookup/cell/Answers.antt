@@ -1,21 +1,15 @@
 -- `lookup::cell` meets its contract. Assumes nothing.
-use mathlib.Core.Path.{sym, ◌∙◌}
-use native.Mathlib.Omega.{arith}
-use Rattle.list.proofs.rows.Cells.{no_column, no_row, no_cell, cell_at}
+use Rattle.std.proofs.Common.{◌≡◌, ◌+◌, ◌*◌, get_or, sym, ◌∙◌, inl, inr, rules}
+use Rattle.list.proofs.rows.Cells.{no_column, no_row, cell_at}
 use Rattle.list.proofs.lookup.cell.Goals as goal
 
 pub returns-then-column-gt-WORD_COUNT : goal.returns-then-column-gt-WORD_COUNT
-returns-then-column-gt-WORD_COUNT c =
-    no_column c.args.rows.now c.args.r c.args.column c.if-column-gt-WORD_COUNT.true
+returns-then-column-gt-WORD_COUNT c = elim c.then-column-gt-WORD_COUNT.either [
+  | inl h ↦ no_column _ _ _ h
+  | inr h ↦ no_row _ _ _ h.0 h.1
+]
 
-pub returns-then-r-gt-MOST_ROWS : goal.returns-then-r-gt-MOST_ROWS
-returns-then-r-gt-MOST_ROWS c =
-    no_row c.args.rows.now c.args.r c.args.column (omega arith) c.if-r-gt-MOST_ROWS.true
-
-pub returns-then-at-rows : goal.returns-then-at-rows
-returns-then-at-rows c =
-    c.wide.ensures ∙ sym (cell_at c.args.rows.now c.args.r c.args.column (omega arith) (omega arith))
-
-pub returns-else-at-rows : goal.returns-else-at-rows
-returns-else-at-rows c =
-    no_cell c.args.rows.now c.args.r c.args.column (omega arith) (omega arith) (omega arith)
+pub returns : goal.returns
+returns c =
+    let found : c.map_or.result ≡ get_or c.args.rows.now (16 * c.args.r + c.args.column) 0 = search rules in
+    found ∙ sym (cell_at _ _ _ c.if-column-gt-WORD_COUNT.false c.if-r-gt-MOST_ROWS.false)

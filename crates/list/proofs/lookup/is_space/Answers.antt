@@ -4,5 +4,4 @@ use Rattle.list.proofs.lookup.is_space.Goals as goal
 
 pub returns : goal.returns
 unfolding list_of
-returns c =
-    rw (← c.cell.ensures, ← c.cell-2.ensures, ← c.part_of.ensures) c.same.ensures
+returns c = rw (← c.named_part.ensures) c.same.ensures

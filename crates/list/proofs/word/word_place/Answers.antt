@@ -1,37 +1,19 @@
 -- `word::word_place` meets its contract. Assumes nothing.
-use native.Mathlib.Omega.{arith}
-use Rattle.list.proofs.words.Split.{seek_nothing, seek_start, seek_found, seek_none, seek_again}
+use Rattle.std.proofs.Common.{rules, tests, ◌==◌}
+use Rattle.std.proofs.lemmas.Iterator.Search.{position_from_yields_List}
+use Rattle.std.proofs.lemmas.Iterator.Splits.{YieldsList-from_slice_split}
+use Rattle.text.specs.Lists.{same}
+use Rattle.list.proofs.words.Split.{no_place, place_by}
 use Rattle.list.proofs.word.word_place.Goals as goal
 
-pub returns-then-end-i : goal.returns-then-end-i
-returns-then-end-i c =
-    seek_nothing c.args.pool.now _ _ _ _ _ _ c.least-end.ensures c.cell-i.ensures c.cell.ensures c.if-end-i.true
+pub returns-then-is_empty : goal.returns-then-is_empty
+returns-then-is_empty c =
+    no_place c.args.word.now _ _ c.named_part-text.ensures (search (rules, tests))
 
-pub loop-r-init : goal.loop-r-init
-loop-r-init c =
-    seek_start c.args.pool.now _ _ _ _ _ _ c.least-end.ensures c.cell-i.ensures c.cell.ensures (omega (arith, c.if-end-i.false))
-
-pub word_end-j-requires : goal.word_end-j-requires
-word_end-j-requires c = c.loop-r.invariant.to
-
-pub returns-then-same : goal.returns-then-same
-returns-then-same c =
-    seek_found c.loop-r.invariant c.word_end-j.ensures (rw c.part_of.ensures at c.same.ensures) c.if-same.true
-
-pub returns-then-end-j : goal.returns-then-end-j
-returns-then-end-j c =
-    seek_none c.loop-r.invariant c.word_end-j.ensures (rw c.part_of.ensures at c.same.ensures) c.if-same.false c.if-end-j.true
-
-pub overflow_add-i : goal.overflow_add-i
-overflow_add-i c = omega (arith, c.loop-r.invariant.to)
-
-pub overflow_add-place : goal.overflow_add-place
-overflow_add-place c =
-    omega (arith, c.loop-r.invariant.to, c.loop-r.invariant.low, c.word_end-j.ensures)
-
-pub loop-r-smaller : goal.loop-r-smaller
-loop-r-smaller c = omega (arith, c.word_end-j.ensures)
-
-pub loop-r-preserved : goal.loop-r-preserved
-loop-r-preserved c =
-    seek_again c.loop-r.invariant c.word_end-j.ensures (rw c.part_of.ensures at c.same.ensures) c.if-same.false c.if-end-j.false
+pub returns : goal.returns
+returns c =
+    let text = c.named_part-text.result.now in
+    let found = position_from_yields_List (λ w. same w c.args.word.now) _ _ c.position.result c.position.ensures.ran
+    (YieldsList-from_slice_split _ (λ b. b == 32) text c.split.ensures.rest c.split.ensures.done c.split.ensures.closure (λ x r q k. search (rules, tests)))
+    (λ x r q k. search (rules, tests)) in
+    place_by c.args.word.now _ _ _ _ c.named_part-text.ensures (search (rules, tests)) found (search rules)

@@ -1,19 +1,17 @@
--- `case::case_in` meets its contract: the tests of a case that is whole. Assumes nothing.
-use mathlib.Core.Path.{◌≡◌, ◌∙◌, ap}
+-- `case::case_in` meets its contract: a head's case, with as many bytes as it has. Assumes nothing.
+use mathlib.Core.Path.{◌∙◌}
 use native.Mathlib.Omega.{arith}
-use Rattle.program_feed.specs.Cases.{case_of, size_of}
-use Rattle.program_feed.proofs.Heads.{in_short, in_whole}
+use Rattle.program_feed.proofs.Heads.{in_none, kept_case, in_cut, in_all}
 use Rattle.program_feed.proofs.case.case_in.Goals as goal
 
-pub returns-then-feed-lt-HEAD : goal.returns-then-feed-lt-HEAD
-returns-then-feed-lt-HEAD c = in_short c.args.feed.now (omega arith)
+pub returns-in_err-case : goal.returns-in_err-case
+returns-in_err-case c = c.from_residual.ensures ∙ in_none _ c.in_err-case.ensures
 
-pub returns-then-feed-size_of : goal.returns-then-feed-size_of
-returns-then-feed-size_of c =
-    let e : c.size_of.result ≡ size_of (case_of c.args.feed.now) = c.size_of.ensures ∙ ap size_of c.case_of-c.ensures in
-    in_short c.args.feed.now (omega arith)
+pub overflow_add-case : goal.overflow_add-case
+overflow_add-case c = omega (arith, (kept_case _ _ c.in_ok-case.ensures).0)
+
+pub returns-then-feed-case : goal.returns-then-feed-case
+returns-then-feed-case c = in_cut _ _ c.in_ok-case.ensures c.if-feed-case.true
 
 pub returns : goal.returns
-returns c =
-    let e : c.size_of.result ≡ size_of (case_of c.args.feed.now) = c.size_of.ensures ∙ ap size_of c.case_of-c.ensures in
-    c.case_of-c.ensures ∙ in_whole c.args.feed.now (omega arith)
+returns c = in_all _ _ c.in_ok-case.ensures c.if-feed-case.false

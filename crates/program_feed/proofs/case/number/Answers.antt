@@ -1,9 +1,10 @@
--- `case::number` meets its contract: a number of 32 bits, byte by byte. Assumes nothing.
-use mathlib.Core.Path.{sym}
+-- `case::number` meets its contract: four bytes, the least significant first. Assumes nothing.
+use mathlib.Core.Path.{◌∙◌}
+use native.Mathlib.Omega.{arith}
 use Rattle.program_feed.proofs.Heads.{four}
 use Rattle.program_feed.proofs.case.number.Goals as goal
 
 pub returns : goal.returns
 returns c =
-    rw (c.wide.ensures.0, c.wide-2.ensures.0, c.wide-3.ensures.0, c.wide-4.ensures.0)
-    (sym (four c.args.s.now c.args.at c.requires))
+    let p = c.in_ok-bytes.ensures.cases in
+    (omega (arith, p.2), c.from_le_bytes.ensures ∙ four _ _ (omega (arith, p.2)) p.0, p.1)

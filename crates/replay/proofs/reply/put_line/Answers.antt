@@ -1,16 +1,14 @@
 -- `reply::put_line` meets its contract: the line fits, so it is the buffer's beginning. Assumes nothing.
-use Prim.Native.Nat.{◌≤◌}
 use native.Mathlib.Omega.{arith}
-use lib.ListN.{length}
-use Rattle.program_reply.specs.Reply.{answer_line}
-use Rattle.program_reply.proofs.Replies.{put_taken}
-use Rattle.program_line.proofs.Lines.{counts}
-use Rattle.replay.proofs.Replying.{put_long}
+use Rattle.program_reply.proofs.Replies.{put_told}
+use Rattle.replay.proofs.Replying.{put_fitting}
 use Rattle.replay.proofs.reply.put_line.Goals as goal
+
+pub unwrap-requires : goal.unwrap-requires
+unwrap-requires c = let p = c.put_answer.ensures in put_told _ _ _ _ (omega (arith, p.most, c.requires)) p.put
 
 pub returns : goal.returns
 returns c =
-    let p = c.put_answer in
-    let l = answer_line c.args.a c.args.s.now in
-    let h : length l ≤ length c.args.line.now = omega (arith, p.ensures.most, c.requires) in
-    record { is = put_taken l c.args.line.now p.result _ h p.ensures.put; within = let w = put_long l c.args.line.now p.result _ h p.ensures.put in counts p.result _ (omega arith) }
+    let p = c.put_answer.ensures in
+    let w = put_fitting _ _ (omega (arith, p.most, c.requires)) p.put c.unwrap.result c.unwrap.ensures in
+    record { is = w.0; within = w.1 }

@@ -1,9 +1,10 @@
 -- `number::get` meets its contract. Assumes nothing.
-use Rattle.text.proofs.Numbers.{get_less, get_whole}
+use Rattle.std.proofs.Common.{arith, ◌≤◌, ◌^◌, length}
+use native.Mathlib.Nat.{pow-le-pow_right}
 use Rattle.text_bytes.proofs.number.get.Goals as goal
 
-pub gather-requires : goal.gather-requires
-gather-requires c = (c.requires, get_less c.args.s.now c.args.at _ _ c.part_len-there.ensures c.if-there-w.true)
-
-pub gather-requires-2 : goal.gather-requires-2
-gather-requires-2 c = (c.requires, get_whole c.args.s.now c.args.at _ _ c.part_len-there.ensures c.if-there-w.false)
+pub returns-in-None-clause-fits : goal.returns-in-None-clause-fits
+returns-in-None-clause-fits g c =
+    let i : length c.rest-there.result.now ≤ g.row.W = omega (arith, c.in-None.ensures.cases) in
+    let q : 256 ^ length c.rest-there.result.now ≤ 256 ^ g.row.W = pow-le-pow_right (omega arith) i in
+    omega (arith, c.number_of-in-None.ensures.fits)

@@ -9,6 +9,9 @@ use lib.Dec.{leb, eqb}
 use lib.ListN.{length, drop, length-drop, drop_of_length-le}
 use lib.Seq.{drop-drop}
 use borrow.Author.Tests.{eqb-true}
+use Rattle.std.proofs.Common.{Option, Some, None, if◌then◌else◌}
+use Rattle.std.specs.Bool.{then_some}
+use Rattle.std.proofs.lemmas.Option.{none-some, same_Some}
 use Rattle.text.specs.Lists.{span, Each}
 use Rattle.text_characters.specs.Utf8.{Scalar, encode, encode_all}
 use Rattle.text_characters.specs.Chars.{Decoded}
@@ -33,14 +36,13 @@ zero_txt = refl
 
 -- ---- one character, as it is decoded
 
-module _ (t : List ℕ) (r : Char) (d : Decoded t r) (b : Bool) (e : b ≡ is_txt r.code) where
-  pub len_some : b ≡ true → r.len ≡ txt_len t
-  unfolding txt_len
-  len_some y = rw (sym (decoded_one t r d), sym e, y)
-
-  pub len_none : b ≡ false → 0 ≡ txt_len t
-  unfolding txt_len
-  len_none y = rw (sym (decoded_one t r d), sym e, y)
+pub len_is : (t : List ℕ) (r : Char) → Decoded t r → (b : Bool) → b ≡ is_txt r.code → (o : Option ℕ) → o ≡ then_some b r.len → o ≡ txt_len t
+unfolding txt_len
+len_is t r d b e o f = rw (sym (decoded_one t r d), sym e) (f ∙ some b)
+  where
+    some : (b : Bool) → then_some b r.len ≡ (if b then Some r.len else None)
+    some true = refl
+    some false = refl
 
 -- ---- ink: a text that is all spaces is its own bytes
 
@@ -135,35 +137,36 @@ module _ (s : List ℕ) (i more : ℕ) (w : Passing s i more) where
       and-true true = refl
       and-true false = refl
 
-  module _ (h : i < length s) (n : ℕ) (e : n ≡ txt_len (drop i s)) where
+  module _ (h : i < length s) where
     room : 0 < length (drop i s)
     room = omega (arith, length-drop i s)
 
-    pub pass_bad : n ≡ 0 → (k : ℕ) → false ≡ is_writing k s
+    pub pass_bad : None ≡ txt_len (drop i s) → (k : ℕ) → false ≡ is_writing k s
     unfolding is_writing text_from every txt_len
-    pass_bad z k = go (is_txt (decoded (drop i s)).code) refl
+    pass_bad e k = go (is_txt (decoded (drop i s)).code) refl e
       where
-        go : (b : Bool) → is_txt (decoded (drop i s)).code ≡ b → false ≡ is_writing k s
-        go true f =
-            let l : (decoded (drop i s)).len ≡ 0 = sym (rw f) ∙ sym e ∙ z in
-            absurd (omega (arith, l, begun_some is_txt zero_txt (drop i s) f))
-        go false f =
+        go : (b : Bool) → is_txt (decoded (drop i s)).code ≡ b → None ≡ (if b then Some (decoded (drop i s)).len else None) → false ≡ is_writing k s
+        go true f e = absurd (none-some _ e)
+        go false f e =
             let c = chars_first (drop i s) room in
             let g : every is_txt (chars s) ≡ false = w.class ∙ ap (every is_txt) c.1 ∙ ap (λ (b : Bool). b && every is_txt c.0) f in
             sym (rw g (and-false (leb (0 + length (chars s)) k)))
 
-    module _ (z : n ≢ 0) where
+    module _ (n : ℕ) (e : Some n ≡ txt_len (drop i s)) where
       good : is_txt (decoded (drop i s)).code ≡ true
       unfolding txt_len
-      good = go (is_txt (decoded (drop i s)).code) refl
+      good = go (is_txt (decoded (drop i s)).code) e
         where
-          go : (b : Bool) → is_txt (decoded (drop i s)).code ≡ b → b ≡ true
+          go : (b : Bool) → Some n ≡ (if b then Some (decoded (drop i s)).len else None) → b ≡ true
           go true f = refl
-          go false f = absurd (z (e ∙ rw f))
+          go false f = absurd (none-some n (sym f))
 
       long : n ≡ (decoded (drop i s)).len
       unfolding txt_len
-      long = e ∙ rw good
+      long = same_Some _ _ (e ∙ rw good)
+
+      pub pass_some : n ≢ 0
+      pass_some z = omega (arith, long, begun_some is_txt zero_txt (drop i s) good)
 
       pub pass_room : i + n ≤ length s
       pass_room =
@@ -179,5 +182,5 @@ module _ (s : List ℕ) (i more : ℕ) (w : Passing s i more) where
             within = pass_room;
             spare = omega (arith, w.spare);
             class = w.class ∙ ap (every is_txt) c ∙ ap (λ (b : Bool). b && every is_txt (chars (drop (i + n) s))) good;
-            count = omega (arith, w.count, ap length c);
+            count = omega (arith, w.count, ap length c, long, p);
           }

@@ -1,52 +1,31 @@
 -- `moment::fraction` meets its contract. Assumes nothing.
-use native.Mathlib.Omega.{arith}
-use borrow.Author.Tests.{not-true, not-false}
-use Rattle.value.proofs.dates.Fronts.{bare_made, bad_made, one_digit, two_digits, three_digits}
+use mathlib.Core.Path.{refl, ◌∙◌, ap, ap₂}
+use mathlib.Core.Bool.{true}
+use Prim.Native.Nat.{ℕ, ◌+◌, ◌*◌}
+use Rattle.value.specs.mirror.Digits.{by_last}
+use Rattle.value.proofs.dates.Fronts.{as_made, no_digits, one_digit, two_digits, three_digits}
 use Rattle.value_dates.proofs.moment.fraction.Goals as goal
 
-pub returns-then-not-mark : goal.returns-then-not-mark
-returns-then-not-mark c =
-    bare_made c.args.t.now _ _ _ c.mark.ensures (not-true _ c.if-not-mark.true-raw) c.split_at.ensures.0 c.split_at.ensures.1
+pub returns-in_default : goal.returns-in_default
+returns-in_default c =
+    no_digits c.args.t.now true c.if-not-mark.ensures refl c.in_default.ensures
 
-pub returns-then-a-gt-LAST_DIGIT : goal.returns-then-a-gt-LAST_DIGIT
-returns-then-a-gt-LAST_DIGIT c =
-    bad_made c.args.t.now _ _ _ _ _ _ c.mark.ensures (not-false _ c.if-not-mark.false-raw) c.one-a.ensures c.one-b.ensures c.one-c.ensures
-    c.split_at-then-a-gt-LAST_DIGIT.ensures.0 c.split_at-then-a-gt-LAST_DIGIT.ensures.1 (λ x y z. omega (arith, c.if-a-gt-LAST_DIGIT.true)) (λ x y z o. omega (arith, c.if-a-gt-LAST_DIGIT.true))
-    (λ x y z o. omega (arith, c.if-a-gt-LAST_DIGIT.true))
+pub returns-in_default-one : goal.returns-in_default-one
+returns-in_default-one c =
+    as_made _ _ _ _ _ (c.ended.ensures.0 ∙ ap (λ (x : ℕ). by_last c.in-Some.a (x * 100000) 0) c.from-tenths.ensures) c.ended.ensures.1
+    (one_digit c.args.t.now true c.if-not-mark.ensures refl _ c.in-Some.ensures c.in_default-one.ensures)
 
-pub returns-then-a-eq0 : goal.returns-then-a-eq0
-returns-then-a-eq0 c =
-    bad_made c.args.t.now _ _ _ _ _ _ c.mark.ensures (not-false _ c.if-not-mark.false-raw) c.one-a.ensures c.one-b.ensures c.one-c.ensures
-    c.split_at-then-a-eq0.ensures.0 c.split_at-then-a-eq0.ensures.1 (λ x y z. omega (arith, c.if-a-eq0.true, c.if-b-gt-LAST_DIGIT.true))
-    (λ x y z o. omega (arith, c.if-a-eq0.true, c.if-b-gt-LAST_DIGIT.true)) (λ x y z o. omega (arith, c.if-a-eq0.true, c.if-b-gt-LAST_DIGIT.true))
-
-pub returns-then-b-gt-LAST_DIGIT : goal.returns-then-b-gt-LAST_DIGIT
-returns-then-b-gt-LAST_DIGIT c =
-    one_digit c.args.t.now _ _ _ _ _ _ c.mark.ensures (not-false _ c.if-not-mark.false-raw) c.one-a.ensures c.one-b.ensures c.one-c.ensures
-    c.split_at-then-b-gt-LAST_DIGIT.ensures.0 c.split_at-then-b-gt-LAST_DIGIT.ensures.1 (omega (arith, c.if-a-gt-LAST_DIGIT.false)) c.if-a-eq0.false c.if-b-gt-LAST_DIGIT.true
-
-pub returns-then-b-eq0 : goal.returns-then-b-eq0
-returns-then-b-eq0 c =
-    bad_made c.args.t.now _ _ _ _ _ _ c.mark.ensures (not-false _ c.if-not-mark.false-raw) c.one-a.ensures c.one-b.ensures c.one-c.ensures
-    c.split_at-then-b-eq0.ensures.0 c.split_at-then-b-eq0.ensures.1 (λ x y z. omega (arith, c.if-b-eq0.true, c.if-c-gt-LAST_DIGIT.true, c.if-b-gt-LAST_DIGIT.false))
-    (λ x y z o. omega (arith, c.if-b-eq0.true, c.if-c-gt-LAST_DIGIT.true, c.if-b-gt-LAST_DIGIT.false))
-    (λ x y z o. omega (arith, c.if-b-eq0.true, c.if-c-gt-LAST_DIGIT.true, c.if-b-gt-LAST_DIGIT.false))
-
-pub returns-then-c-gt-LAST_DIGIT : goal.returns-then-c-gt-LAST_DIGIT
-returns-then-c-gt-LAST_DIGIT c =
-    two_digits c.args.t.now _ _ _ _ _ _ c.mark.ensures (not-false _ c.if-not-mark.false-raw) c.one-a.ensures c.one-b.ensures c.one-c.ensures
-    c.split_at-then-c-gt-LAST_DIGIT.ensures.0 c.split_at-then-c-gt-LAST_DIGIT.ensures.1 (omega (arith, c.if-a-gt-LAST_DIGIT.false)) (omega (arith, c.if-b-gt-LAST_DIGIT.false)) c.if-b-eq0.false
-    c.if-c-gt-LAST_DIGIT.true
-
-pub returns-then-c-eq0 : goal.returns-then-c-eq0
-returns-then-c-eq0 c =
-    bad_made c.args.t.now _ _ _ _ _ _ c.mark.ensures (not-false _ c.if-not-mark.false-raw) c.one-a.ensures c.one-b.ensures c.one-c.ensures
-    c.split_at-then-c-eq0.ensures.0 c.split_at-then-c-eq0.ensures.1 (λ x y z. omega (arith, c.if-c-eq0.true, c.if-c-gt-LAST_DIGIT.false, c.if-b-gt-LAST_DIGIT.false))
-    (λ x y z o. omega (arith, c.if-c-eq0.true, c.if-c-gt-LAST_DIGIT.false, c.if-b-gt-LAST_DIGIT.false))
-    (λ x y z o. omega (arith, c.if-c-eq0.true, c.if-c-gt-LAST_DIGIT.false, c.if-b-gt-LAST_DIGIT.false))
+pub returns-in_default-one-2 : goal.returns-in_default-one-2
+returns-in_default-one-2 c =
+    as_made _ _ _ _ _
+    (c.ended-in_default-one-2.ensures.0 ∙ ap₂ (λ (x y : ℕ). by_last c.in-Some-one.b ((x * 10 + y) * 10000) 0) c.from-tenths.ensures c.from.ensures)
+    c.ended-in_default-one-2.ensures.1
+    (two_digits c.args.t.now true c.if-not-mark.ensures refl _ c.in-Some.ensures _ c.in-Some-one.ensures c.in_default-one-2.ensures)
 
 pub returns : goal.returns
 returns c =
-    three_digits c.args.t.now _ _ _ _ _ _ c.mark.ensures (not-false _ c.if-not-mark.false-raw) c.one-a.ensures c.one-b.ensures c.one-c.ensures
-    c.split_at-2.ensures.0 c.split_at-2.ensures.1 (omega (arith, c.if-a-gt-LAST_DIGIT.false)) (omega (arith, c.if-b-gt-LAST_DIGIT.false))
-    (omega (arith, c.if-c-gt-LAST_DIGIT.false)) c.if-c-eq0.false
+    as_made _ _ _ _ _
+    (c.ended-2.ensures.0 ∙ ap₂ (λ (x y : ℕ). by_last c.in-Some-one-2.c (((x * 10 + y) * 10 + c.from-2.result) * 1000) 0) c.from-tenths.ensures c.from.ensures
+    ∙ ap (λ (x : ℕ). by_last c.in-Some-one-2.c (((c.in-Some.a * 10 + c.in-Some-one.b) * 10 + x) * 1000) 0) c.from-2.ensures)
+    c.ended-2.ensures.1
+    (three_digits c.args.t.now true c.if-not-mark.ensures refl _ c.in-Some.ensures _ c.in-Some-one.ensures _ c.in-Some-one-2.ensures)

@@ -1,16 +1,14 @@
 -- `moment::midnight` meets its contract. Assumes nothing.
-use native.Mathlib.Omega.{arith}
-use Rattle.value.proofs.dates.Fronts.{midnight_zone, midnight_day, midnight_on_lem}
+use mathlib.Core.Path.{sym, subst}
+use lib.ListN.{drop}
+use Rattle.value.specs.mirror.Digits.{MidnightAt}
+use Rattle.value.proofs.dates.Fronts.{midnight_no_day, midnight_on_lem}
 use Rattle.value_dates.proofs.moment.midnight.Goals as goal
 
-pub returns-then-offset-gt-LAST_OFFSET : goal.returns-then-offset-gt-LAST_OFFSET
-returns-then-offset-gt-LAST_OFFSET c =
-    midnight_zone _ _ _ _ _ c.zone-offset.ensures c.if-offset-gt-LAST_OFFSET.true
-
-pub returns-in_default : goal.returns-in_default
-returns-in_default c =
-    midnight_day _ _ _ _ _ c.next_day.ensures c.in_default.not-Day
+pub returns-in_err-next : goal.returns-in_err-next
+returns-in_err-next c =
+    subst (MidnightAt (drop 19 c.args.t.now) c.args.date.year c.args.date.month c.args.date.day) (sym c.from_residual-in_err-next.ensures) (midnight_no_day (drop 19 c.args.t.now) _ _ _ c.in_err-next.ensures)
 
 pub returns : goal.returns
 returns c =
-    midnight_on_lem _ _ _ _ _ _ _ _ _ c.zone-offset.ensures (omega (arith, c.if-offset-gt-LAST_OFFSET.false)) c.next_day.ensures c.in-Day.is
+    midnight_on_lem (drop 19 c.args.t.now) _ _ _ _ _ c.in_ok-offset.ensures c.in_ok-next.ensures

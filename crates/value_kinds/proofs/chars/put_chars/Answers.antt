@@ -6,11 +6,11 @@ use Rattle.value_kinds.proofs.chars.put_chars.Goals as goal
 
 pub overflow_add-j : goal.overflow_add-j
 overflow_add-j c =
-    omega (arith, start_room c.args.t.now _ _ c.requires _ c.run_end-i.ensures)
+    omega (arith, start_room c.args.t.now _ _ c.requires _ c.own_end-i.ensures)
 
 pub loop-i-init : goal.loop-i-init
 loop-i-init c =
-    going_start c.args.t.now _ _ c.requires _ c.run_end-i.ensures _ c.copy.ensures
+    going_start c.args.t.now _ _ c.requires _ c.own_end-i.ensures _ c.copy.ensures
 
 pub overflow_add-from : goal.overflow_add-from
 overflow_add-from c =
@@ -22,25 +22,25 @@ overflow_cast-code c =
 
 pub overflow_add-j-in-loop-i : goal.overflow_add-j-in-loop-i
 overflow_add-j-in-loop-i c =
-    omega (arith, next_room _ _ _ _ _ _ _ c.loop-i.invariant c.loop-i-test.true _ c.next_char-c.ensures _ c.run_end-end.ensures)
+    omega (arith, next_room _ _ _ _ _ _ _ c.loop-i.invariant c.loop-i-test.true _ c.next_char-c.ensures _ c.own_end-end.ensures)
 
 pub overflow_sub-j : goal.overflow_sub-j
 overflow_sub-j c =
-    omega (arith, c.run_end-end.ensures)
+    omega (arith, c.own_end-end.ensures)
 
 pub overflow_add-j-in-loop-i-2 : goal.overflow_add-j-in-loop-i-2
 overflow_add-j-in-loop-i-2 c =
     omega (
       arith,
       (next_within _ _ _ _ _ _ _ c.loop-i.invariant c.loop-i-test.true _ c.next_char-c.ensures _
-          c.run_end-end.ensures),
+          c.own_end-end.ensures),
     )
 
 pub overflow_add-j-in-loop-i-3 : goal.overflow_add-j-in-loop-i-3
 overflow_add-j-in-loop-i-3 c =
     omega (
       arith,
-      (next_room _ _ _ _ _ _ _ c.loop-i.invariant c.loop-i-test.true _ c.next_char-c.ensures _ c.run_end-end.ensures),
+      (next_room _ _ _ _ _ _ _ c.loop-i.invariant c.loop-i-test.true _ c.next_char-c.ensures _ c.own_end-end.ensures),
     )
 
 pub loop-i-smaller : goal.loop-i-smaller
@@ -48,15 +48,15 @@ loop-i-smaller c =
     omega (
       arith,
       (next_within _ _ _ _ _ _ _ c.loop-i.invariant c.loop-i-test.true _ c.next_char-c.ensures _
-          c.run_end-end.ensures),
+          c.own_end-end.ensures),
       some_len _ _ _ _ _ _ _ c.loop-i.invariant c.loop-i-test.true _ c.next_char-c.ensures,
-      c.run_end-end.ensures,
+      c.own_end-end.ensures,
     )
 
 pub loop-i-preserved : goal.loop-i-preserved
 loop-i-preserved c =
     going_again _ _ _ _ _ _ _ c.loop-i.invariant c.loop-i-test.true _ c.next_char-c.ensures _
-    c.run_end-end.ensures _ c.place.ensures _ c.copy-in-loop-i.ensures
+    c.own_end-end.ensures _ c.place.ensures _ c.copy-in-loop-i.ensures
 
 pub shape_of-out : goal.shape_of-out
 shape_of-out c =
@@ -64,4 +64,4 @@ shape_of-out c =
 
 pub returns : goal.returns
 returns c =
-    going_end c.args.t.now _ _ c.requires _ c.run_end-i.ensures _ c.copy.ensures _ _ _ c.loop-i.invariant c.loop-i-test.false
+    going_end c.args.t.now _ _ c.requires _ c.own_end-i.ensures _ c.copy.ensures _ _ _ c.loop-i.invariant c.loop-i-test.false

@@ -1,5 +1,6 @@
 -- `figures::dated` meets its contract. Assumes nothing.
-use mathlib.Core.Path.{refl}
+use Rattle.std.specs.Prelude.{Some}
+use mathlib.Core.Path.{refl, ◌∙◌, ap}
 use native.Mathlib.Omega.{arith}
 use Rattle.value_lane.proofs.Firms.{date_ends}
 use Rattle.value_lane.proofs.figures.dated.Goals as goal
@@ -13,9 +14,9 @@ returns-then-s-at-lt-DAY_ENDED c = c.plain-then-s-at-lt-DAY_ENDED.ensures (λ z.
 pub returns-then-s-end-ne60 : goal.returns-then-s-end-ne60
 returns-then-s-end-ne60 c = c.plain-then-s-end-ne60.ensures (λ z. omega arith) (λ z. omega arith)
 
-pub returns-in-Day : goal.returns-in-Day
-returns-in-Day c =
-    date_ends _ _ _ _ _ _ _ _ _ _ c.day.ensures c.in-Day.is c.tell.ensures c.if-s-end-ne60.false refl (omega arith) (omega (arith, c.if-s-at-lt-DAY_ENDED.false))
+pub returns-in-Some-Day : goal.returns-in-Some-Day
+returns-in-Some-Day c =
+    date_ends _ _ _ _ _ _ _ _ c.day.ensures (c.in-Some-Day.is ∙ ap Some c.in-Some-Day.field-0-is) c.tell.ensures c.if-s-end-ne60.false refl (omega arith) (omega (arith, c.if-s-at-lt-DAY_ENDED.false))
 
 pub returns-in_default : goal.returns-in_default
 returns-in_default c = c.plain-in_default.ensures (λ z. omega arith) (λ z. omega arith)

@@ -1,18 +1,22 @@
 -- `class::quiets` meets its contract: how many were of TEXT so far. Assumes nothing.
+use mathlib.Core.Path.{sym, ◌∙◌}
 use native.Mathlib.Omega.{arith}
-use Rattle.value_levels.proofs.Levels.{counted_start, counted_more, counted_all}
+use borrow.Author.Tests.{le-leb}
+use Rattle.value_levels.specs.mirror.Levels.{reaches}
+use Rattle.value_levels.proofs.Passing.{block_long}
+use Rattle.value_levels.proofs.Levels.{counted_start, counted_item, counted_block}
 use Rattle.value_levels.proofs.class.quiets.Goals as goal
 
-pub loop-j-init : goal.loop-j-init
-loop-j-init c = (omega arith, counted_start _ _ _)
+pub loop-b-init : goal.loop-b-init
+loop-b-init c = counted_start _ _ _
 
 pub overflow_add-n : goal.overflow_add-n
 overflow_add-n c =
-    omega (arith, c.loop-j.invariant.1.most, c.quiet-n.ensures.0, c.loop-j-test.true)
+    omega (arith, c.loop-b.invariant.most, c.quiet-n.ensures.0, c.loop-b-test.true, block_long c.args.at 16 c.args.s.now c.requires)
 
-pub loop-j-preserved : goal.loop-j-preserved
-loop-j-preserved c =
-    (omega (arith, c.loop-j-test.true), counted_more 1 _ _ _ _ _ c.loop-j.invariant.1 (omega (arith, c.requires, c.loop-j-test.true)) c.quiet-n.ensures.0 c.quiet-n.ensures.1)
+pub loop-b-preserved : goal.loop-b-preserved
+loop-b-preserved c =
+    counted_item (reaches 1) _ _ 16 _ _ _ c.requires c.loop-b.invariant c.loop-b-test.true c.quiet-n.ensures.0 (λ z. le-leb 1 _ (c.quiet-n.ensures.1 z))
 
 pub returns : goal.returns
-returns c = counted_all 1 _ _ _ _ 16 c.loop-j.invariant.1 (omega (arith, c.loop-j.invariant.0, c.loop-j-test.false))
+returns c = λ e. counted_block (reaches 1) _ _ 16 _ _ c.requires c.loop-b.invariant c.loop-b.auto.b-index-end c.loop-b-test.false (sym c.from.ensures ∙ e)

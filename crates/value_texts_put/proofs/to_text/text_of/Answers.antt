@@ -15,10 +15,10 @@ told b t n e h f = (f ∙ ap (λ (k : ℕ). slice 2 (2 + k) b) e, omega (arith, 
 
 pub returns-then-b-end : goal.returns-then-b-end
 returns-then-b-end c = let w = let b = c.args.b.now in
-    let n = c.get16.result in
-    told b _ n c.get16.ensures (omega (arith, c.get16.type_inv)) (c.part_of.ensures ∙ part_past 2 (2 + n) b (omega (arith, c.if-b-end.true))) in record { is = w.0; most = w.1 }
+    let n = c.from-end.result in
+    told b _ n (c.from-end.ensures ∙ c.get16.ensures) (omega (arith, c.get16.type_inv, c.from-end.ensures)) (c.part_of.ensures ∙ part_past 2 (2 + n) b (omega (arith, c.if-b-end.true))) in record { is = w.0; most = w.1 }
 
 pub returns : goal.returns
 returns c = let w = let b = c.args.b.now in
-    let n = c.get16.result in
-    told b _ n c.get16.ensures (omega (arith, c.get16.type_inv)) (part_cut 2 (2 + n) (2 + n) b (omega (arith, c.if-b-end.false)) (omega arith)) in record { is = w.0; most = w.1 }
+    let n = c.from-end.result in
+    told b _ n (c.from-end.ensures ∙ c.get16.ensures) (omega (arith, c.get16.type_inv, c.from-end.ensures)) (part_cut 2 (2 + n) (2 + n) b (omega (arith, c.if-b-end.false)) (omega arith)) in record { is = w.0; most = w.1 }

@@ -1,25 +1,36 @@
 -- `from_bytes::is_reference` meets its contract. Assumes nothing.
-use mathlib.Core.Path.{sym, ◌∙◌}
-use mathlib.Core.Bool.{and-false}
+use Rattle.std.proofs.Common.{◌≡◌, sym, ◌∙◌, true, false, Bool, ◌&&◌, List, ℕ, ◌≤◌, ◌<◌, length}
+use mathlib.Core.Bool.{and-false, true≢false}
 use lib.Dec.{leb}
-use lib.ListN.{length}
-use borrow.Author.Tests.{le-leb, lt-leb, not-true, not-false}
+use borrow.Author.Tests.{le-leb, lt-leb}
 use Rattle.value.specs.types.Text.{is_ref}
-use Rattle.value.specs.mirror.Tests.{every}
+use Rattle.value.specs.mirror.Tests.{not_space, every, some, apart}
 use Rattle.value.specs.mirror.Judges.{is_reference}
 use Rattle.value_texts_stored.proofs.from_bytes.is_reference.Goals as goal
+use Rattle.value_texts_stored.proofs.from_bytes.is_reference.Goals.{then-b-le-MOST_REF, else-b-le-MOST_REF}
 
-pub returns-then-b-gt-MOST_REF : goal.returns-then-b-gt-MOST_REF
+long : (b : List ℕ) → 35 < length b → false ≡ is_reference b
 unfolding is_reference
-returns-then-b-gt-MOST_REF c =
-    rw (lt-leb (length c.args.b.now) 35 c.if-b-gt-MOST_REF.true)
+long b h = rw (lt-leb (length b) 35 h)
 
-pub returns-then-not-inked : goal.returns-then-not-inked
+blank : (b : List ℕ) → some not_space b ≡ false → false ≡ is_reference b
 unfolding is_reference
-returns-then-not-inked c =
-    rw (sym c.inked.ensures ∙ not-true _ c.if-not-inked.true-raw, and-false (every is_ref c.args.b.now), and-false (leb (length c.args.b.now) 35))
+blank b e = rw (e, and-false (every is_ref b), and-false (leb (length b) 35))
 
-pub returns : goal.returns
+spaced : (b : List ℕ) (r : Bool) → length b ≤ 35 → some not_space b ≡ true → r ≡ (every is_ref b && apart true b) → r ≡ is_reference b
 unfolding is_reference
-returns c =
-    rw (le-leb (length c.args.b.now) 35 c.if-b-gt-MOST_REF.false, sym c.inked.ensures ∙ not-false _ c.if-not-inked.false-raw) c.is_spaced.ensures
+spaced b r h e f = rw (le-leb (length b) 35 h, e) f
+
+pub returns-then-is_inked : goal.returns-then-is_inked
+returns-then-is_inked c = elim c.if-b-le-MOST_REF.branch [
+  | then-b-le-MOST_REF w ↦ spaced _ _ w.if-b-le-MOST_REF.true (sym w.is_inked.ensures ∙ sym w.value-is ∙ c.if-is_inked.true) c.is_spaced.ensures
+  | else-b-le-MOST_REF w ↦ absurd (true≢false (sym c.if-is_inked.true ∙ w.value-is ∙ lt-leb _ 35 w.if-b-le-MOST_REF.false))
+]
+
+pub returns-else-is_inked : goal.returns-else-is_inked
+returns-else-is_inked c =
+    c.if-is_inked.false
+    ∙ elim c.if-b-le-MOST_REF.branch [
+      | then-b-le-MOST_REF w ↦ blank _ (sym w.is_inked.ensures ∙ sym w.value-is ∙ c.if-is_inked.false)
+      | else-b-le-MOST_REF w ↦ long _ w.if-b-le-MOST_REF.false
+    ]

@@ -1,27 +1,20 @@
 -- `from_bytes::is_spaced` meets its contract. Assumes nothing.
-use mathlib.Core.Path.{refl, sym, ◌∙◌}
+use Rattle.std.proofs.Common.{sym, ◌∙◌, inl, inr}
 use Rattle.value.proofs.stored.texts.Slashes.{spaced_end, spaced_word, spaced_bad, spaced_slash, spaced_twice}
 use Rattle.value_texts_stored.proofs.from_bytes.is_spaced.Goals as goal
-
-pub loop-i-init : goal.loop-i-init
-loop-i-init c = refl
-
-pub loop-i-preserved-then-is_word : goal.loop-i-preserved-then-is_word
-loop-i-preserved-then-is_word c =
-    spaced_word _ _ _ _ c.loop-i.invariant c.loop-i-test.true (sym c.is_word.ensures ∙ c.if-is_word.true)
+use Rattle.value_texts_stored.proofs.from_bytes.is_spaced.Goals.{then-is_word, else-is_word+else-x-ne47+else-slash}
 
 pub returns-then-x-ne47 : goal.returns-then-x-ne47
-returns-then-x-ne47 c =
-    spaced_bad _ _ _ _ c.loop-i.invariant c.loop-i-test.true (sym c.is_word.ensures ∙ c.if-is_word.false) c.if-x-ne47.true
+returns-then-x-ne47 c = elim c.then-x-ne47.either [
+  | inl h ↦ spaced_bad _ _ _ _ c.loop-x.invariant c.loop-x-test.true (sym c.is_word.ensures ∙ c.if-is_word.false) h
+  | inr h ↦ spaced_twice _ _ _ _ c.loop-x.invariant c.loop-x-test.true h.0 h.1
+]
 
-pub returns-then-slash : goal.returns-then-slash
-returns-then-slash c =
-    spaced_twice _ _ _ _ c.loop-i.invariant c.loop-i-test.true c.if-x-ne47.false c.if-slash.true
-
-pub loop-i-preserved : goal.loop-i-preserved
-loop-i-preserved c =
-    spaced_slash _ _ _ _ c.loop-i.invariant c.loop-i-test.true c.if-x-ne47.false c.if-slash.false
+pub loop-x-preserved : goal.loop-x-preserved
+loop-x-preserved c = elim c.if-is_word.branch [
+  | then-is_word w ↦ rw w.slash-is (spaced_word _ _ _ _ c.loop-x.invariant c.loop-x-test.true (sym c.is_word.ensures ∙ w.if-is_word.true))
+  | else-is_word+else-x-ne47+else-slash w ↦ rw w.slash-is (spaced_slash _ _ _ _ c.loop-x.invariant c.loop-x-test.true w.if-x-ne47.false w.if-slash.false)
+]
 
 pub returns : goal.returns
-returns c =
-    spaced_end _ _ _ _ c.loop-i.invariant c.loop-i-test.false
+returns c = spaced_end _ _ _ _ c.loop-x.invariant c.loop-x-test.false

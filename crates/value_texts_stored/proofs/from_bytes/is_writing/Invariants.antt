@@ -1,6 +1,5 @@
 -- `from_bytes::is_writing` meets its contract. Assumes nothing.
-use Prim.Native.Nat.{◌-◌}
-use lib.ListN.{length}
+use Rattle.std.proofs.Common.{◌-◌, length}
 use Rattle.value.proofs.stored.texts.Writings.{Passing}
 use Rattle.value_texts_stored.proofs.from_bytes.is_writing.Given as goal
 

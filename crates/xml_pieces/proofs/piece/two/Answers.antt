@@ -1,11 +1,13 @@
 -- `piece::two` meets its contract. Assumes nothing.
+use Rattle.std.proofs.lemmas.Result.{err_from_is_err_and}
 use Rattle.xml_pieces.proofs.Pieces.{two_stop, two_on}
 use Rattle.xml_pieces.proofs.piece.two.Goals as goal
 
-pub returns-in-Stopped : goal.returns-in-Stopped
-returns-in-Stopped c =
-    two_stop _ _ _ _ c.one.result c.one.ensures _ c.in-Stopped.is
+pub returns-in_err-one : goal.returns-in_err-one
+returns-in_err-one c =
+    let p = err_from_is_err_and c.from_residual.result c.from_residual.ensures.1 in
+    rw (p.1, p.2) (two_stop _ _ _ _ c.one.result c.one.ensures _ c.in_err-one.was)
 
-pub returns-in-On : goal.returns-in-On
-returns-in-On c =
-    two_on _ _ _ _ c.one.result c.one.ensures _ c.in-On.is c.one-in-On.result c.one-in-On.ensures
+pub returns : goal.returns
+returns c =
+    two_on _ _ _ _ c.one.result c.one.ensures _ c.in_ok-one.was c.one-2.result c.one-2.ensures

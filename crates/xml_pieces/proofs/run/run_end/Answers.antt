@@ -10,18 +10,18 @@ pub loop-i-init : goal.loop-i-init
 loop-i-init c =
     refl
 
-pub returns-then-classes-wide : goal.returns-then-classes-wide
-returns-then-classes-wide c =
+pub returns-then-classes-from : goal.returns-then-classes-from
+returns-then-classes-from c =
     omega (
       arith,
-      run_stop c.args.classes.now c.args.level c.args.s.now c.loop-i.i c.loop-i-test.true c.wide.result c.wide.ensures.0 c.if-classes-wide.true,
+      run_stop c.args.classes.now c.args.level c.args.s.now c.loop-i.i c.loop-i-test.true c.from.result c.from.ensures c.if-classes-from.true,
     )
 
 pub loop-i-preserved : goal.loop-i-preserved
 loop-i-preserved c =
     omega (
       arith,
-      run_go c.args.classes.now c.args.level c.args.s.now c.loop-i.i c.loop-i-test.true c.wide.result c.wide.ensures.0 c.if-classes-wide.false,
+      run_go c.args.classes.now c.args.level c.args.s.now c.loop-i.i c.loop-i-test.true c.from.result c.from.ensures c.if-classes-from.false,
     )
 
 pub returns : goal.returns

@@ -27,10 +27,6 @@ pub returns-then-s-i-2 : goal.returns-then-s-i-2
 returns-then-s-i-2 c =
     spelling_other _ _ _ c.loop-k.k c.loop-k.invariant c.loop-k-test.true c.if-s-i.false c.if-s-i-2.true
 
-pub overflow_add-k : goal.overflow_add-k
-overflow_add-k c =
-    omega arith
-
 pub loop-k-smaller : goal.loop-k-smaller
 loop-k-smaller c =
     omega arith

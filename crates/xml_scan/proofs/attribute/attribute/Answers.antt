@@ -1,35 +1,30 @@
 -- `attribute::attribute` meets its contract. Assumes nothing.
 use mathlib.Core.Path.{sym, ◌∙◌}
 use native.Mathlib.Omega.{arith}
+use Rattle.std.proofs.lemmas.Result.{err_from_is_err_and}
 use Rattle.xml_scan.proofs.Tags.{attribute_full, attribute_unnamed, attribute_seen, attribute_new}
 use Rattle.xml_scan.proofs.names.FullNames.{name_within}
 use Rattle.xml_scan.proofs.attribute.attribute.Goals as goal
 
-pub returns-then-n-gt-LAST_ATTRIBUTE : goal.returns-then-n-gt-LAST_ATTRIBUTE
-returns-then-n-gt-LAST_ATTRIBUTE c =
-    attribute_full _ _ _ _ _ c.requires.0 c.requires.1 c.if-n-gt-LAST_ATTRIBUTE.true
+pub returns-then-len-ge-MOST_ATTRIBUTES : goal.returns-then-len-ge-MOST_ATTRIBUTES
+returns-then-len-ge-MOST_ATTRIBUTES c =
+    attribute_full _ _ _ c.requires.0 c.requires.1 (omega (arith, c.len.ensures))
 
-pub returns-then-seen : goal.returns-then-seen
-returns-then-seen c =
-    attribute_seen _ _ _ _ _ c.requires.0
-    c.requires.1 (omega arith)
-    c.full_name.result c.full_name.ensures _
-    c.in-On.is (sym (rw c.part_of.ensures at c.seen.ensures) ∙ c.if-seen.true)
+pub returns-in_err-e : goal.returns-in_err-e
+returns-in_err-e c =
+    let p = err_from_is_err_and c.from_residual.result c.from_residual.ensures.1 in
+    rw (p.1, p.2) (attribute_unnamed _ _ _ c.requires.0 c.requires.1 (omega (arith, c.len.ensures)) c.full_name.result c.full_name.ensures _ c.in_err-e.was)
+
+pub returns-then-contains : goal.returns-then-contains
+returns-then-contains c =
+    attribute_seen _ _ _ c.requires.0 c.requires.1 (omega (arith, c.len.ensures)) c.full_name.result c.full_name.ensures _ c.in_ok-e.was
+    (sym c.contains.ensures ∙ c.if-contains.true)
 
 pub equals-requires : goal.equals-requires
 equals-requires c =
-    name_within _ _ c.full_name.result c.full_name.ensures _
-    c.in-On.is
+    name_within _ _ c.full_name.result c.full_name.ensures _ c.in_ok-e.was
 
-pub returns-in-Stopped : goal.returns-in-Stopped
-returns-in-Stopped c =
-    attribute_unnamed _ _ _ _ _ c.requires.0 c.requires.1 (omega arith)
-    c.full_name.result c.full_name.ensures _ c.in-Stopped.is
-
-pub returns-else-seen : goal.returns-else-seen
-returns-else-seen c =
-    attribute_new _ _ _ _ _ c.requires.0
-    c.requires.1 (omega arith)
-    c.full_name.result c.full_name.ensures _
-    c.in-On.is c.requires.2
-    (sym (rw c.part_of.ensures at c.seen.ensures) ∙ c.if-seen.false) c.equals.result c.equals.ensures
+pub returns : goal.returns
+returns c =
+    attribute_new _ _ _ c.requires.0 c.requires.1 (omega (arith, c.len.ensures)) c.full_name.result c.full_name.ensures _ c.in_ok-e.was
+    (sym c.contains.ensures ∙ c.if-contains.false) _ c.push.ensures c.equals.result c.equals.ensures

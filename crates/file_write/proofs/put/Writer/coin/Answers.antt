@@ -1,0 +1,8 @@
+-- `put::Writer::coin` meets its contract. Assumes nothing.
+use Rattle.file_write.proofs.Putting.{put_then}
+use Rattle.file_write.proofs.put.Writer.coin.Goals as goal
+
+pub returns : goal.returns
+returns c =
+    put_then c.args.self.now c.put.new.self c.put-3.new.self _ _ c.put.ensures
+    (put_then c.put.new.self c.put-2.new.self c.put-3.new.self _ _ c.put-2.ensures c.put-3.ensures)

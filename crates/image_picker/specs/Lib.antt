@@ -1,0 +1,3 @@
+-- The definitions of `image_picker`.
+-- where a value stands
+pub mod Values

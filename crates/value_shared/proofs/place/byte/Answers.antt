@@ -1,8 +1,0 @@
--- `place::byte` meets its contract. Assumes nothing.
-use mathlib.Core.Path.{sym}
-use lib.ListN.{get_or-eq_default}
-use Rattle.value_shared.proofs.place.byte.Goals as goal
-
-pub returns : goal.returns
-returns c =
-    sym (get_or-eq_default c.args.b.now 0 c.if-i-b.false)
