@@ -2,9 +2,8 @@
 """Every public function of every crate has a promise and asks nothing, and docs/PROMISES.md is held to the code.
 
 Reads crates/*/src/**/*.rt as text. A public function is `pub fn` or `pub extern "C" fn` (a `pub(crate) fn` is none); `main` is left
-out. Its head, up to the brace of its body, must have an `ensures` and no `requires`, but that a closure it takes may be called at any
-argument. Its name stands in backquotes on the page,
-as `crate::name` (a method as `crate::Type::name`), and so does every edit of must-fail/. What the page names is there: functions, edits,
+out. Its head, up to the brace of its body, must have an `ensures` and no `requires`, but for the one of ASKING. Its name stands in backquotes
+on the page, as `crate::name` (a method as `crate::Type::name`), and so does every edit of must-fail/. What the page names is there: functions, edits,
 laws. The section `Contracts that cite a mirror` lists exactly those that do. Every public function has an edit in its crate that must
 fail, or stands in UNEDITED with a reason: an edit is a function's if it changes its code, a function or constant of the crate that this
 code goes on to name, or a definition that its promise rests on.
@@ -36,17 +35,14 @@ UNEDITED = {
 }
 
 
-CALLABLE = re.compile(r'\brequires \{ (\w+)\.IsAlwaysCallable \w+ \}')
-# The crates whose functions take no closure: what they are lent is bytes and numbers alone.
-ENTRIES = ('unit', 'unit_c', 'image_hold')
+# The one public function that asks something, and what: that its closure may be called (docs/DECISIONS.md, D138).
+ASKING = {'text::run_end': 'requires { F.IsAlwaysCallable class }'}
 CLAUSE = re.compile(r'\b(?:ensures|requires)(?: \w+)? \{$')
 
 
 def asked(full, head):
-    """A head without the one demand that may stand in it: that a closure, a type parameter of the function, may be called."""
-    if 'extern' in head or full.split('::')[0] in ENTRIES:
-        return head
-    return CALLABLE.sub(lambda m: '' if re.search(rf'<[^(]*\b{m[1]}: Fn\(', head) else m[0], head)
+    """A head without the demand that it may have."""
+    return head.replace(ASKING.get(full, ''), '', 1)
 
 
 def body(text, start):
