@@ -134,7 +134,7 @@ module _ (cm : Computed) (t pool s : List ℕ) (sd : Sound t pool) (x : HouseXml
         not_root to n m e = let c = around to n m in absurd (omega (arith, c.1, ap (λ (r : ℕ). (row_at l r).parent) (sym e) ∙ c.0.parent, sd.well.root.2))
 
         pub is_root_lem : turn ≡ Ok Ended → row ≡ 1
-        is_root_lem m = (step_ends cm t pool s sd x d₁ a₁ d st full at g coins turn st' refl refl m).root
+        is_root_lem m = (step_ends cm t pool s sd x d₁ a₁ d st full at g coins turn st' refl refl m).row
 
         -- an element that goes on is a child of the innermost one
         pub below : (to : Here) → turn ≡ Ok (Opened to) → Child l row to.level.row

@@ -12,7 +12,7 @@ use lib.Dec.{eqb, ltb}
 use lib.ListN.{length, get_or, drop, drop_of_length-le}
 use lib.Seq.{drop-cons}
 use native.Mathlib.Numerals.{add-one}
-use borrow.Author.Tests.{lt-ltb}
+use borrow.Author.Tests.{eqb-true, eqb-false, lt-ltb}
 use Rattle.answer.specs.Table as table
 use Rattle.text.specs.Bytes.{is_blank}
 use Rattle.text.specs.Lists.{span}
@@ -153,8 +153,8 @@ module _ (t pool s : List ℕ) (st : List Level) (here : Here) where
   -- an opening tag, the root's closing tag, another's
   pub data Went (x : Stepped) : Type 0 where
     entered : token.kind ≡ Open → x ≡ Ok (Opened (inner t here row token.less token.end token.first)) → Went x
-    ended : token.kind ≡ Close → x ≡ Ok Ended → Went x
-    left : token.kind ≡ Close → (to : Here) → to.at ≡ token.end → x ≡ Ok (Closed to token.less) → Went x
+    ended : token.kind ≡ Close → here.depth ≡ 0 → x ≡ Ok Ended → Went x
+    left : token.kind ≡ Close → here.depth ≢ 0 → x ≡ Ok (Closed (outer st (here.depth - 1) token.end) token.less) → Went x
 
   enters : token.kind ≡ Open → (f : Found) → is_ok (entered_by t here row token.less token.end token.first f) ≡ true → Went (entered_by t here row token.less token.end token.first f)
   enters k (Err a) n = absurd (false≢true n)
@@ -167,13 +167,13 @@ module _ (t pool s : List ℕ) (st : List Level) (here : Here) where
 
   leaves : token.kind ≡ Close → (f : Found) → is_ok (closed_by st here token.less token.end f) ≡ true → Went (closed_by st here token.less token.end f)
   leaves k (Err a) n = absurd (false≢true n)
-  leaves k (Ok tt) n = go (eqb here.depth 0) (ltb 16 here.depth) n
+  leaves k (Ok tt) n = go (eqb here.depth 0) (ltb 16 here.depth) refl n
     where
-      go : (b c : Bool) → is_ok (cond b (Ok Ended) (cond c (Err (table.not_house_xml token.less)) (Ok (Closed (outer st (here.depth - 1) token.end) token.less)))) ≡ true
+      go : (b c : Bool) → eqb here.depth 0 ≡ b → is_ok (cond b (Ok Ended) (cond c (Err (table.not_house_xml token.less)) (Ok (Closed (outer st (here.depth - 1) token.end) token.less)))) ≡ true
           → Went (cond b (Ok Ended) (cond c (Err (table.not_house_xml token.less)) (Ok (Closed (outer st (here.depth - 1) token.end) token.less))))
-      go true c n = ended k refl
-      go false true n = absurd (false≢true n)
-      go false false n = left k (outer st (here.depth - 1) token.end) refl refl
+      go true c e n = ended k (eqb-true here.depth 0 e) refl
+      go false true e n = absurd (false≢true n)
+      go false false e n = left k (eqb-false here.depth 0 e) refl
 
   stays : (q : Kind) → token.kind ≡ q → is_ok (met_in t pool s st here q token) ≡ true → Went (met_in t pool s st here q token)
   unfolding entered_in closed_in
@@ -198,8 +198,8 @@ module _ (t pool s : List ℕ) (st : List Level) (here : Here) where
     pub there : token.less < length s
     there = inside s here.at token.less refl (elim w [
       | entered k e ↦ goes Open k (λ z. absurd (omega (arith, z)))
-      | ended k e ↦ goes Close k (λ z. absurd (omega (arith, z)))
-      | left k to d e ↦ goes Close k (λ z. absurd (omega (arith, z)))
+      | ended k d e ↦ goes Close k (λ z. absurd (omega (arith, z)))
+      | left k d e ↦ goes Close k (λ z. absurd (omega (arith, z)))
     ])
 
     module _ (m : ℕ) (is : m ≡ token.less) where
@@ -210,13 +210,13 @@ module _ (t pool s : List ℕ) (st : List Level) (here : Here) where
       pub by_close_lem : head_is solidus (drop (m + 1) s) ≡ true → (token.kind ≡ Close) × ((x ≡ Ok Ended) ⊎ ((to : Here) × (to.at ≡ token.end) × (x ≡ Ok (Closed to token.less))))
       by_close_lem b = elim w [
         | entered k e ↦ absurd (unlike token.kind Open Close k (ap (λ (z : Token). z.kind) (is_close s here.at m is there_is b)) (λ z. absurd (omega (arith, z))))
-        | ended k e ↦ (k, inl e)
-        | left k to d e ↦ (k, inr (to, d, e))
+        | ended k d e ↦ (k, inl e)
+        | left k d e ↦ (k, inr (outer st (here.depth - 1) token.end, refl, e))
       ]
 
       pub by_open_lem : head_is solidus (drop (m + 1) s) ≡ false → x ≡ Ok (Opened (inner t here row token.less token.end token.first))
       by_open_lem b = elim w [
         | entered k e ↦ e
-        | ended k e ↦ absurd (not_close s here.at m is there_is b k)
-        | left k to d e ↦ absurd (not_close s here.at m is there_is b k)
+        | ended k d e ↦ absurd (not_close s here.at m is there_is b k)
+        | left k d e ↦ absurd (not_close s here.at m is there_is b k)
       ]

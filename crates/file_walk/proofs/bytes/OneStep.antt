@@ -193,7 +193,8 @@ module _ (T : Speller) (t pool s : List ℕ) (sd : Sound t pool) (m : Coins (jud
             let g : is_group (kind_of l lv.row) ≡ true = ap (λ r. is_group (kind_of l r)) row ∙ ap is_group sd.well.root.1 in
             close_to (Ok Ended) (closed_root t in_group st here k.less k.end v refl z d)
             (whole refl (record {
-              root = row;
+              root = d;
+              row = row;
               found = found_on ∙ ap₂ or_else (judged_group T l (kind_of l lv.row) lv.row lv.place ats (resolved_all ps) g) (ap (λ b. run T l (pop b) more) none ∙ run_after T l more);
               handed = handed_close ∙ ap₂ ◌++◌ (closes_group T l (kind_of l lv.row) lv.row ats (resolved_all ps) g) (ap (λ b. emits T l (pop b) more) none ∙ emits_after T l more);
             }))
@@ -237,6 +238,7 @@ module _ (T : Speller) (t pool s : List ℕ) (sd : Sound t pool) (m : Coins (jud
               close_to (Ok (Closed out k.less))
               (closed_outer t in_group st here k.less k.end v refl z d out (omega (arith, shallow)) refl)
               (closed out k.less refl (record {
+                deep = omega arith;
                 text = low;
                 inside = high;
                 chars = resolved_all ps;

@@ -79,6 +79,7 @@ module _ (T : Speller) (t pool s : List ℕ) (sd : Sound t pool) where
 
     -- the end of an element within another, in which the walk stands then: of a leaf its characters are still to be judged
     pub record Leaves (to : Here) (less : ℕ) : Type 0 where
+      pub deep : 0 < here.depth
       pub text : here.at ≤ less
       pub inside : less ≤ length s
       pub chars : List ℕ
@@ -95,7 +96,8 @@ module _ (T : Speller) (t pool s : List ℕ) (sd : Sound t pool) where
 
     -- the end of the root
     pub record Ends : Type 0 where
-      pub root : here.level.row ≡ 1
+      pub root : here.depth ≡ 0
+      pub row : here.level.row ≡ 1
       pub found : finds here below ats es ≡ Ok tt
       pub handed : hands here below ats es ≡ []
 
