@@ -110,7 +110,7 @@ module _ (cm : Computed) (t pool s : List ℕ) (sd : Sound t pool) (x : HouseXml
           | refused a m w ↦ fine_found _ a fine_here w
           | opened to m w ↦ ap is_ok m
           | closed to n m w ↦ ap is_ok m
-          | whole m w ↦ ap is_ok m
+          | whole n m w ↦ ap is_ok m
         ]
 
         pub went : Went t pool s st full turn
@@ -133,8 +133,8 @@ module _ (cm : Computed) (t pool s : List ℕ) (sd : Sound t pool) (x : HouseXml
         pub not_root : (to : Here) (n : ℕ) → turn ≡ Ok (Closed to n) → row ≢ 1
         not_root to n m e = let c = around to n m in absurd (omega (arith, c.1, ap (λ (r : ℕ). (row_at l r).parent) (sym e) ∙ c.0.parent, sd.well.root.2))
 
-        pub is_root_lem : turn ≡ Ok Ended → row ≡ 1
-        is_root_lem m = (step_ends cm t pool s sd x d₁ a₁ d st full at g coins turn st' refl refl m).row
+        pub is_root_lem : (n : ℕ) → turn ≡ Ok (Ended n) → row ≡ 1
+        is_root_lem n m = (step_ends cm t pool s sd x d₁ a₁ d st full at g coins turn st' refl refl n m).row
 
         -- an element that goes on is a child of the innermost one
         pub below : (to : Here) → turn ≡ Ok (Opened to) → Child l row to.level.row
@@ -219,11 +219,11 @@ module _ (cm : Computed) (t pool s : List ℕ) (sd : Sound t pool) (x : HouseXml
 
         -- a closing tag
         module _ (b : head_is solidus (drop (o + 1) s) ≡ true) where
-          closes : (mark.kind ≡ Close) × ((step ≡ Ok Ended) ⊎ ((to : Here) × (to.at ≡ mark.end) × (step ≡ Ok (Closed to mark.less))))
+          closes : (mark.kind ≡ Close) × ((step ≡ Ok (Ended mark.less)) ⊎ ((to : Here) × (to.at ≡ mark.end) × (step ≡ Ok (Closed to mark.less))))
           closes = by_close_lem t pool s w.st full step gone o at_less b
 
           -- the root's
-          shut : here.row ≡ 1 → step ≡ Ok Ended
+          shut : here.row ≡ 1 → step ≡ Ok (Ended mark.less)
           shut r = elim closes.1 [
             | inl e ↦ e
             | inr z ↦ absurd (not_root d w.st full at g z.0 mark.less z.2 (w.row ∙ r))
@@ -232,12 +232,12 @@ module _ (cm : Computed) (t pool s : List ℕ) (sd : Sound t pool) (x : HouseXml
           pub spot_ends : here.row ≡ 1 → Spelling k.types → (d₀ : List ℕ) → Puts d₀ 0 (header l ++ (1 ∷ [])) a₁ d₁ → (d' : List ℕ) → d' ≡ pasted d at (0 ∷ [])
               → Passes k l (message_of x.tree) d₀ (Ok (at + 1)) d'
           spot_ends r y d₀ p d' f =
-              ends_in cm t pool s sd x d₁ a₁ d w.st full at g y d₀ p stack (step_ends cm t pool s sd x d₁ a₁ d w.st full at g coins step stack refl refl (shut r)) d' f
+              ends_in cm t pool s sd x d₁ a₁ d w.st full at g y d₀ p stack (step_ends cm t pool s sd x d₁ a₁ d w.st full at g coins step stack refl refl mark.less (shut r)) d' f
 
           module _ (r : here.row ≢ 1) where
             out : (to : Here) × (to.at ≡ mark.end) × (step ≡ Ok (Closed to mark.less))
             out = elim closes.1 [
-              | inl e ↦ absurd (r (sym w.row ∙ is_root_lem d w.st full at g e))
+              | inl e ↦ absurd (r (sym w.row ∙ is_root_lem d w.st full at g mark.less e))
               | inr z ↦ z
             ]
 
@@ -377,7 +377,7 @@ module _ (cm : Computed) (t pool s : List ℕ) (sd : Sound t pool) (x : HouseXml
                   go true c =
                       let m = by_close_lem t pool s stack in' next gone_next z z_is c in
                       elim m.1 [
-                        | inl e ↦ absurd (in_row_not (is_root_lem d stack in' at inside e))
+                        | inl e ↦ absurd (in_row_not (is_root_lem d stack in' at inside after.less e))
                         | inr y ↦ (m.0, y)
                       ]
                   go false c =

@@ -60,7 +60,7 @@ abbrev rank : Stepped → ℕ
 rank (Err a) = 0
 rank (Ok (Opened to)) = 1
 rank (Ok (Closed to less)) = 2
-rank (Ok Ended) = 3
+rank (Ok (Ended less)) = 3
 
 apart : {P : Type 0} (x y z : Stepped) → x ≡ y → x ≡ z → rank y ≢ rank z → P
 apart x y z e f n = absurd (n (ap rank (sym e ∙ f)))
@@ -234,7 +234,7 @@ module _ (cm : Computed) (t pool s : List ℕ) (sd : Sound t pool) where
             | refused b i w ↦ refused_is d₀ d a b (refused_one {T = Turn} a b (sym m ∙ i)) (g.found ∙ w)
             | opened to i w ↦ apart step _ _ m i (λ z. omega (arith, z))
             | closed to n i w ↦ apart step _ _ m i (λ z. omega (arith, z))
-            | whole i w ↦ apart step _ _ m i (λ z. omega (arith, z))
+            | whole n i w ↦ apart step _ _ m i (λ z. omega (arith, z))
           ]
 
           pub step_enters : (to : Here) → step ≡ Ok (Opened to) → Enters T t pool s sd here g.below g.ats g.rest st' to
@@ -242,7 +242,7 @@ module _ (cm : Computed) (t pool s : List ℕ) (sd : Sound t pool) where
             | refused b i w ↦ apart step _ _ m i (λ z. omega (arith, z))
             | opened o i w ↦ subst (Enters T t pool s sd here g.below g.ats g.rest st') (opened_one o to (sym i ∙ m)) w
             | closed o n i w ↦ apart step _ _ m i (λ z. omega (arith, z))
-            | whole i w ↦ apart step _ _ m i (λ z. omega (arith, z))
+            | whole n i w ↦ apart step _ _ m i (λ z. omega (arith, z))
           ]
 
           pub step_leaves : (to : Here) (less : ℕ) → step ≡ Ok (Closed to less) → Leaves T t pool s sd here g.below g.ats g.rest st' to less
@@ -252,15 +252,15 @@ module _ (cm : Computed) (t pool s : List ℕ) (sd : Sound t pool) where
             | closed o n i w ↦
                 let c = closed_one o to n less (sym i ∙ m) in
                 subst (λ y. Leaves T t pool s sd here g.below g.ats g.rest st' y less) c.0 (subst (Leaves T t pool s sd here g.below g.ats g.rest st' o) c.1 w)
-            | whole i w ↦ apart step _ _ m i (λ z. omega (arith, z))
+            | whole n i w ↦ apart step _ _ m i (λ z. omega (arith, z))
           ]
 
-          pub step_ends : step ≡ Ok Ended → Ends T t pool s sd here g.below g.ats g.rest st'
-          step_ends m = elim steps [
+          pub step_ends : (less : ℕ) → step ≡ Ok (Ended less) → Ends T t pool s sd here g.below g.ats g.rest st'
+          step_ends less m = elim steps [
             | refused b i w ↦ apart step _ _ m i (λ z. omega (arith, z))
             | opened o i w ↦ apart step _ _ m i (λ z. omega (arith, z))
             | closed o n i w ↦ apart step _ _ m i (λ z. omega (arith, z))
-            | whole i w ↦ w
+            | whole n i w ↦ w
           ]
 
         -- an element that goes on

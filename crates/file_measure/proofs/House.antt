@@ -79,12 +79,12 @@ module _ (t pool s : List ℕ) where
               goes_in house_computed t pool s sd x d₁ a₁ d st here at (g sd x) st' to
               (step_enters house_computed t pool s sd x d₁ a₁ d st here at (g sd x) coins step st' e f to m) r d' o
 
-        pub root_end : step ≡ Ok Ended → (d₀ : List ℕ) → Puts d₀ 0 (header (list_of t pool) ++ (1 ∷ [])) a₁ d₁ → (d' : List ℕ) → d' ≡ pasted d at (0 ∷ [])
+        pub root_end : (less : ℕ) → step ≡ Ok (Ended less) → (d₀ : List ℕ) → Puts d₀ 0 (header (list_of t pool) ++ (1 ∷ [])) a₁ d₁ → (d' : List ℕ) → d' ≡ pasted d at (0 ∷ [])
             → Says (Ok (at + 1))
-        root_end m d₀ p d' i x =
+        root_end less m d₀ p d' i x =
             says_of house_kinds (list_of t pool) (message_of x.tree) d₀ (Ok (at + 1)) d'
             (ends_in house_computed t pool s pre.sound x d₁ a₁ d st here at (g pre.sound x) spelling d₀ p st'
-            (step_ends house_computed t pool s pre.sound x d₁ a₁ d st here at (g pre.sound x) coins step st' e f m) d' i)
+            (step_ends house_computed t pool s pre.sound x d₁ a₁ d st here at (g pre.sound x) coins step st' e f less m) d' i)
 
         module _ (to : Here) (less : ℕ) (m : step ≡ Ok (Closed to less)) where
           pub leaf_less : length s - to.at < length s - here.at

@@ -97,7 +97,7 @@ pub(crate) fn found(rows: &[u16], pool: &[u8], s: &[u8], root: Here) -> Result<u
                 at = leaf_end(rows, pool, s, here, less, at).ok_or(bad)?;
                 here = outer;
             }
-            Turn::Ended => return Ok(at + 1),
+            Turn::Ended(_) => return Ok(at + 1),
         }
     }
 }

@@ -80,7 +80,7 @@ fn closed(
     end_of(rows, group, here.level, here.at, less)?;
     let depth = here.depth;
     if depth == 0 {
-        return Ok(Turn::Ended);
+        return Ok(Turn::Ended(less));
     }
     if MOST_LEVELS < depth {
         return Err(Answer::not_house_xml(less));

@@ -20,6 +20,6 @@ pub enum Turn {
     Opened(Here),
     // The end of an element within another, in which the walk stands now; the text before the end goes up to this place.
     Closed(Here, usize),
-    // The end of the root.
-    Ended,
+    // The end of the root; the text before it goes up to this place.
+    Ended(usize),
 }

@@ -153,7 +153,7 @@ module _ (t pool s : List ℕ) (st : List Level) (here : Here) where
   -- an opening tag, the root's closing tag, another's
   pub data Went (x : Stepped) : Type 0 where
     entered : token.kind ≡ Open → x ≡ Ok (Opened (inner t here row token.less token.end token.first)) → Went x
-    ended : token.kind ≡ Close → here.depth ≡ 0 → x ≡ Ok Ended → Went x
+    ended : token.kind ≡ Close → here.depth ≡ 0 → x ≡ Ok (Ended token.less) → Went x
     left : token.kind ≡ Close → here.depth ≢ 0 → x ≡ Ok (Closed (outer st (here.depth - 1) token.end) token.less) → Went x
 
   enters : token.kind ≡ Open → (f : Found) → is_ok (entered_by t here row token.less token.end token.first f) ≡ true → Went (entered_by t here row token.less token.end token.first f)
@@ -169,8 +169,8 @@ module _ (t pool s : List ℕ) (st : List Level) (here : Here) where
   leaves k (Err a) n = absurd (false≢true n)
   leaves k (Ok tt) n = go (eqb here.depth 0) (ltb 16 here.depth) refl n
     where
-      go : (b c : Bool) → eqb here.depth 0 ≡ b → is_ok (cond b (Ok Ended) (cond c (Err (table.not_house_xml token.less)) (Ok (Closed (outer st (here.depth - 1) token.end) token.less)))) ≡ true
-          → Went (cond b (Ok Ended) (cond c (Err (table.not_house_xml token.less)) (Ok (Closed (outer st (here.depth - 1) token.end) token.less))))
+      go : (b c : Bool) → eqb here.depth 0 ≡ b → is_ok (cond b (Ok (Ended token.less)) (cond c (Err (table.not_house_xml token.less)) (Ok (Closed (outer st (here.depth - 1) token.end) token.less)))) ≡ true
+          → Went (cond b (Ok (Ended token.less)) (cond c (Err (table.not_house_xml token.less)) (Ok (Closed (outer st (here.depth - 1) token.end) token.less))))
       go true c e n = ended k (eqb-true here.depth 0 e) refl
       go false true e n = absurd (false≢true n)
       go false false e n = left k (eqb-false here.depth 0 e) refl
@@ -207,7 +207,7 @@ module _ (t pool s : List ℕ) (st : List Level) (here : Here) where
       there_is = subst (λ (n : ℕ). n < length s) (sym is) there
 
       -- the end of the root or of another element
-      pub by_close_lem : head_is solidus (drop (m + 1) s) ≡ true → (token.kind ≡ Close) × ((x ≡ Ok Ended) ⊎ ((to : Here) × (to.at ≡ token.end) × (x ≡ Ok (Closed to token.less))))
+      pub by_close_lem : head_is solidus (drop (m + 1) s) ≡ true → (token.kind ≡ Close) × ((x ≡ Ok (Ended token.less)) ⊎ ((to : Here) × (to.at ≡ token.end) × (x ≡ Ok (Closed to token.less))))
       by_close_lem b = elim w [
         | entered k e ↦ absurd (unlike token.kind Open Close k (ap (λ (z : Token). z.kind) (is_close s here.at m is there_is b)) (λ z. absurd (omega (arith, z))))
         | ended k d e ↦ (k, inl e)

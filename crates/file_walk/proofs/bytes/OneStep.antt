@@ -191,8 +191,8 @@ module _ (T : Speller) (t pool s : List ℕ) (sd : Sound t pool) (m : Coins (jud
             let none : below ≡ [] = sym w.around ∙ ap (levels st) d in
             let row : lv.row ≡ 1 = subst (Nested T t pool s sd lv.row) none w.nested in
             let g : is_group (kind_of l lv.row) ≡ true = ap (λ r. is_group (kind_of l r)) row ∙ ap is_group sd.well.root.1 in
-            close_to (Ok Ended) (closed_root t in_group st here k.less k.end v refl z d)
-            (whole refl (record {
+            close_to (Ok (Ended k.less)) (closed_root t in_group st here k.less k.end v refl z d)
+            (whole k.less refl (record {
               root = d;
               row = row;
               found = found_on ∙ ap₂ or_else (judged_group T l (kind_of l lv.row) lv.row lv.place ats (resolved_all ps) g) (ap (λ b. run T l (pop b) more) none ∙ run_after T l more);

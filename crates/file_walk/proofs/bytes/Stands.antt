@@ -106,7 +106,7 @@ module _ (T : Speller) (t pool s : List ℕ) (sd : Sound t pool) where
       refused : (a : Answer) → step ≡ Err a → finds here below ats es ≡ Err a → Turned step
       opened : (to : Here) → step ≡ Ok (Opened to) → Enters to → Turned step
       closed : (to : Here) (less : ℕ) → step ≡ Ok (Closed to less) → Leaves to less → Turned step
-      whole : step ≡ Ok Ended → Ends → Turned step
+      whole : (less : ℕ) → step ≡ Ok (Ended less) → Ends → Turned step
 
   -- ---- the beginning: the root's tag in the text of a tree
 

@@ -85,7 +85,7 @@ module _ (t : List ℕ) (g : Bool) (st : List Level) (here : Here) (less end : �
     unfolding closed_in
     well = ap (closed_by st here less end) (sym h ∙ e)
 
-    pub closed_root : here.depth ≡ 0 → Ok Ended ≡ closed_in t g st here less end
+    pub closed_root : here.depth ≡ 0 → Ok (Ended less) ≡ closed_in t g st here less end
     closed_root f = rw (eq-eqb here.depth 0 f) at well
 
     module _ (f : here.depth ≡ 0 → ⊥) where

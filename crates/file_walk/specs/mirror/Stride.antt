@@ -64,7 +64,7 @@ outer a n end = record { level = level_at a n; depth = n; at = end; value = 0; q
 abbrev pub closed_by : List Level → Here → ℕ → ℕ → Found → Stepped
 closed_by a here less end (Err v) = Err v
 closed_by a here less end (Ok tt) =
-    cond (eqb here.depth 0) (Ok Ended) (cond (ltb 16 here.depth) (Err (table.not_house_xml less)) (Ok (Closed (outer a (here.depth - 1) end) less)))
+    cond (eqb here.depth 0) (Ok (Ended less)) (cond (ltb 16 here.depth) (Err (table.not_house_xml less)) (Ok (Closed (outer a (here.depth - 1) end) less)))
 
 unfoldable pub closed_in : List ℕ → Bool → List Level → Here → ℕ → ℕ → Stepped
 closed_in t g a here less end = closed_by a here less end (end_in t g here.level here.at less)

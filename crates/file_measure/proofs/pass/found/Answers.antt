@@ -37,7 +37,7 @@ overflow_add-result c =
 
 pub returns-in-Ended : goal.returns-in-Ended
 returns-in-Ended c =
-    root_end _ _ _ c.requires.0 _ _ _ _ _ _ c.loop-inner.invariant _ c.step.ensures.0 _ c.step.ensures.1 (c.in_ok-inner.was ∙ ap Ok c.in-Ended.is) _ (head_nowhere _) _ (pasted_nowhere _ _)
+    root_end _ _ _ c.requires.0 _ _ _ _ _ _ c.loop-inner.invariant _ c.step.ensures.0 _ c.step.ensures.1 _ (c.in_ok-inner.was ∙ ap Ok c.in-Ended.is) _ (head_nowhere _) _ (pasted_nowhere _ _)
 
 pub leaf_end-requires : goal.leaf_end-requires
 leaf_end-requires c =
