@@ -159,7 +159,7 @@ module _ (cm : Computed) (t pool s : List ℕ) (sd : Sound t pool) (x : HouseXml
 
       pub begins : (tried : Rooted) → tried ≡ begin_in t pool s → is_ok tried ≡ true
       begins tried e = elim (begun cm t pool s sd x tried e) [
-        | denied a m w ↦ fine_found _ a found_none w
+        | denied r m w ↦ fine_found _ r.answer found_none w
         | starts here m w ↦ ap is_ok m
       ]
 

@@ -26,6 +26,7 @@ use Rattle.xml_tags.specs.Story.{Event, events}
 use Rattle.file_walk.specs.declared.level.Level.{Level}
 use Rattle.file_walk.specs.declared.step.Here.{Here}
 use Rattle.file_walk.specs.declared.step.Turn.{Turn}
+use Rattle.file_walk.specs.declared.step.Refusal.{Refusal}
 use Rattle.file_walk.specs.declared.step.Turn.TheVariants.{Opened, Closed, Ended}
 use Rattle.file_walk.specs.Types.{Spelling}
 use Rattle.file_walk.specs.First.{Found, First, refuse, or_else, currency_given}
@@ -48,6 +49,7 @@ use Rattle.image.specs.Image.{items_bytes, item_bytes, value_bytes, header, imag
 use Rattle.image.proofs.answers.Heads.{header_length}
 use Rattle.file.specs.Instance.{Kinds, values_of}
 use Rattle.file.specs.File.{image_of}
+use Rattle.file.proofs.answers.Codes.{violation_code}
 use Rattle.text.proofs.Puts.{puts_none, puts_pasted, puts_then, puts_as}
 use Rattle.value.specs.Places.{longest_value}
 use Rattle.file_measure.specs.Pass.{kind_in, Shut, Yields, Shuts, Opens, ItemPut, Passes}
@@ -68,6 +70,9 @@ apart x y z e f n = absurd (n (ap rank (sym e ∙ f)))
 -- what stands in one
 refused_one : {T : Type 0} (a b : Answer) → ◌≡◌ {A = Result T Answer} (Err a) (Err b) → a ≡ b
 refused_one a b e = cc
+
+denied_one : (a b : Refusal) → ◌≡◌ {A = Rooted} (Err a) (Err b) → a ≡ b
+denied_one a b e = cc
 
 rooted_one : (a b : Here) → ◌≡◌ {A = Rooted} (Ok a) (Ok b) → a ≡ b
 rooted_one a b e = cc
@@ -164,11 +169,15 @@ module _ (cm : Computed) (t pool s : List ℕ) (sd : Sound t pool) where
     refused_is d₀ d a b e g = first_found (Err a) (g ∙ ap Err (sym e))
 
     module _ (tried : Rooted) (w : Began T t pool s sd x.tree tried) where
-      pub begin_refused : (d₀ : List ℕ) (a : Answer) → tried ≡ Err a → Goal d₀ (Err a) d₀
-      begin_refused d₀ a e = elim w [
-        | denied b f g ↦ refused_is d₀ d₀ a b (refused_one {T = Here} a b (sym e ∙ f)) g
+      pub begin_refused : (d₀ : List ℕ) (r : Refusal) → tried ≡ Err r → Goal d₀ (Err r.answer) d₀
+      begin_refused d₀ r e = elim w [
+        | denied q f g ↦ refused_is d₀ d₀ r.answer q.answer (ap (λ (z : Refusal). z.answer) (denied_one r q (sym e ∙ f))) g
         | starts h f v ↦ absurd (true≢false (ap is_err (sym e ∙ f)))
       ]
+
+      -- what stands there is house XML: 3 is no violation's code
+      pub begin_lost : (r : Refusal) → tried ≡ Err r → r.answer.code ≢ 3
+      begin_lost r e z = omega (arith, z, (violation_code k.types l (message_of x.tree) r.answer (begin_refused [] r e)).0)
 
       pub begin_opened : (here : Here) → tried ≡ Ok here → Starts T t pool s sd x.tree here
       begin_opened here e = elim w [
@@ -236,6 +245,10 @@ module _ (cm : Computed) (t pool s : List ℕ) (sd : Sound t pool) where
             | closed to n i w ↦ apart step _ _ m i (λ z. omega (arith, z))
             | whole n i w ↦ apart step _ _ m i (λ z. omega (arith, z))
           ]
+
+          -- nor is a step lost in house XML
+          pub step_lost : (a : Answer) → step ≡ Err a → a.code ≢ 3
+          step_lost a m z = omega (arith, z, (violation_code k.types l (message_of x.tree) a (step_refused [] a m)).0)
 
           pub step_enters : (to : Here) → step ≡ Ok (Opened to) → Enters T t pool s sd here g.below g.ats g.rest st' to
           step_enters to m = elim steps [

@@ -1,6 +1,6 @@
 -- A pass with document 01's types, from what the code's calls told. Assumes nothing.
-use Rattle.std.specs.Prelude.{Option as Told, None, Some, Result, Ok, Err, IfOk, IfErr, is_ok, ok_or}
-use mathlib.Core.Path.{◌≡◌, sym, ap, subst}
+use Rattle.std.specs.Prelude.{Option as Told, None, Some, Result, Ok, Err, MatchResult, IfOk, IfErr, IsErrAnd, is_ok, ok_or}
+use mathlib.Core.Path.{◌≡◌, refl, sym, ◌∙◌, ap, subst}
 use mathlib.Core.Bool.{true≢false}
 use mathlib.Core.List.{List, [], ◌∷◌, ◌++◌}
 use Prim.Native.Nat.{ℕ, ◌+◌, ◌-◌, ◌≤◌, ◌<◌}
@@ -16,6 +16,7 @@ use Rattle.list.specs.tables.Sound.{Sound}
 use Rattle.xml.specs.House.{HouseXml}
 use Rattle.xml.specs.Message.{message_of}
 use Rattle.file_walk.specs.declared.step.Here.{Here}
+use Rattle.file_walk.specs.declared.step.Refusal.{Refusal}
 use Rattle.file_walk.specs.declared.level.Level.{Level}
 use Rattle.file_walk.specs.declared.step.Turn.TheVariants.{Opened, Closed, Ended}
 use Rattle.file_walk.specs.mirror.Stride.{Stepped, step_in, stack_in}
@@ -34,6 +35,22 @@ use Rattle.file_measure.proofs.Going.{Computed, Going, begun, begin_refused, beg
 abbrev pub house_computed : Computed
 house_computed = record { kinds = house_kinds; spell = spell; computes = computing }
 
+-- what is handed on of the root's tag: of a refusal its answer alone
+module _ (y : Result Here Answer) where
+  abbrev pub Handed : Rooted → Type 0
+  Handed x = MatchResult x (λ h. y ≡ Ok h) (λ r. IsErrAnd y (λ a. a ≡ r.answer))
+
+  same_root : (a b : Here) → ◌≡◌ {A = Result Here Answer} (Ok a) (Ok b) → a ≡ b
+  same_root a b e = cc
+
+  pub handed_root : (x : Rooted) → Handed x → (h : Here) → y ≡ Ok h → x ≡ Ok h
+  handed_root (Ok k) m h i = ap Ok (same_root k h (sym m ∙ i))
+  handed_root (Err r) m h i = absurd (subst (λ z. IsErrAnd z (λ a. a ≡ r.answer)) i m)
+
+  handed_answer : (x : Rooted) → Handed x → (a : Answer) → y ≡ Err a → (r : Refusal) × (x ≡ Err r) × (a ≡ r.answer)
+  handed_answer (Ok k) m a i = absurd (true≢false (sym (ap is_ok m) ∙ ap is_ok i))
+  handed_answer (Err r) m a i = (r, refl, subst (λ z. IsErrAnd z (λ b. b ≡ r.answer)) i m)
+
 module _ (t pool s : List ℕ) where
   -- where the pass stands, whatever says that the tables are sound and the text is house XML
   abbrev pub GoingOn : List ℕ → ℕ → List ℕ → List Level → Here → ℕ → Type 0
@@ -47,8 +64,13 @@ module _ (t pool s : List ℕ) where
     -- ---- the root's tag
 
     module _ (tried : Rooted) (e : tried ≡ begin_in t pool s) where
-      pub begins_refused : (a : Answer) → tried ≡ Err a → Says (Err a)
-      begins_refused a m x = begin_refused house_computed t pool s pre.sound x tried (begun house_computed t pool s pre.sound x tried e) [] a m
+      pub begins_refused : (r : Refusal) → tried ≡ Err r → Says (Err r.answer)
+      begins_refused r m x = begin_refused house_computed t pool s pre.sound x tried (begun house_computed t pool s pre.sound x tried e) [] r m
+
+      pub begins_handed : (y : Result Here Answer) → Handed y tried → (a : Answer) → y ≡ Err a → Says (Err a)
+      begins_handed y m a i =
+          let h = handed_answer y tried m a i in
+          subst (λ (b : Answer). Says (Err b)) (sym h.2) (begins_refused h.0 h.1)
 
       pub begins : (here : Here) → tried ≡ Ok here → (st : List Level) → length st ≡ 16 → (d₀ d₁ : List ℕ) (a₁ : ℕ) → Puts d₀ 0 (header (list_of t pool) ++ (1 ∷ [])) a₁ d₁
           → GoingOn d₁ a₁ d₁ st here a₁

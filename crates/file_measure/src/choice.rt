@@ -8,17 +8,17 @@ ghost use Rattle.file_measure.specs.mirror.Choice.{kind_by};
 
 use answer::Answer;
 use file_root::begin::begin;
-use file_walk::step::Here;
+use file_walk::step::{Here, Refusal};
 use list_house::by_byte::REPORT;
 
 const STATEMENT: usize = 1;
 
 // By what the root's tag is as a statement's: where it is none, a report's. Where it is no report's either, each list says 4 at one place.
-pub(crate) fn kind_by(tried: Result<Here, Answer>) -> usize
+pub(crate) fn kind_by(tried: Result<Here, Refusal>) -> usize
     ensures { result ≡ kind_by tried }
 {
     match tried {
-        Err(violation) if violation.code == Answer::WRONG_ROOT => REPORT,
+        Err(refusal) if refusal.answer.code == Answer::WRONG_ROOT => REPORT,
         _ => STATEMENT,
     }
 }
@@ -29,8 +29,8 @@ pub(crate) fn begun(
     pool: &[u8],
     s: &[u8],
     kind: usize,
-    tried: Result<Here, Answer>,
-) -> Result<Here, Answer>
+    tried: Result<Here, Refusal>,
+) -> Result<Here, Refusal>
     requires { (rows.now ≡ asked_rows kind) × (tried ≡ begin_in house_rows pool.now s.now) }
     ensures { result ≡ begin_in rows.now pool.now s.now }
 {

@@ -8,7 +8,7 @@ ghost use Rattle.file_measure.specs.mirror.Choice.{Chooses};
 use answer::Answer;
 use choice::{begun, kind_by};
 use file_root::begin::begin;
-use file_walk::step::Here;
+use file_walk::step::{Here, Refusal};
 use list_house::by_byte::REPORT;
 use list_house::tables::{pool, report_rows, rows};
 use pass::found;
@@ -31,12 +31,12 @@ fn walked(
     pool: &[u8],
     input: &[u8],
     kind: usize,
-    tried: Result<Here, Answer>,
+    tried: Result<Here, Refusal>,
 ) -> Result<Good, Answer>
     requires { Chooses rows.now pool.now input.now kind tried }
     ensures { Measures input.now result }
 {
-    let root = begun(rows, pool, input, kind, tried)?;
+    let root = begun(rows, pool, input, kind, tried).map_err(|refusal| refusal.answer)?;
     let size = found(rows, pool, input, root)?;
     Ok(Good { kind, size })
 }

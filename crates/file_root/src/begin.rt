@@ -1,12 +1,12 @@
 // Where the walk begins: the root's tag.
 
 ghost use Rattle.std.specs.Prelude.{◌≡◌};
-ghost use Rattle.file_walk.specs.mirror.Begin.{is_root_in, rooted_in, hollow_in, begin_in};
+ghost use Rattle.file_walk.specs.mirror.Begin.{is_root_in, refused_at, rooted_in, hollow_in, begin_in};
 
 use crate::hints::root_attributes;
 use answer::Answer;
 use file_walk::level::fresh;
-use file_walk::step::Here;
+use file_walk::step::{Here, Refusal};
 use list::lookup::is_name;
 use text::part::part_of;
 use xml_cursor::token::{opening, start};
@@ -22,13 +22,20 @@ fn is_root(rows: &[u16], pool: &[u8], s: &[u8], less: usize, stop: usize, count:
         && root_attributes(rows, pool, s, stop, count)
 }
 
+// A refusal of what stands there: the walk would stand after it.
+fn refused(here: Here, answer: Answer) -> Refusal
+    ensures { result ≡ refused_at here answer }
+{
+    Refusal { answer, here }
+}
+
 // A tag as the root of a message that goes on after it.
 #[tactic(auto, unfolding(file_walk::specs::mirror::Begin::rooted_in))]
-fn rooted(root: bool, here: Here, less: usize) -> Result<Here, Answer>
+fn rooted(root: bool, here: Here, less: usize) -> Result<Here, Refusal>
     ensures { result ≡ rooted_in root here less }
 {
     if !root {
-        return Err(Answer::wrong_root(less));
+        return Err(refused(here, Answer::wrong_root(less)));
     }
     Ok(here)
 }
@@ -44,8 +51,9 @@ fn hollow(root: bool, less: usize) -> Answer
     Answer::empty(1, less)
 }
 
-// The root's tag: where the walk stands in the root, or the first violation. Bytes without a tag there are no house XML.
-pub fn begin(rows: &[u16], pool: &[u8], s: &[u8]) -> Result<Here, Answer>
+// The root's tag: where the walk stands in the root; or the first violation, and where it would stand. Bytes without a tag there are no
+// house XML.
+pub fn begin(rows: &[u16], pool: &[u8], s: &[u8]) -> Result<Here, Refusal>
     ensures { result ≡ begin_in rows.now pool.now s.now }
 {
     let token = opening(s, start(s));
@@ -61,8 +69,8 @@ pub fn begin(rows: &[u16], pool: &[u8], s: &[u8]) -> Result<Here, Answer>
     let root = is_root(rows, pool, s, less, token.stop, token.attributes);
     match token.kind {
         Kind::Open => rooted(root, here, less),
-        Kind::Empty => Err(hollow(root, less)),
-        Kind::Close => Err(Answer::not_house_xml(less)),
-        Kind::End => Err(Answer::not_house_xml(less)),
+        Kind::Empty => Err(refused(here, hollow(root, less))),
+        Kind::Close => Err(refused(here, Answer::not_house_xml(less))),
+        Kind::End => Err(refused(here, Answer::not_house_xml(less))),
     }
 }

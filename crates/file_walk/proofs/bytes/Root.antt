@@ -34,7 +34,7 @@ use Rattle.file_walk.specs.First.{refuse, or_else, kind_of, is_root, first_viola
 use Rattle.file_walk.specs.Denotes.{OneElement as Single}
 use Rattle.file_walk.specs.mirror.Machine.{Speller, judge_of, before, at, after, fresh, run, walk, emits}
 use Rattle.file_walk.specs.mirror.Tables.{fresh_in, levels}
-use Rattle.file_walk.specs.mirror.Begin.{is_first_in, is_root_in, root_at as root_in_lem, Rooted, rooted_in, hollow_in, found_in, begin_by, begin_in, unrooted}
+use Rattle.file_walk.specs.mirror.Begin.{is_first_in, is_root_in, root_at as root_in_lem, Rooted, refused_at, rooted_in, hollow_in, found_in, begin_by, begin_in, unrooted}
 use Rattle.file_walk.proofs.violation.Answers.{attrs_group}
 use Rattle.file_walk.proofs.Carrying.{root_judged}
 use Rattle.file_walk.proofs.bytes.Sound.{fresh_in_lem}
@@ -160,10 +160,10 @@ module _ (T : Speller) (t pool : List ℕ) (sd : Sound t pool) (m : Tree) (good 
     root = root_in_lem t k.less k.end
 
     -- a violation that is the first
-    denies : (a : Answer) → run T list before es ≡ Err a → Began T t pool s sd m (Err a)
-    denies a e = denied a refl e
+    denies : (a : Answer) → run T list before es ≡ Err a → Began T t pool s sd m (Err (refused_at root a))
+    denies a e = denied (refused_at root a) refl e
 
-    not_root : b ≡ false → Began T t pool s sd m (Err (table.wrong_root k.less))
+    not_root : b ≡ false → Began T t pool s sd m (Err (refused_at root (table.wrong_root k.less)))
     not_root e = denies (table.wrong_root k.less) (found_root ∙ ap (λ z. or_else (refuse (not z) (table.wrong_root k.less)) (run T list (at (fresh list 1 k.less) [] [] []) more)) e)
 
     found_in_lem : b ≡ true → run T list before es ≡ run T list (at (fresh list 1 k.less) [] [] []) more
@@ -194,15 +194,15 @@ module _ (T : Speller) (t pool : List ℕ) (sd : Sound t pool) (m : Tree) (good 
           found = found_in_lem e ∙ ap (λ z. run T list (at z [] [] []) more) fresh_is;
           handed = handed_root ∙ ap (λ z. (1, Option.none) ∷ emits T list (at z [] [] []) more) fresh_is;
         })))
-        (λ e. to (Err (table.wrong_root k.less)) (ap (λ z. rooted_in z root k.less) (sym e) ∙ by_kind Open kind) (not_root e))
+        (λ e. to (Err (refused_at root (table.wrong_root k.less))) (ap (λ z. rooted_in z root k.less) (sym e) ∙ by_kind Open kind) (not_root e))
 
     empty_began : (rest : List Event) → more ≡ leave ∷ rest → k.kind ≡ Empty → Goal
     unfolding hollow_in run
     empty_began rest f kind = by_cases b
-        (λ e. to (Err (table.empty 1 k.less)) (ap (λ z. Err (hollow_in z k.less)) (sym e) ∙ by_kind Empty kind)
+        (λ e. to (Err (refused_at root (table.empty 1 k.less))) (ap (λ z. Err (refused_at root (hollow_in z k.less))) (sym e) ∙ by_kind Empty kind)
         (denies (table.empty 1 k.less) (found_in_lem e ∙ ap (run T list (at (fresh list 1 k.less) [] [] [])) f
         ∙ ap (λ z. or_else z (run T list after rest)) (closes_empty T list (kind_of list (fresh list 1 k.less).row) 1 k.less []))))
-        (λ e. to (Err (table.wrong_root k.less)) (ap (λ z. Err (hollow_in z k.less)) (sym e) ∙ by_kind Empty kind) (not_root e))
+        (λ e. to (Err (refused_at root (table.wrong_root k.less))) (ap (λ z. Err (refused_at root (hollow_in z k.less))) (sym e) ∙ by_kind Empty kind) (not_root e))
 
   began_by : Told s (start_of s) es → Goal
   began_by (by_open ps n ats more is kind x g tells) = open_began ps n ats more is g (goes_on k.kind Open kind (omega arith)) kind tells
@@ -227,17 +227,17 @@ module _ (T : Speller) (t pool : List ℕ) (sd : Sound t pool) (m : Tree) (good 
   open_kept true here less = refl
   open_kept false here less = refl
 
-  empty_kept : (b : Bool) (less : ℕ) → unrooted (Err (hollow_in b less)) ≡ not b
+  empty_kept : (b : Bool) (here : Here) (less : ℕ) → unrooted (Err (refused_at here (hollow_in b less))) ≡ not b
   unfolding hollow_in
-  empty_kept true less = refl
-  empty_kept false less = refl
+  empty_kept true here less = refl
+  empty_kept false here less = refl
 
   keeps_by : Told s (start_of s) es → unrooted (begin_in t pool s) ≡ not (rooted list (message_of m))
   keeps_by (by_open ps n ats more is kind x g tells) =
       met_by Open kind ∙ open_kept (is_root_in t pool s k.less k.stop k.attributes) (root_in_lem t k.less k.end) k.less
       ∙ ap not (kept_is ps n ats more is g (goes_on k.kind Open kind (omega arith)))
   keeps_by (by_empty ps n ats more is kind x g) =
-      met_by Empty kind ∙ empty_kept (is_root_in t pool s k.less k.stop k.attributes) k.less
+      met_by Empty kind ∙ empty_kept (is_root_in t pool s k.less k.stop k.attributes) (root_in_lem t k.less k.end) k.less
       ∙ ap not (kept_is ps n ats (leave ∷ more) is g (goes_on k.kind Empty kind (omega arith)))
   keeps_by (by_close ps more is kind x tells) = absurd (closing_text 0 (start_of s) ps (leave ∷ more) (subst (Closing 0) is (closing_events (message_of m) 0 [] refl)))
   keeps_by (by_end is) = absurd (omega (arith, some_events m.root (root_at m) good.one, ap length is))

@@ -17,6 +17,7 @@ use Rattle.xml.specs.Message.{Attrs, message_of}
 use Rattle.xml_tags.specs.Story.{Event, char, enter, leave, events, Tells}
 use Rattle.file_walk.specs.declared.level.Level.{Level}
 use Rattle.file_walk.specs.declared.step.Here.{Here}
+use Rattle.file_walk.specs.declared.step.Refusal.{Refusal}
 use Rattle.file_walk.specs.declared.step.Turn.TheVariants.{Opened, Closed, Ended}
 use Rattle.file_walk.specs.mirror.Stride.{Stepped}
 use Rattle.file_walk.specs.mirror.Begin.{Rooted}
@@ -118,5 +119,5 @@ module _ (T : Speller) (t pool s : List ℕ) (sd : Sound t pool) where
       pub handed : emits T list before (events (message_of m) []) ≡ (1, Option.none) ∷ hands here [] [] rest
 
     pub data Began (tried : Rooted) : Type 0 where
-      denied : (a : Answer) → tried ≡ Err a → run T list before (events (message_of m) []) ≡ Err a → Began tried
+      denied : (r : Refusal) → tried ≡ Err r → run T list before (events (message_of m) []) ≡ Err r.answer → Began tried
       starts : (here : Here) → tried ≡ Ok here → Starts here → Began tried

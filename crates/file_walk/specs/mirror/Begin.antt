@@ -14,6 +14,7 @@ use Rattle.xml_tags.specs.Story.{attribute_in}
 use Rattle.xml_tags.specs.mirror.Tokens.{open_at, start_of}
 use Rattle.file_walk.specs.declared.hints.Carried.{Carried}
 use Rattle.file_walk.specs.declared.step.Here.{Here}
+use Rattle.file_walk.specs.declared.step.Refusal.{Refusal}
 use Rattle.file_walk.specs.mirror.Tables.{fresh_in}
 use Rattle.file_walk.specs.mirror.Stride.{named}
 
@@ -61,13 +62,16 @@ is_root_in t pool s less stop count = ltb less (length s) && (is_first_in t pool
 abbrev pub root_at : List ℕ → ℕ → ℕ → Here
 root_at t less end = record { level = fresh_in t 1 less; depth = 0; at = end; value = 0; quote = 0 }
 
--- where the walk stands then, or the first violation
+-- where the walk stands then; or the first violation, and where it would stand
 abbrev pub Rooted : Type 0
-Rooted = Result Here Answer
+Rooted = Result Here Refusal
+
+abbrev pub refused_at : Here → Answer → Refusal
+refused_at here a = record { answer = a; here = here }
 
 -- by whether it is the root: an element that goes on, an element without content
 unfoldable pub rooted_in : Bool → Here → ℕ → Rooted
-rooted_in b here less = cond b (Ok here) (Err (table.wrong_root less))
+rooted_in b here less = cond b (Ok here) (Err (refused_at here (table.wrong_root less)))
 
 unfoldable pub hollow_in : Bool → ℕ → Answer
 hollow_in b less = cond b (table.empty 1 less) (table.wrong_root less)
@@ -76,9 +80,9 @@ module _ (t pool s : List ℕ) where
   -- by what stands where the root begins; where no tag opens there, it is no house XML
   abbrev pub found_in : Kind → Token → Rooted
   found_in Open k = rooted_in (is_root_in t pool s k.less k.stop k.attributes) (root_at t k.less k.end) k.less
-  found_in Empty k = Err (hollow_in (is_root_in t pool s k.less k.stop k.attributes) k.less)
-  found_in Close k = Err (table.not_house_xml k.less)
-  found_in End k = Err (table.not_house_xml k.less)
+  found_in Empty k = Err (refused_at (root_at t k.less k.end) (hollow_in (is_root_in t pool s k.less k.stop k.attributes) k.less))
+  found_in Close k = Err (refused_at (root_at t k.less k.end) (table.not_house_xml k.less))
+  found_in End k = Err (refused_at (root_at t k.less k.end) (table.not_house_xml k.less))
 
   -- by the tag there
   unfoldable pub begin_by : Token → Rooted
@@ -90,4 +94,4 @@ module _ (t pool s : List ℕ) where
 -- the tag is not the root's, which code 4 says
 abbrev pub unrooted : Rooted → Bool
 unrooted (Ok here) = false
-unrooted (Err a) = eqb a.code 4
+unrooted (Err r) = eqb r.answer.code 4
