@@ -5,7 +5,7 @@ ghost use Rattle.std.specs.Prelude.{◌≡◌, ◌<◌, ◌≤◌, IfSome};
 ghost use Rattle.image.specs.mirror.Ends.{item_end};
 ghost use Rattle.image.specs.mirror.Run.{Took, Behind};
 ghost use Rattle.image.specs.Means.{ItemEnds, Told};
-ghost use Rattle.image_reader.specs.Taken.{end_of, answer_of, count_of};
+ghost use Rattle.image_reader.specs.Taken.{end_of, taken_end, answer_of, count_of};
 
 use image_order::{ended, follows, is_leaf};
 use list::lookup::cell;
@@ -29,6 +29,7 @@ pub struct Broken {
 // Where the item of row x ends whose row byte stands before `at`; none where no value of its type stands there.
 pub fn item_end(rows: &[u16], run: &[u8], x: usize, at: usize) -> Option<usize>
     ensures is { end_of result ≡ item_end rows.now run.now x at }
+    ensures whole { result ≡ taken_end rows.now run.now x at }
     ensures means { ItemEnds rows.now run.now x at (end_of result) }
     ensures on { IfSome result (λ end. at ≤ end) }
 {
