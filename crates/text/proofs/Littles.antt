@@ -90,6 +90,13 @@ load_eight s at a b n x y e =
       bytes = subst (Each Byte) (sym (take-add 4 4 (drop at s))) (each_append Byte (take 4 (drop at s)) (take 4 (drop 4 (drop at s))) x.bytes (subst (λ (l : List ℕ). Each Byte (take 4 l)) (sym h) y.bytes));
     }
 
+-- the same eight bytes, four by four
+pub load_eights : (s : List ℕ) (at a b n : ℕ) → a ≡ little (four_at s at) → Each Byte (four_at s at)
+    → b ≡ little (four_at s (at + 1 + 1 + 1 + 1)) → Each Byte (four_at s (at + 1 + 1 + 1 + 1)) → n ≡ a + 4294967296 * b → Loaded 8 s at n
+load_eights s at a b n e h f g i =
+    let j : at + 1 + 1 + 1 + 1 ≡ at + 4 = omega arith in
+    load_eight s at a b n (load_four s at a e h) (subst (λ (m : ℕ). Loaded 4 s m b) j (load_four s (at + 1 + 1 + 1 + 1) b f g)) i
+
 -- the library's number of eight bytes, of which each is in range
 bytes_of : (k : ℕ) (s : List ℕ) (at : ℕ) → ((i : ℕ) → get_or s i 0 < 256) → Each Byte (take k (drop at s))
 bytes_of zero s at h = tt

@@ -1,5 +1,5 @@
--- Lists and parts of lists, compared: the tests are equality. Assumes nothing.
-use Rattle.std.proofs.Common.{◌≡◌, ℕ, zero, suc, Bool, ◌&&◌, ◌+◌, ◌-◌, ◌<◌, ◌≤◌, min, true, false, eqb, ◌≢◌, List, [], ◌∷◌, ◌++◌, length, get_or, take, drop, sym, refl, ap, ◌∙◌, true≢false, suc-add, zero-add, arith, length-drop, take-append-drop, drop_of_length-le, length-take, get_or-drop, take_all, get_or-take, eq-eqb, eqb-true}
+-- Lists and parts of lists, compared: the tests are equality, and element by element they go on. Assumes nothing.
+use Rattle.std.proofs.Common.{◌≡◌, ℕ, zero, suc, Bool, ◌&&◌, ◌+◌, ◌-◌, ◌<◌, ◌≤◌, min, true, false, eqb, ◌≢◌, List, [], ◌∷◌, ◌++◌, length, get_or, take, drop, sym, refl, ap, ◌∙◌, true≢false, suc-add, zero-add, add-one, arith, length-append, length-drop, take-append-drop, drop_of_length-le, length-take, get_or-drop, take_all, drop-cons, get_or-take, eq-eqb, ne_eqb, eqb-true}
 use lib.Seq.{slice, take-nil, take-length, take-append_seam}
 use Rattle.std.specs.Cmp.Lexicographic.{pointwise}
 use Rattle.text.specs.Lists.{same, LongestBeginning}
@@ -33,6 +33,9 @@ same_not u v e p = true≢false (sym (same_of u v p) ∙ e)
 pub not_same : (u v : List ℕ) → u ≢ v → same u v ≡ false
 not_same u v f = not_so (same u v) (λ e. f (same_eq u v e))
 
+pub same_lengths : (u v : List ℕ) (m n : ℕ) → m ≡ length u → n ≡ length v → m ≢ n → false ≡ same u v
+same_lengths u v m n e f ne = sym (not_same u v (λ p. ne (e ∙ ap length p ∙ sym f)))
+
 -- it is the library's equality of slices
 pub pointwise_same : (u v : List ℕ) → pointwise eqb u v ≡ same u v
 unfolding same
@@ -55,6 +58,10 @@ starts_of w t = same_of w (take (length w) (w ++ t)) (sym (take-append_seam w t)
 pub starts_not : (w s t : List ℕ) → starts w s ≡ false → s ≢ w ++ t
 starts_not w s t e p = true≢false (sym (starts_of w t) ∙ ap (starts w) (sym p) ∙ e)
 
+pub starts_short : (w s : List ℕ) → length s < length w → starts w s ≡ false
+starts_short w s h =
+    not_so (starts w s) (λ e. omega (arith, ap length (starts_is w s e), length-append w (drop (length w) s)))
+
 -- ---- a part as a list
 
 pub part_take : (a n : ℕ) (s : List ℕ) → slice a (a + n) s ≡ take n (drop a s)
@@ -67,6 +74,22 @@ part_length a b s = simp (length-drop, length-take)
 
 pub part_at : (a b k : ℕ) (s : List ℕ) → k < length (slice a b s) → get_or (slice a b s) k 0 ≡ get_or s (a + k) 0
 part_at a b k s h = rw (get_or-drop a (take b s) k 0) (get_or-take b s (a + k) 0 (omega (arith, part_length a b s)))
+
+-- ---- element by element
+
+module _ (u v : List ℕ) (k : ℕ) where
+  pub same_end : length u ≤ k → length v ≤ k → same (drop k u) (drop k v) ≡ true
+  unfolding same
+  same_end h i = rw (drop_of_length-le u h, drop_of_length-le v i)
+
+  module _ (h : k < length u) (i : k < length v) where
+    pub same_go : get_or u k 0 ≡ get_or v k 0 → same (drop k u) (drop k v) ≡ same (drop (k + 1) u) (drop (k + 1) v)
+    unfolding same
+    same_go e = rw (add-one k, drop-cons u k 0, drop-cons v k 0, eq-eqb (get_or u k 0) (get_or v k 0) e)
+
+    pub same_stop : get_or u k 0 ≢ get_or v k 0 → same (drop k u) (drop k v) ≡ false
+    unfolding same
+    same_stop e = rw (drop-cons u k 0, drop-cons v k 0, ne_eqb (get_or u k 0) (get_or v k 0) e)
 
 pub part_room : (a b k : ℕ) (s : List ℕ) → k < length (slice a b s) → a + k < length s
 part_room a b k s h = omega (arith, part_length a b s)

@@ -37,7 +37,7 @@ module _ (t pool n : List ℕ) (k r : ℕ) where
   unfolding along
   along_on h e = rw (ne_eqb r 0 h, e) refl
 
--- the same for a loop that has looked at i rows of 255
+-- the same for a loop that counts down
 module _ (t pool n : List ℕ) (k r : ℕ) (some : 0 < k) where
   one_more : k ≡ suc (k - 1)
   one_more = omega arith
@@ -51,11 +51,15 @@ module _ (t pool n : List ℕ) (k r : ℕ) (some : 0 < k) where
   pub stop_here : (r ≡ 0 → ⊥) → same (name_in t pool r) n ≡ true → r ≡ along t pool n k r
   stop_here h e = sym (count ∙ along_here t pool n (k - 1) r h e)
 
+  pub go_on : (r ≡ 0 → ⊥) → same (name_in t pool r) n ≡ false → along t pool n (k - 1) (cell t r 10) ≡ along t pool n k r
+  go_on h e = sym (count ∙ along_on t pool n (k - 1) r h e)
+
+-- and for one that has looked at i rows of 255
 module _ (t pool n : List ℕ) (r i : ℕ) (some : i < 255) where
-  pub go_on : (r ≡ 0 → ⊥) → same (name_in t pool r) n ≡ false → along t pool n (255 - (i + 1)) (cell t r 10) ≡ along t pool n (255 - i) r
-  go_on h e =
-      let one_less : 255 - i ≡ suc (255 - (i + 1)) = omega arith in
-      sym (ap (λ m. along t pool n m r) one_less ∙ along_on t pool n (255 - (i + 1)) r h e)
+  pub go_up : (r ≡ 0 → ⊥) → same (name_in t pool r) n ≡ false → along t pool n (255 - (i + 1)) (cell t r 10) ≡ along t pool n (255 - i) r
+  go_up h e =
+      let one_less : 255 - (i + 1) ≡ 255 - i - 1 = omega arith in
+      ap (λ m. along t pool n m (cell t r 10)) one_less ∙ go_on t pool n (255 - i) r (omega arith) h e
 
 pub stop_end : (t pool n : List ℕ) (k r : ℕ) → k ≡ 0 → 0 ≡ along t pool n k r
 unfolding along

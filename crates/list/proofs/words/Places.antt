@@ -5,7 +5,7 @@ use mathlib.Core.List.{List, [], ◌∷◌}
 use Prim.Native.Nat.{ℕ, zero, suc, ◌+◌, ◌≤◌, ◌<◌}
 use native.Mathlib.Omega.{arith}
 use lib.ListN.{length, get_or}
-use borrow.Author.Tests.{le-leb}
+use borrow.Author.Tests.{le-leb, lt-leb}
 use Rattle.text.specs.Lists.{Each, same}
 use Rattle.list.specs.WellFormed.{Different}
 use Rattle.list.specs.tables.Table.{byte_of, place_from, place_in}
@@ -70,3 +70,6 @@ module _ (w : List ℕ) where
 
 pub byte_near : (n m : ℕ) → n ≡ m → n ≤ 255 → n ≡ byte_of m
 byte_near n m e h = sym (ap byte_of (sym e) ∙ ap (λ (b : Bool). cond b n 0) (le-leb n 255 h))
+
+pub byte_far : (n m : ℕ) → n ≡ m → 255 < n → 0 ≡ byte_of m
+byte_far n m e h = sym (ap byte_of (sym e) ∙ ap (λ (b : Bool). cond b n 0) (lt-leb n 255 h))
