@@ -9,6 +9,7 @@ use native.Mathlib.Omega.{arith}
 use native.Mathlib.Numerals.{add-one}
 use lib.ListN.{length, get_or, drop, drop_of_length-le}
 use lib.Seq.{drop-cons}
+use Rattle.std.specs.Prelude.{IfErr, Result, Ok, Err}
 use Rattle.answer.specs.declared.Answer.{Answer}
 use Rattle.answer.specs.Table.{picked, broken_image}
 use Rattle.list.specs.Listing.{Leaf, Kind, group, choice, leaf, Listing, size, row_at, is_group}
@@ -31,7 +32,7 @@ use Rattle.image.proofs.Meaning.{ending, head_is_lem}
 use Rattle.image_reading.specs.Forms.{Headed, bare, leads}
 use Rattle.image_reading.proofs.House.{headed_one}
 use Rattle.image_items.specs.declared.item.ItemAt.{ItemAt}
-use Rattle.image_items.specs.Items.{SaysList, Stands, closes, opens, holds, HouseItem, standing, lacking}
+use Rattle.image_items.specs.Items.{answer_of, size_of, SaysList, Stands, closes, opens, holds, HouseItem, standing, lacking}
 
 -- ---- only one answer fits
 
@@ -86,6 +87,17 @@ module _ (run : List ℕ) (from : ℕ) where
   house_item_one a b n m (standing l i r p x e) (lacking h f k) = absurd (h l i r p n x)
   house_item_one a b n m (lacking h e k) (standing l i s q y f) = absurd (h l i s q m y)
   house_item_one a b n m (lacking h e k) (lacking i f j) = (e ∙ sym f, k ∙ sym j)
+
+  -- so only one result keeps the promise of `item_at`: of an item the code is 0, of a refusal 17
+  pub house_item_result_one : (q r : Result ItemAt Answer) → HouseItem run from (answer_of q) (size_of q) → IfErr q (λ a. a ≡ broken_image from)
+      → HouseItem run from (answer_of r) (size_of r) → IfErr r (λ a. a ≡ broken_image from) → q ≡ r
+  house_item_result_one q r x k y l = go q r k l (house_item_one (answer_of q) (answer_of r) (size_of q) (size_of r) x y)
+    where
+      go : (q r : Result ItemAt Answer) → IfErr q (λ a. a ≡ broken_image from) → IfErr r (λ a. a ≡ broken_image from) → (answer_of q ≡ answer_of r) × (size_of q ≡ size_of r) → q ≡ r
+      go (Ok i) (Ok j) k l e = ap₂ (λ (a : Answer) (n : ℕ). Ok (record { row = a.row; place = a.place; size = n })) e.0 e.1
+      go (Ok i) (Err b) k l e = absurd (omega (arith, ap (λ (a : Answer). a.code) (e.0 ∙ l)))
+      go (Err a) (Ok j) k l e = absurd (omega (arith, ap (λ (a : Answer). a.code) (sym e.0 ∙ k)))
+      go (Err a) (Err b) k l e = ap Err e.0
 
   -- ---- what the code finds
 

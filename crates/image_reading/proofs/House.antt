@@ -1,5 +1,5 @@
 -- What the reader and the picker answer over the lists of images: the defined answers, and no other. Assumes nothing.
-use mathlib.Core.Path.{◌≡◌, refl, sym, ◌∙◌, ap, subst}
+use mathlib.Core.Path.{◌≡◌, refl, sym, ◌∙◌, ap, ap₂, subst}
 use mathlib.Core.Logic.{◌≢◌, ◌⊎◌, ◌↔◌, inl}
 use mathlib.Core.Bool.{Bool, true, false}
 use Rattle.std.specs.Prelude.{Option, None, Some, IfSome, Result, Ok, Err}
@@ -39,8 +39,10 @@ use Rattle.image.proofs.types.Lawful.{lawful}
 use Rattle.image.proofs.Meaning.{body_means, body_some, pick_means}
 use Rattle.image.proofs.answers.Some.{picks_some}
 use Rattle.image_reading.specs.Reads.{stored, HouseAccepts, HouseReads, HouseCounts, HousePicks, HouseAnswers, HouseHands}
-use Rattle.image_reading.specs.Forms.{Reading, told_of_head, kind_in, from_in, Headed, bare, leads, Fronts, nothing, headed, Begun, refuses, accepts}
+use Rattle.image_reading.specs.Forms.{Reading, told, told_of_head, kind_in, from_in, Headed, bare, leads, Fronts, nothing, headed, Begun, refuses, accepts}
 use Rattle.image_reading.specs.declared.front.Head.{Head}
+use Rattle.image_reading.specs.declared.front.Image.{Image}
+use Rattle.image_reading.specs.declared.front.Refusal.{Refusal}
 use Rattle.image_reading.specs.mirror.Front.{Kto, Named, version_of, KindByte, Starts}
 use Rattle.image_reading.proofs.Heads.{version_first, version_second, not_first, not_second, named_some, kind_told, kind_none, kind_some, kind_header}
 
@@ -171,6 +173,15 @@ module _ (run : List ℕ) where
   headed_one k j from start (leads l i h s f at a b) (leads m v g u w to c d) =
       let o = lists_apart.one l m i v h g s u f w (sym at ∙ to) in
       (a ∙ ap (λ (z : Listing). z.byte) o.0 ∙ sym c, b ∙ ap length o.1 ∙ sym d)
+
+  -- so only one result keeps the promise of `head_of`: none is 0 and 0, and the kind byte of a header is not 0
+  pub headed_result_one : (q r : Option Head) → Headed run (kind_in q) (from_in q) → IfSome q (λ h. h.kind ≢ 0)
+      → Headed run (kind_in r) (from_in r) → IfSome r (λ h. h.kind ≢ 0) → q ≡ r
+  headed_result_one None None a m b n = refl
+  headed_result_one None (Some j) a m b n = absurd (n (sym (headed_one 0 j.kind 0 j.from a b).0))
+  headed_result_one (Some h) None a m b n = absurd (m (headed_one h.kind 0 h.from 0 a b).0)
+  headed_result_one (Some h) (Some j) a m b n =
+      let o = headed_one h.kind j.kind h.from j.from a b in ap₂ (λ (k f : ℕ). Some (record { kind = k; from = f })) o.0 o.1
 
   -- as its first image does, where it begins with one
   pub accepts_headed : (n : ℕ) (w : HouseAccepts run n) → Headed run w.list.byte (length w.head)
@@ -404,6 +415,16 @@ module _ (run : List ℕ) where
       let d = f ∙ ap length o.1 ∙ sym f' in
       λ j. record { answer = e j; kind = b j; from = d j; count = (m ∙ sym m') j }
 
+  -- so only one result keeps the promise of `front`: a refusal tells no kind byte, so that its code is not 0
+  pub fronts_result_one : (q r : Result Head Answer) → Fronts run (told_of_head q) → Fronts run (told_of_head r) → q ≡ r
+  fronts_result_one q r f g = go q r f g (fronts_one (told_of_head q) (told_of_head r) f g)
+    where
+      go : (q r : Result Head Answer) → Fronts run (told_of_head q) → Fronts run (told_of_head r) → told_of_head q ≡ told_of_head r → q ≡ r
+      go (Ok h) (Ok j) f g e = ap (λ (x : Reading). Ok (record { kind = x.kind; from = x.from })) e
+      go (Ok h) (Err b) f g e = absurd (fronts_kind run (told_of_head (Err b)) g (sym (ap (λ (x : Reading). x.answer.code) e)) refl)
+      go (Err a) (Ok j) f g e = absurd (fronts_kind run (told_of_head (Err a)) f (ap (λ (x : Reading). x.answer.code) e) refl)
+      go (Err a) (Err b) f g e = ap (λ (x : Reading). Err x.answer) e
+
   -- nor a second kind byte, or a second place of the items
   pub begun_one : (x y : Reading) → Begun run x → Begun run y → x ≡ y
   begun_one x y b c = go (house_reads_one x.answer y.answer (begun_reads run x b) (begun_reads run y c)) b c
@@ -423,6 +444,16 @@ module _ (run : List ℕ) where
       go e (accepts l k w d f g u) (refuses h n f' g' u') = absurd (code k y.answer x.answer (sym e) n d)
       go e (accepts l k w d f g u) (accepts l' k' w' d' f' g' u') =
           alike e (f ∙ ap (λ (m : Listing). m.byte) (house_list_one k k' w w') ∙ sym f') (g ∙ ap length (house_head_one k k' w w') ∙ sym g')
+
+  -- so only one result keeps the promise of `image_first::reading`
+  pub begun_result_one : (q r : Result Image Refusal) → Begun run (told q) → Begun run (told r) → q ≡ r
+  begun_result_one q r b c = go q r b c (begun_one (told q) (told r) b c)
+    where
+      go : (q r : Result Image Refusal) → Begun run (told q) → Begun run (told r) → told q ≡ told r → q ≡ r
+      go (Ok i) (Ok j) b c e = ap (λ (x : Reading). Ok (record { length = x.answer.place; kind = x.kind; from = x.from; count = x.count })) e
+      go (Ok i) (Err s) b c e = absurd (begun_refuses run (told (Err s)) c refl (sym (ap (λ (x : Reading). x.answer.code) e)))
+      go (Err t) (Ok j) b c e = absurd (begun_refuses run (told (Err t)) b refl (ap (λ (x : Reading). x.answer.code) e))
+      go (Err t) (Err s) b c e = ap (λ (x : Reading). Err (record { answer = x.answer; count = x.count })) e
 
   -- some answer fits: how the run begins tells it, or what stands after its header
   pub house_reads_some : (a : Answer) × HouseReads run a

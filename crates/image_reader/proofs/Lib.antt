@@ -1,0 +1,3 @@
+-- The laws of `image_reader`.
+-- only one result fits
+pub mod One
