@@ -1,5 +1,5 @@
 -- A list written into another: what stands where afterwards, and lists written one after the other. Assumes nothing.
-use Rattle.std.proofs.Common.{◌≡◌, ℕ, ◌+◌, ◌-◌, ◌<◌, ◌≤◌, List, [], ◌∷◌, ◌++◌, length, get_or, take, drop, set, sym, refl, ap, ◌∙◌, ap₂, append_assoc, add-zero, add-one, arith, length-append, length-drop, take-append-drop, length-take-le, get_or-drop, get_or-take, take-take, drop-drop, take_at, drop_at, le-leb}
+use Rattle.std.proofs.Common.{◌≡◌, ℕ, ◌+◌, ◌-◌, ◌<◌, ◌≤◌, List, [], ◌∷◌, ◌++◌, length, get_or, take, drop, set, sym, refl, ap, ◌∙◌, ap₂, append_assoc, add-zero, add-one, arith, length-append, length-drop, take-append-drop, length-take-le, get_or-drop, get_or-take, take-take, drop-drop, take_at, drop_at, le-leb, drop_of_length-le, drop-cons}
 use native.Mathlib.Decide.{dec_le}
 use lib.ListN.{get_or-append}
 use lib.Seq.{slice, set_split}
@@ -132,3 +132,25 @@ copy_over d ys vs at h e =
     let f : at + (at + length vs - at) ≡ at + length vs = omega arith in
     let g : drop (at + length vs - at) (drop at d) ≡ drop (at + length vs) d = drop-drop (at + length vs - at) at d ∙ ap (λ (n : ℕ). drop n d) f in
     ap₂ (λ (y z : List ℕ). take at d ++ (y ++ z)) e g ∙ sym (pasted_yes d at vs h)
+
+-- ---- a loop that has copied k elements
+
+module _ (vs d₀ : List ℕ) (at : ℕ) where
+  -- with the elements that are left, all of them stand there
+  abbrev pub Copying : List ℕ → ℕ → Type 0
+  Copying d k = pasted d (at + k) (drop k vs) ≡ pasted d₀ at vs
+
+  module _ (d : List ℕ) (k : ℕ) (w : Copying d k) where
+    pub copy_end : length vs ≤ k → d ≡ pasted d₀ at vs
+    copy_end h = sym (pasted_none d (at + k)) ∙ ap (pasted d (at + k)) (sym (drop_of_length-le vs h)) ∙ w
+
+    pub copy_again : k < length vs → at + length vs ≤ length d → Copying (set d (at + k) (get_or vs k 0)) (k + 1)
+    copy_again h room =
+        let x : ℕ = get_or vs k 0 in
+        let e : drop k vs ≡ x ∷ drop (k + 1) vs = rw (add-one k) (drop-cons vs k 0 h) in
+        let l : length (drop (k + 1) vs) ≡ length vs - (k + 1) = length-drop (k + 1) vs in
+        let f : at + (k + 1) ≡ at + k + 1 = omega arith in
+        ap (λ (n : ℕ). pasted (set d (at + k) x) n (drop (k + 1) vs)) f
+        ∙ pasted_first d (at + k) x (drop (k + 1) vs) (omega (arith, room, l))
+        ∙ ap (pasted d (at + k)) (sym e)
+        ∙ w

@@ -8,7 +8,8 @@ ghost use Rattle.text.specs.Pasting.{pasted};
 use text::part::{part_of, rest};
 use text::width::{WIDTH_16, WIDTH_32, WIDTH_64};
 
-// Bytes written to a place, where there is room for all of them.
+// Bytes written to a place, where there is room for all of them. They go one by one: most are few, and `copy_from_slice` would be a call of the C
+// library's `memmove` for each, which the archive for C needs for nothing else.
 fn paste(dst: &mut [u8], at: usize, bytes: &[u8])
     ensures { dst.new ≡ pasted dst.old at bytes.now }
 {
@@ -18,7 +19,9 @@ fn paste(dst: &mut [u8], at: usize, bytes: &[u8])
     if dst.len() - at < bytes.len() {
         return;
     }
-    dst[at..at + bytes.len()].copy_from_slice(bytes);
+    for (k, byte) in bytes.iter().enumerate() {
+        dst[at + k] = *byte;
+    }
 }
 
 pub fn put16(dst: &mut [u8], at: usize, n: u16)
