@@ -4,15 +4,12 @@ ghost use Rattle.text.specs.Bytes.{is_name_start};
 ghost use Rattle.xml_scan.specs.mirror.Goes.{Marked, GoesValue, GoesEquals};
 ghost use Rattle.xml_scan.specs.mirror.Tags.{GoesName, GoesAttribute};
 
-use crate::stack::Names;
+use crate::seen::{MOST_ATTRIBUTES, Seen};
 use crate::table::Classes;
 use text::class::is_name_start;
 use text::span::blanks_end;
 use xml_pieces::Stopped;
 use xml_pieces::piece::piece;
-
-// "At most four attributes".
-const MOST_ATTRIBUTES: usize = 4;
 
 // Over a value and the quote that ends it.
 fn value(s: &[u8], at: usize, quote: u8) -> Result<usize, Stopped>
@@ -74,24 +71,24 @@ fn full_name(s: &[u8], at: usize, classes: &Classes) -> Result<usize, Stopped>
     Err(Stopped { at: second })
 }
 
-// Over an attribute that begins at a name, after those of these names: "At most four attributes", "all names different".
+// Over an attribute that begins at a name, after those of the names seen: "At most four attributes", "all names different".
 pub(crate) fn attribute<'a>(
     s: &'a [u8],
     at: usize,
-    names: &mut Names<'a>,
+    seen: &mut Seen<'a>,
     classes: &Classes,
 ) -> Result<usize, Stopped>
     requires { (at < length s.now) × (is_name_start (get_or s.now at 0) ≡ true) }
-    ensures { GoesAttribute s.now at names.old names.new result }
+    ensures { GoesAttribute s.now at seen.old seen.new result }
 {
-    if MOST_ATTRIBUTES <= names.len() {
+    if MOST_ATTRIBUTES <= seen.len() {
         return Err(Stopped { at });
     }
     let e = full_name(s, at, classes)?;
     let name = &s[at..e];
-    if names.contains(name) {
+    if seen.contains(name) {
         return Err(Stopped { at: e });
     }
-    names.push(name);
+    seen.push(name);
     equals(s, e)
 }

@@ -5,16 +5,13 @@ ghost use Rattle.xml_scan.specs.mirror.Goes.{Goes};
 ghost use Rattle.xml_scan.specs.mirror.Tags.{inside, marked, GoesStart, GoesClose};
 
 use crate::content::text_end;
-use crate::stack::Names;
+use crate::stack::{MOST_LEVELS, Names};
 use crate::table::Classes;
 use crate::tag::{Ending, tag_rest};
 use text::class::is_name_start;
 use text::span::blanks_end;
 use xml_pieces::Stopped;
 use xml_pieces::word::word;
-
-// "Nesting is at most 16".
-const MOST_LEVELS: usize = 16;
 
 // Over a start tag after its `<`, within the elements that are open: "Nesting is at most 16".
 fn start_tag<'a>(

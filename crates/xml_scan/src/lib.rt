@@ -14,7 +14,8 @@ mod attribute; // attribute.rt: an attribute, whose name is none of those before
 mod content; // content.rt: text between tags
 mod elements; // elements.rt: elements within elements
 mod prolog; // prolog.rt: what stands before the first element
-mod stack; // stack.rt: names that came, the last on top
+mod seen; // seen.rt: the names of a tag's attributes
+mod stack; // stack.rt: the names of the open elements, the innermost on top
 mod table; // table.rt: the class of each byte
 mod tag; // tag.rt: what stands between `<` and `>`
 

@@ -1,18 +1,14 @@
-// Names that came, as parts of the text: those of the open elements, or of a tag's attributes. The last stands on top.
+// The names of the open elements, as parts of the text. The innermost stands on top.
 ghost use Rattle.std.specs.Prelude.{◌≡◌, ◌≤◌, ◌<◌, List, [], ◌∷◌, ℕ, length, take, map, reverse};
-ghost use Rattle.std.specs.List.{list_any};
-ghost use Rattle.text.specs.Lists.{same};
-ghost use Rattle.xml.specs.mirror.Auto.{member};
 
 use std::marker::Model;
-use text::part::same;
 
-// "Nesting is at most 16": as many names as are ever held.
-const MOST: usize = 16;
+// "Nesting is at most 16".
+pub(crate) const MOST_LEVELS: usize = 16;
 
 #[derive(Drop)]
 pub(crate) struct Names<'a> {
-    parts: [&'a [u8]; MOST],
+    parts: [&'a [u8]; MOST_LEVELS],
     count: usize,
 }
 
@@ -29,7 +25,7 @@ impl<'a> Names<'a> {
         ensures { result ≡ [] }
     {
         Names {
-            parts: [b""; MOST],
+            parts: [b""; MOST_LEVELS],
             count: 0,
         }
     }
@@ -56,17 +52,4 @@ impl<'a> Names<'a> {
         self.count -= 1;
         self.parts[self.count]
     }
-
-    pub(crate) fn contains(&self, name: &[u8]) -> bool
-        ensures { result ≡ member name.now self.now }
-    {
-        any_same(&self.parts[..self.count], name)
-    }
-}
-
-// Whether one of these names is that one.
-fn any_same(names: &[&[u8]], name: &[u8]) -> bool
-    ensures { result ≡ list_any (λ n. same name.now n.now) names.now }
-{
-    names.iter().any(|n| same(name, n))
 }

@@ -4,7 +4,7 @@ ghost use Rattle.text.specs.Bytes.{is_blank};
 ghost use Rattle.xml_scan.specs.mirror.Tags.{GoesTag, GoesEnd};
 
 use crate::attribute::attribute;
-use crate::stack::Names;
+use crate::seen::Seen;
 use crate::table::Classes;
 use text::class::is_name_start;
 use text::span::blanks_end;
@@ -44,7 +44,7 @@ fn attributes(s: &[u8], at: usize, classes: &Classes) -> Result<Ending, Stopped>
     requires { at ≤ length s.now }
     ensures { GoesTag s.now at result }
 {
-    let mut names = Names::new();
+    let mut seen = Seen::new();
     let mut i = at;
     loop {
         let b = blanks_end(s, i);
@@ -57,7 +57,7 @@ fn attributes(s: &[u8], at: usize, classes: &Classes) -> Result<Ending, Stopped>
         if b == i {
             return Err(Stopped { at: b });
         }
-        i = attribute(s, b, &mut names, classes)?;
+        i = attribute(s, b, &mut seen, classes)?;
     }
 }
 

@@ -4,8 +4,8 @@ use lib.ListN.{length}
 use Rattle.xml_scan.proofs.Tags.{Attributing}
 use Rattle.xml_scan.proofs.tag.attributes.Given as goal
 
-abbrev pub invariant-loop-names : goal.invariant-loop-names
-invariant-loop-names l = Attributing l.s l.at l.names l.i
+abbrev pub invariant-loop-seen : goal.invariant-loop-seen
+invariant-loop-seen l = Attributing l.s l.at l.seen l.i
 
-abbrev pub decreases-loop-names : goal.decreases-loop-names
-decreases-loop-names l = length l.s - l.i
+abbrev pub decreases-loop-seen : goal.decreases-loop-seen
+decreases-loop-seen l = length l.s - l.i

@@ -1,8 +1,8 @@
--- `stack::Names::contains` meets its contract. Assumes nothing.
+-- `seen::Seen::contains` meets its contract. Assumes nothing.
 use mathlib.Core.Path.{◌∙◌, ap}
 use Rattle.xml.specs.mirror.Auto.{member}
 use Rattle.xml_scan.proofs.names.Names.{held_has}
-use Rattle.xml_scan.proofs.stack.Names.contains.Goals as goal
+use Rattle.xml_scan.proofs.seen.Seen.contains.Goals as goal
 
 pub returns : goal.returns
 returns c =
