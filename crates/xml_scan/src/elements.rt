@@ -63,7 +63,7 @@ fn end_tag(s: &[u8], at: usize, w: &[u8]) -> Result<usize, Stopped>
     Err(Stopped { at: b })
 }
 
-// Over a tag after its `<`, where some elements are names.
+// Over a tag after its `<`, within one open element at least: a start tag, or the end tag of the innermost.
 fn any_tag<'a>(
     s: &'a [u8],
     at: usize,
@@ -82,7 +82,7 @@ fn any_tag<'a>(
     end_tag(s, at + 1, names.pop())
 }
 
-// Over text and the tag after it, where some elements are names.
+// Over text within one open element at least, and the tag after it.
 fn advance<'a>(
     s: &'a [u8],
     at: usize,
