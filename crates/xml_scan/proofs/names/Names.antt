@@ -1,4 +1,4 @@
--- Names that are held: a part that was lent, and which names are among those that a stack holds. Assumes nothing.
+-- Names that are held: a part that was lent, and which names are among those that came. Assumes nothing.
 use mathlib.Core.Path.{◌≡◌, refl, sym, ◌∙◌, ap}
 use mathlib.Core.Bool.{Bool, true, false, ◌||◌}
 use mathlib.Core.List.{List, [], ◌∷◌, ◌++◌}
