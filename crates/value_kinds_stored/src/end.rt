@@ -7,8 +7,6 @@ ghost use Rattle.value.specs.given.Stands.{EndsBy};
 ghost use Rattle.value_kinds_stored.specs.Ended.{ended};
 
 use list::table::{AMT, BOOL, CCY, DATE, DTM, ENUM, IBAN, NUM, REF, TXT};
-use text::part::rest;
-use text_bytes::number::get16;
 use value::packed::{AMOUNT_SIZE, DATE_SIZE, MOMENT_SIZE, NUMBER_SIZE};
 use value_amounts::from_bytes::is_amount;
 use value_codes::account::is_iban;
@@ -22,52 +20,61 @@ const LENGTH_SIZE: usize = 2;
 
 const BYTE_SIZE: usize = 1;
 
-// The place after n bytes that stand at a place, where they are there and what follows the first `head` of them passes the test.
+// How many bytes a value has that bytes begin with: n, where they are there and what follows the first `head` of them passes the test.
 fn end_of<F: FnOnce(&[u8]) -> bool>(
-    s: &[u8],
-    at: usize,
+    there: &[u8],
     head: usize,
     n: usize,
     is_value: F,
 ) -> Option<usize>
     requires callable { F.IsAlwaysCallable is_value }
     requires order { head ≤ n }
-    ensures { (p : List ℕ → Bool) → ((b : _) (r : Bool) → F.post is_value b r → r ≡ p b.now) → result ≡ ended head n p s.now at }
+    ensures { (p : List ℕ → Bool) → ((b : _) (r : Bool) → F.post is_value b r → r ≡ p b.now) → result ≡ ended head n p there.now 0 }
 {
-    let value = rest(s, at).get(head..n)?;
-    is_value(value).then_some(at + n)
+    let value = there.get(head..n)?;
+    is_value(value).then_some(n)
 }
 
 // The same of a text, whose first bytes say its length; where they are cut off, so is the text.
-fn text_end<F: FnOnce(&[u8]) -> bool>(s: &[u8], at: usize, is_text: F) -> Option<usize>
+fn text_end<F: FnOnce(&[u8]) -> bool>(there: &[u8], is_text: F) -> Option<usize>
     requires { F.IsAlwaysCallable is_text }
-    ensures { (p : List ℕ → Bool) → ((b : _) (r : Bool) → F.post is_text b r → r ≡ p b.now) → result ≡ ended 2 (2 + number (take 2 (drop at s.now))) p s.now at }
+    ensures { (p : List ℕ → Bool) → ((b : _) (r : Bool) → F.post is_text b r → r ≡ p b.now) → result ≡ ended 2 (2 + number (take 2 there.now)) p there.now 0 }
 {
-    let n = LENGTH_SIZE + usize::from(get16(s, at));
-    end_of(s, at, LENGTH_SIZE, n, is_text)
+    let said = there.first_chunk::<LENGTH_SIZE>()?;
+    let n = LENGTH_SIZE + usize::from(u16::from_be_bytes(*said));
+    end_of(there, LENGTH_SIZE, n, is_text)
 }
 
-// The place after the value of a kind that stands at a place; k is that of TXTk, words the number of an ENUM's words.
-fn found_end(kind: usize, k: usize, words: usize, s: &[u8], at: usize) -> Option<usize>
-    ensures { result ≡ (if begins kind k words (drop at s.now) then Some (at + width kind (drop at s.now)) else None) }
+// The same of the value of a kind; k is that of TXTk, words the number of an ENUM's words.
+fn length_of(kind: usize, k: usize, words: usize, there: &[u8]) -> Option<usize>
+    ensures { result ≡ (if begins kind k words there.now then Some (width kind there.now) else None) }
 {
     match kind {
-        REF => text_end(s, at, is_reference),
-        TXT => text_end(s, at, |b| is_writing(b, k)),
-        IBAN => text_end(s, at, is_iban),
-        CCY => text_end(s, at, is_ccy),
-        ENUM => end_of(s, at, 0, BYTE_SIZE, |b| is_place(b, words)),
-        BOOL => end_of(s, at, 0, BYTE_SIZE, is_truth),
-        NUM => end_of(s, at, 0, NUMBER_SIZE, is_natural),
-        AMT => end_of(s, at, 0, AMOUNT_SIZE, is_amount),
-        DATE => end_of(s, at, 0, DATE_SIZE, is_day),
-        DTM => end_of(s, at, 0, MOMENT_SIZE, is_moment),
+        REF => text_end(there, is_reference),
+        TXT => text_end(there, |b| is_writing(b, k)),
+        IBAN => text_end(there, is_iban),
+        CCY => text_end(there, is_ccy),
+        ENUM => end_of(there, 0, BYTE_SIZE, |b| is_place(b, words)),
+        BOOL => end_of(there, 0, BYTE_SIZE, is_truth),
+        NUM => end_of(there, 0, NUMBER_SIZE, is_natural),
+        AMT => end_of(there, 0, AMOUNT_SIZE, is_amount),
+        DATE => end_of(there, 0, DATE_SIZE, is_day),
+        DTM => end_of(there, 0, MOMENT_SIZE, is_moment),
         _ => None,
     }
 }
 
+// The place after the value of a kind that stands at a place.
+fn found_end(kind: usize, k: usize, words: usize, s: &[u8], at: usize) -> Option<usize>
+    ensures { result ≡ (if begins kind k words (drop at s.now) then Some (at + width kind (drop at s.now)) else None) }
+{
+    let there = s.get(at..)?;
+    let n = length_of(kind, k, words, there)?;
+    Some(at + n)
+}
+
 // The same, 0 where no value does.
-// Kept: no value ends at 0, and `item_end` of image_reader, whose mirror and theorems answer so, hands it on.
+// Kept: no value ends at 0, and so answer the mirror `value_end` and what it means, `EndsBy`.
 pub fn value_end(kind: usize, k: usize, words: usize, s: &[u8], at: usize) -> usize
     ensures is { result ≡ value_end kind k words s.now at }
     ensures means { EndsBy kind k words s.now at result }
