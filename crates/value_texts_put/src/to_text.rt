@@ -107,14 +107,22 @@ fn raw_len(t: &[u8]) -> usize
     t.len() + (more as usize)
 }
 
-// What is written for one of the three.
-fn entity(x: u8) -> &'static [u8]
-    ensures { is_marked x ≡ true → result.now ≡ escape x }
+// A word whose length the compiler knows, so that it copies the bytes in place: a word of any length would go through a loop.
+fn put_word<const N: usize>(word: &[u8; N], out: &mut [u8], at: usize) -> usize
+    ensures { (result ≡ N) × (out.new ≡ pasted out.old at word.now) }
+{
+    copy(word, 0, N, out, at);
+    N
+}
+
+// The entity of one of the three; how many bytes it has.
+fn put_mark(x: u8, out: &mut [u8], at: usize) -> usize
+    ensures { is_marked x ≡ true → (result ≡ length (escape x)) × (out.new ≡ pasted out.old at (escape x)) }
 {
     match x {
-        b'&' => &AMP,
-        b'<' => &LT,
-        _ => &GT,
+        b'&' => put_word(&AMP, out, at),
+        b'<' => put_word(&LT, out, at),
+        _ => put_word(&GT, out, at),
     }
 }
 
@@ -132,9 +140,7 @@ fn spread(t: &[u8], out: &mut [u8], at: usize) -> usize
         if t.len() <= end {
             return mark;
         }
-        let word = entity(t[end]);
-        copy(word, 0, word.len(), out, mark);
-        to = mark + word.len();
+        to = mark + put_mark(t[end], out, mark);
         i = end + 1;
     }
 }
