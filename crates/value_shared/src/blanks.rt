@@ -3,6 +3,7 @@
 ghost use Rattle.value.specs.decided.Trim.{LastInk, Trim};
 
 use text::class::is_blank;
+use text::part::rest;
 use text::span::blanks_end;
 
 // Where the last character stands that is no blank.
@@ -16,7 +17,7 @@ fn last_ink(s: &[u8]) -> Option<usize>
 pub fn trimmed(s: &[u8]) -> &[u8]
     ensures { Trim s.now result.now }
 {
-    let inked = &s[blanks_end(s, 0)..];
+    let inked = rest(s, blanks_end(s, 0));
     match last_ink(inked) {
         Some(last) => &inked[..last + 1],
         None => &inked[..0],
