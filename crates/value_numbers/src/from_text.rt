@@ -30,9 +30,17 @@ pub fn natural(t: &[u8]) -> Option<Judged>
 pub fn truth(t: &[u8]) -> Option<Judged>
     ensures { FormedAny bool t.now result }
 {
-    match t {
-        b"true" | b"1" => Some(Judged::Truth(true)),
-        b"false" | b"0" => Some(Judged::Truth(false)),
-        _ => None,
+    if t == b"true".as_slice() {
+        return Some(Judged::Truth(true));
     }
+    if t == b"1".as_slice() {
+        return Some(Judged::Truth(true));
+    }
+    if t == b"false".as_slice() {
+        return Some(Judged::Truth(false));
+    }
+    if t == b"0".as_slice() {
+        return Some(Judged::Truth(false));
+    }
+    None
 }
