@@ -8,9 +8,22 @@ ghost use Rattle.text.specs.Pasting.{pasted};
 use text::part::{part_of, rest};
 use text::width::{WIDTH_16, WIDTH_32, WIDTH_64};
 
-// Bytes written to a place, where there is room for all of them. They go one by one: most are few, and `copy_from_slice` would be a call of the C
-// library's `memmove` for each, which the archive for C needs for nothing else.
-fn paste(dst: &mut [u8], at: usize, bytes: &[u8])
+// Bytes written to a place, where there is room for all of them; the compiler knows how many.
+fn paste<const N: usize>(dst: &mut [u8], at: usize, bytes: &[u8; N])
+    ensures { dst.new ≡ pasted dst.old at bytes.now }
+{
+    if dst.len() < at {
+        return;
+    }
+    if dst.len() - at < N {
+        return;
+    }
+    dst[at..at + N].copy_from_slice(bytes);
+}
+
+// The same of any number of bytes. They go one by one: most are few, and `copy_from_slice` would be a call of the C library's `memmove` for each,
+// which the archive for C needs for nothing else.
+fn paste_all(dst: &mut [u8], at: usize, bytes: &[u8])
     ensures { dst.new ≡ pasted dst.old at bytes.now }
 {
     if dst.len() < at {
@@ -90,5 +103,5 @@ pub fn get64(s: &[u8], at: usize) -> u64
 pub fn copy(src: &[u8], a: usize, b: usize, dst: &mut [u8], at: usize)
     ensures { dst.new ≡ pasted dst.old at (slice a b src.now) }
 {
-    paste(dst, at, part_of(src, a, b));
+    paste_all(dst, at, part_of(src, a, b));
 }

@@ -1,6 +1,6 @@
--- `number::paste` meets its contract: each turn copies one byte. Assumes nothing.
+-- `number::paste_all` meets its contract: each turn copies one byte. Assumes nothing.
 use Rattle.text.proofs.Pasting.{Copying}
-use Rattle.text_bytes.proofs.number.paste.Given as goal
+use Rattle.text_bytes.proofs.number.paste_all.Given as goal
 
 abbrev pub invariant-loop-k : goal.invariant-loop-k
 invariant-loop-k l = Copying l.bytes l.initial.dst l.at l.dst l.k
