@@ -67,8 +67,8 @@ fn ascii_char(x: u8) -> Char
     char_of(0, 0)
 }
 
-// Whether s goes on with the word at a place. Byte by byte: an entity parts from the words before its own at the second or third of them, and
-// `begins`, which reads each word to its end, takes twice the instructions.
+// Whether s goes on with the word at a place. An entity parts from the words before its own at its second or third byte.
+// Kept: by `begins`, which reads each word to its end, the number of `&apos;` takes 73 instructions and not 33.
 fn spells(s: &[u8], at: usize, word: &[u8]) -> bool
     ensures { result ≡ starts word.now (drop at s.now) }
 {
